@@ -1,0 +1,68 @@
+// What the modules share: the refusals and the filling of outputs.
+ghost use mathlib.Core.Path.{_≡_};
+ghost use Prim.Native.Nat.{_<_};
+ghost use lib.IntN.{pos};
+ghost use lib.ListN.{length, replicate};
+ghost use Rattle.common.specs.Refusal.{numberOf};
+
+// Why a call gives no result. The Rust's own errors have the Rust's names.
+pub enum Refusal {
+    Singular,
+    NotConverged,
+    OutsideLimits,
+    Overflow,
+    SingularQ,
+    SymmetryBroken,
+    TooManyRotations,
+    TooManyForInversion,
+    BadGridType,
+    NotUnimodularQ,
+    SingularReciprocalLattice,
+    SearchFailed,
+    WrongLength,
+    OutsideTable,
+    BadHeader,
+}
+
+impl Refusal {
+    pub fn number(self) -> u64
+        ensures { λ r. ⌜ r ≡ numberOf self ⌝ }
+        ensures { λ r. ⌜ r < 16 ⌝ }
+    {
+        match self {
+            Refusal::Singular => 1,
+            Refusal::NotConverged => 2,
+            Refusal::OutsideLimits => 3,
+            Refusal::Overflow => 4,
+            Refusal::SingularQ => 5,
+            Refusal::SymmetryBroken => 6,
+            Refusal::TooManyRotations => 7,
+            Refusal::TooManyForInversion => 8,
+            Refusal::BadGridType => 9,
+            Refusal::NotUnimodularQ => 10,
+            Refusal::SingularReciprocalLattice => 11,
+            Refusal::SearchFailed => 12,
+            Refusal::WrongLength => 13,
+            Refusal::OutsideTable => 14,
+            Refusal::BadHeader => 15,
+        }
+    }
+
+    // As an export answers it.
+    pub fn answer(self) -> i64
+        ensures { λ r. ⌜ r ≡ pos (numberOf self) ⌝ }
+    {
+        self.number() as i64
+    }
+}
+
+// A refusal leaves -1 in every place of every output.
+pub fn fill(out: &mut [i64], v: i64)
+    ensures { λ _. ⌜ now (out .exit) ≡ replicate (length (now (out .entry))) v ⌝ }
+{
+    let mut i = 0;
+    while i < out.len() {
+        out[i] = v;
+        i += 1;
+    }
+}

@@ -1,0 +1,68 @@
+// The functions that have vectors, and one case of one.
+use crate::text;
+use crate::text::Count;
+
+pub const CHECKED_ADD: usize = 0;
+
+pub const CHECKED_SUB: usize = 1;
+
+pub const CHECKED_MUL: usize = 2;
+
+pub const CHECKED_NEG: usize = 3;
+
+pub const CHECKED_DIV_EUCLID: usize = 4;
+
+pub const CHECKED_REM_EUCLID: usize = 5;
+
+pub const CHECKED_DIV: usize = 6;
+
+pub const CHECKED_REM: usize = 7;
+
+pub enum Verdict {
+    Same,
+    Differs,
+    // no vector of the function
+    Unread,
+}
+
+fn call(function: usize, a: i64, b: i64, told: &mut [i64]) -> i64 {
+    match function {
+        CHECKED_ADD => zone_c::zone_checked_add(a, b, told),
+        CHECKED_SUB => zone_c::zone_checked_sub(a, b, told),
+        CHECKED_MUL => zone_c::zone_checked_mul(a, b, told),
+        CHECKED_NEG => zone_c::zone_checked_neg(a, told),
+        CHECKED_DIV_EUCLID => zone_c::zone_checked_div_euclid(a, b, told),
+        CHECKED_REM_EUCLID => zone_c::zone_checked_rem_euclid(a, b, told),
+        CHECKED_DIV => zone_c::zone_checked_div(a, b, told),
+        _ => zone_c::zone_checked_rem(a, b, told),
+    }
+}
+
+// The operands, then the Rust's answer and what it told.
+fn case(function: usize, a: i64, b: i64, answer: i64, value: i64) -> Verdict {
+    let mut told = [0i64; 1];
+    if call(function, a, b, &mut told) != answer {
+        return Verdict::Differs;
+    }
+    if told[0] != value {
+        return Verdict::Differs;
+    }
+    Verdict::Same
+}
+
+pub fn judge(function: usize, line: &[u8]) -> Verdict {
+    let mut n = [0i64; 4];
+    let Count::Read(count) = text::numbers(line, &mut n) else {
+        return Verdict::Unread;
+    };
+    if function == CHECKED_NEG {
+        if count == 3 {
+            return case(function, n[0], 0, n[1], n[2]);
+        }
+        return Verdict::Unread;
+    }
+    if count == 4 {
+        return case(function, n[0], n[1], n[2], n[3]);
+    }
+    Verdict::Unread
+}

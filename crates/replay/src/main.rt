@@ -1,0 +1,91 @@
+// Replays the Rust's answers: reads the vectors of each function, data/FUNCTION, calls the port's
+// export, and prints how many cases there were and how many differ.
+mod function;
+mod text;
+
+use function::Verdict;
+
+struct Tally {
+    cases: u64,
+    differences: u64,
+    // lines that are neither vectors nor comments
+    unread: u64,
+}
+
+fn replay(function: usize, lines: &[u8]) -> Tally {
+    let mut tally = Tally {
+        cases: 0,
+        differences: 0,
+        unread: 0,
+    };
+    let mut at = 0;
+    while at < lines.len() {
+        let end = text::find(lines, at, b'\n');
+        if lines[at] != b'#' {
+            tally = tally.with(function::judge(function, &lines[at..end]));
+        }
+        at = end + 1;
+    }
+    tally
+}
+
+// One more, short of wrapping.
+fn more(n: u64) -> u64 {
+    if n < 0xffff_ffff_ffff_ffff { n + 1 } else { n }
+}
+
+impl Tally {
+    fn with(mut self, verdict: Verdict) -> Self {
+        match verdict {
+            Verdict::Same => {
+                self.cases = more(self.cases);
+            }
+            Verdict::Differs => {
+                self.cases = more(self.cases);
+                self.differences = more(self.differences);
+            }
+            Verdict::Unread => {
+                self.unread = more(self.unread);
+            }
+        }
+        self
+    }
+
+    fn print(self) {
+        io::write_all(1, b" cases ");
+        io::print_decimal(1, self.cases);
+        io::write_all(1, b" differences ");
+        io::print_decimal(1, self.differences);
+        io::write_all(1, b" unread ");
+        io::print_decimal(1, self.unread);
+        io::write_all(1, b"\n");
+    }
+}
+
+fn replay_file(function: usize, name: &[u8]) {
+    io::write_all(1, name);
+    let fd = os::open_read(name);
+    if fd < 0 {
+        io::write_all(1, b" no vectors\n");
+        return;
+    }
+    let mut text = io::large_buffer();
+    let n = io::read_full(fd, &mut text);
+    libc::close(fd);
+    if n == 65536 {
+        io::write_all(1, b" too long\n");
+        return;
+    }
+    replay(function, &text[..n]).print();
+}
+
+fn main() {
+    replay_file(function::CHECKED_ADD, b"checked_add");
+    replay_file(function::CHECKED_SUB, b"checked_sub");
+    replay_file(function::CHECKED_MUL, b"checked_mul");
+    replay_file(function::CHECKED_NEG, b"checked_neg");
+    replay_file(function::CHECKED_DIV_EUCLID, b"checked_div_euclid");
+    replay_file(function::CHECKED_REM_EUCLID, b"checked_rem_euclid");
+    replay_file(function::CHECKED_DIV, b"checked_div");
+    replay_file(function::CHECKED_REM, b"checked_rem");
+}

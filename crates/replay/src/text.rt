@@ -1,0 +1,114 @@
+// Lines and decimal numbers of a text.
+use integer::Checked;
+ghost use Prim.Native.Nat.{_≤_};
+ghost use lib.ListN.{length};
+
+// The first place of b from place `from` on; the end of s where there is none.
+pub fn find(s: &[u8], from: usize, b: u8) -> usize
+    requires { ⌜ from ≤ length (now s) ⌝ }
+    ensures { λ r. ⌜ (from ≤ r) × (r ≤ length (now (s .entry))) ⌝ }
+{
+    let mut i = from;
+    while i < s.len() {
+        if s[i] == b {
+            return i;
+        }
+        i += 1;
+    }
+    i
+}
+
+pub enum Parsed {
+    // the number, and the place after it
+    Number(i64, usize),
+    Malformed,
+}
+
+// The value of a digit; 10 for another byte.
+fn digit(b: u8) -> u8
+    ensures { λ r. ⌜ r ≤ 10 ⌝ }
+{
+    if b < b'0' {
+        return 10;
+    }
+    if b > b'9' {
+        return 10;
+    }
+    b - b'0'
+}
+
+// One digit more of a number that is held negative, so that the least i64 is read too.
+fn with_digit(held: Checked, d: u8) -> Checked {
+    let Checked::Value(v) = held else {
+        return held;
+    };
+    let Checked::Value(w) = integer::checked_mul(v, 10) else {
+        return Checked::Overflow;
+    };
+    integer::checked_sub(w, d as i64)
+}
+
+// The digits from place `from` on.
+fn digits(s: &[u8], from: usize, negative: bool) -> Parsed {
+    let mut held = Checked::Value(0);
+    let mut i = from;
+    while i < s.len() {
+        let d = digit(s[i]);
+        if d == 10 {
+            break;
+        }
+        held = with_digit(held, d);
+        i += 1;
+    }
+    if i <= from {
+        return Parsed::Malformed;
+    }
+    let signed = if negative { held } else { negated(held) };
+    let Checked::Value(v) = signed else {
+        return Parsed::Malformed;
+    };
+    Parsed::Number(v, i)
+}
+
+fn negated(held: Checked) -> Checked {
+    let Checked::Value(v) = held else {
+        return held;
+    };
+    integer::checked_neg(v)
+}
+
+// The number that starts at place `at`.
+fn number(s: &[u8], at: usize) -> Parsed {
+    if at < s.len() {
+        if s[at] == b'-' {
+            return digits(s, at + 1, true);
+        }
+    }
+    digits(s, at, false)
+}
+
+pub enum Count {
+    Read(usize),
+    Malformed,
+}
+
+// Reads the numbers of a line, one space between two, into out.
+pub fn numbers(s: &[u8], out: &mut [i64]) -> Count {
+    let mut n = 0;
+    let mut at = 0;
+    while n < out.len() {
+        let Parsed::Number(v, next) = number(s, at) else {
+            return Count::Malformed;
+        };
+        out[n] = v;
+        n += 1;
+        if s.len() <= next {
+            return Count::Read(n);
+        }
+        if s[next] != b' ' {
+            return Count::Malformed;
+        }
+        at = next + 1;
+    }
+    Count::Malformed
+}

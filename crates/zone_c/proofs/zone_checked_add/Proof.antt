@@ -1,0 +1,25 @@
+use mathlib.Core.Path.{_∙_, ap₂}
+use lib.IntN.{_+ℤ_}
+use mir.Facts.{toZ-ofZ}
+use borrow.Author.Needs.{needs}
+use Rattle.integer.specs.Checked.{checked}
+use Rattle.zone_c.proofs.Answers.{passed-on}
+use Rattle.zone_c.proofs.zone_checked_add.Statement.{statement}
+use Rattle.zone_c.proofs.zone_checked_add.Tie as tie
+
+checked-add-requires : tie.Need-checked-add-requires
+checked-add-requires c κs = search needs
+
+tell-requires : tie.Need-tell-requires
+tell-requires c κs = search needs
+
+same-length : tie.Need-same-length
+same-length c = search needs
+
+returns : tie.Need-returns
+returns c =
+    let s = c .before .before .before .before in
+    passed-on (c .before .tell .ok) (c .before .before .before .checked-add .ensures ∙ ap₂ (λ a b. checked (a +ℤ b)) (toZ-ofZ (s .fits .a)) (toZ-ofZ (s .fits .b))) (c .before .tell .ensures)
+
+pub zone-checked-add-spec : {M : Type 1} → statement M
+zone-checked-add-spec = tie.close (tie.spec checked-add-requires tell-requires same-length returns)

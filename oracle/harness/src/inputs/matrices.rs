@@ -1,0 +1,182 @@
+//! Integer matrices: A for diagonalising, and unimodular ones.
+
+use phonors::common::{matmul_i, transpose_i, MatI, IDENTITY};
+
+use crate::inputs::numbers;
+use crate::limits::MATRIX_ENTRY;
+use crate::random::Random;
+
+/// Sizes of the entries of A, each as often as the others: most overflows of the
+/// diagonalising need large ones, most of its branches small ones.
+pub const SIZES: [i64; 7] = [3, 10, 100, 1_000, 10_000, 100_000, MATRIX_ENTRY];
+
+/// Elementary steps that a unimodular matrix is made of, at most.
+const STEPS: usize = 12;
+
+/// A matrix A within the limits.
+pub fn matrix(random: &mut Random) -> MatI {
+    let size = random.pick(&SIZES);
+    match random.below(10) {
+        0 => singular(random, size),
+        1 => nearly_singular(random, size),
+        2 => unimodular(random, size),
+        3 => extreme(random, size),
+        _ => entries(random, size),
+    }
+}
+
+/// The matrix with one entry outside a limit.
+pub fn damaged(random: &mut Random, mut a: MatI, limit: i64) -> MatI {
+    a[random.below(3)][random.below(3)] = numbers::outside(random, limit);
+    a
+}
+
+pub fn is_within(a: &MatI, size: i64) -> bool {
+    a.iter()
+        .flatten()
+        .all(|entry| (-size..=size).contains(entry))
+}
+
+/// Entries of size at most `size`.
+pub fn entries(random: &mut Random, size: i64) -> MatI {
+    [[(); 3]; 3].map(|row| row.map(|()| random.within(size)))
+}
+
+/// Entries that are 0 or of the full size.
+fn extreme(random: &mut Random, size: i64) -> MatI {
+    [[(); 3]; 3].map(|row| row.map(|()| random.pick(&[-size, 0, size])))
+}
+
+/// A row, or a column, that the others make.
+fn singular(random: &mut Random, size: i64) -> MatI {
+    let mut a = entries(random, size / 2);
+    if random.one_in(4) {
+        a[1] = a[0].map(|entry| -entry);
+    }
+    let [x, y] = [random.within(1), random.within(1)];
+    a[2] = [0, 1, 2].map(|k| x * a[0][k] + y * a[1][k]);
+    random.shuffle(&mut a);
+    if random.coin() {
+        transpose_i(&a)
+    } else {
+        a
+    }
+}
+
+/// A singular matrix but for one entry, which is moved by 1.
+fn nearly_singular(random: &mut Random, size: i64) -> MatI {
+    let mut a = singular(random, size);
+    let entry = &mut a[random.below(3)][random.below(3)];
+    // Not away from zero, where the limit may be; a zero becomes 1.
+    *entry += if *entry > 0 { -1 } else { 1 };
+    a
+}
+
+/// A product of elementary matrices, with entries of size at most `size`.
+pub fn unimodular(random: &mut Random, size: i64) -> MatI {
+    let mut product = IDENTITY;
+    for _ in 0..random.below(STEPS + 1) {
+        let next = matmul_i(&elementary(random).matrix, &product);
+        if is_within(&next, size) {
+            product = next;
+        }
+    }
+    product
+}
+
+/// An elementary matrix of determinant 1 or -1, and its inverse.
+pub struct Elementary {
+    pub matrix: MatI,
+    pub inverse: MatI,
+}
+
+/// An exchange of two rows, a change of a row's sign, or a shear.
+pub fn elementary(random: &mut Random) -> Elementary {
+    let i = random.below(3);
+    let j = (i + 1 + random.below(2)) % 3;
+    let [mut matrix, mut inverse] = [IDENTITY; 2];
+    match random.below(6) {
+        0 => {
+            matrix.swap(i, j);
+            inverse.swap(i, j);
+        }
+        1 => {
+            matrix[i][i] = -1;
+            inverse[i][i] = -1;
+        }
+        _ => {
+            let largest = 1 << random.below(8);
+            let factor = random.within(largest);
+            matrix[i][j] = factor;
+            inverse[i][j] = -factor;
+        }
+    }
+    Elementary { matrix, inverse }
+}
+
+#[cfg(test)]
+mod tests {
+    use phonors::common::det_i;
+
+    use super::*;
+
+    #[test]
+    fn matrices_are_within_the_limits() {
+        let mut random = Random::new(1);
+        let matrices: Vec<MatI> = (0..10_000).map(|_| matrix(&mut random)).collect();
+        assert!(matrices.iter().all(|a| is_within(a, MATRIX_ENTRY)));
+        for size in SIZES {
+            assert!(matrices
+                .iter()
+                .any(|a| is_within(a, size) && !is_within(a, size / 2)));
+        }
+        assert!(matrices.iter().any(|a| det_i(a) == 0));
+        assert!(matrices.contains(&[[0; 3]; 3]));
+        let large = |a: &&MatI| !is_within(a, 10_000);
+        assert!(matrices.iter().filter(large).any(|a| det_i(a).abs() == 1));
+    }
+
+    #[test]
+    fn singular_matrices() {
+        let mut random = Random::new(1);
+        for size in SIZES {
+            for _ in 0..1000 {
+                let a = singular(&mut random, size);
+                assert!(det_i(&a) == 0 && is_within(&a, size));
+                assert!(is_within(&nearly_singular(&mut random, size), size));
+            }
+        }
+    }
+
+    #[test]
+    fn unimodular_matrices() {
+        let mut random = Random::new(1);
+        for size in [1, 100, 1_000] {
+            for _ in 0..1000 {
+                let u = unimodular(&mut random, size);
+                assert!(det_i(&u).abs() == 1 && is_within(&u, size));
+            }
+        }
+    }
+
+    #[test]
+    fn inverses_of_elementary_matrices() {
+        let mut random = Random::new(1);
+        for _ in 0..1000 {
+            let Elementary { matrix, inverse } = elementary(&mut random);
+            assert_eq!(matmul_i(&matrix, &inverse), IDENTITY);
+        }
+    }
+
+    #[test]
+    fn damage_leaves_the_limits() {
+        let mut random = Random::new(1);
+        for _ in 0..100 {
+            let a = matrix(&mut random);
+            assert!(!is_within(
+                &damaged(&mut random, a, MATRIX_ENTRY),
+                MATRIX_ENTRY
+            ));
+        }
+    }
+}

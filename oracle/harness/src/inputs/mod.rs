@@ -1,0 +1,7 @@
+//! Where inputs come from, for every kind of argument that the exports take.
+
+pub mod grids;
+pub mod groups;
+pub mod lattices;
+pub mod matrices;
+pub mod numbers;

@@ -1,0 +1,21 @@
+//! The port beside the Rust: inputs, both sides of every exported function, and
+//! what the three commands do with them.
+//!
+//! A function is added by its declaration and wrapper in `port`, its Rust in
+//! `oracle`, and an implementation of `function::Function` with a line in
+//! `rows`.
+
+pub mod arguments;
+pub mod bench;
+pub mod compare;
+pub mod function;
+pub mod inputs;
+pub mod integers;
+pub mod limits;
+pub mod oracle;
+pub mod panics;
+pub mod port;
+pub mod random;
+pub mod refusals;
+pub mod rows;
+pub mod vectors;

@@ -1,0 +1,38 @@
+//! The functions that the commands know.
+
+use crate::bench::{self, Times};
+use crate::function::Function;
+use crate::integers::*;
+use crate::{compare, vectors};
+
+/// What the commands do with one function.
+pub struct Row {
+    pub name: &'static str,
+    /// Runs random cases from a seed and counts the differences.
+    pub compare: fn(cases: u64, seed: u64) -> u64,
+    /// The function's lines of the vectors, from a seed.
+    pub vectors: fn(seed: u64) -> Vec<String>,
+    pub bench: fn() -> Times,
+}
+
+impl Row {
+    const fn of<F: Function>() -> Row {
+        Row {
+            name: F::NAME,
+            compare: compare::run::<F>,
+            vectors: vectors::lines::<F>,
+            bench: bench::run::<F>,
+        }
+    }
+}
+
+pub static ROWS: &[Row] = &[
+    Row::of::<CheckedAdd>(),
+    Row::of::<CheckedSub>(),
+    Row::of::<CheckedMul>(),
+    Row::of::<CheckedDivEuclid>(),
+    Row::of::<CheckedRemEuclid>(),
+    Row::of::<CheckedDiv>(),
+    Row::of::<CheckedRem>(),
+    Row::of::<CheckedNeg>(),
+];

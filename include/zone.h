@@ -5,6 +5,7 @@
 #ifndef ZONE_H
 #define ZONE_H
 
+#include <stdbool.h>
 #include <stddef.h>
 #include <stdint.h>
 
@@ -22,6 +23,18 @@ int64_t zone_checked_div(int64_t a, int64_t d, int64_t *told, size_t told_len);
 int64_t zone_checked_rem(int64_t a, int64_t d, int64_t *told, size_t told_len);
 int64_t zone_checked_div_euclid(int64_t a, int64_t d, int64_t *told, size_t told_len);
 int64_t zone_checked_rem_euclid(int64_t a, int64_t d, int64_t *told, size_t told_len);
+
+/* Floats, for every f64: as Rust's round (halves away from zero), floor, ceil, abs, sqrt, the cast
+ * x as i64, x.round() as i64, is_finite and the cast n as f64. */
+double zone_round(double x);
+double zone_floor(double x);
+double zone_ceil(double x);
+double zone_abs(double x);
+double zone_sqrt(double x);
+int64_t zone_to_i64(double x);
+int64_t zone_nint(double x);
+bool zone_is_finite(double x);
+double zone_to_f64(int64_t n);
 
 #ifdef __cplusplus
 }

@@ -1,3 +1,4 @@
 pub mod Matrix
 pub mod Filled
+pub mod Bounds
 mod Examples

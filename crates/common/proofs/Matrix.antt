@@ -7,7 +7,7 @@ use lib.Dec.{T}
 use Prim.Native.Nat.{ℕ, _+_}
 use Rattle.integer.proofs.Test.{and-l, and-r}
 use Rattle.integer.proofs.Polynomial.{Expr, var, con, add, sub, mul, eval, agree, solve}
-use Rattle.common.specs.Matrix.{Axis, X, Y, Z, Mat, entry, matrix, Ops, productOver, detOver, adjugateOver, scalarOver, _·_, det, adjugate, scalar, identity}
+use Rattle.common.specs.Matrix.{Axis, X, Y, Z, Vec, Mat, vector, entry, matrix, Ops, productOver, detOver, adjugateOver, diagonalOver, _·_, det, adjugate, scalar, identity}
 
 -- ---- what holds at every place
 abbrev allAxes : (Axis → Bool) → Bool
@@ -62,8 +62,11 @@ detE m = detOver expressions m
 abbrev pub adjugateE : Mat Expr → Mat Expr
 adjugateE m = adjugateOver expressions m
 
+abbrev pub diagonalE : Vec Expr → Mat Expr
+diagonalE v = diagonalOver expressions v
+
 abbrev pub scalarE : Expr → Mat Expr
-scalarE x = scalarOver expressions x
+scalarE x = diagonalE (vector (λ k. x))
 
 -- ---- the laws
 pub product-assoc : (A B C : Mat ℤ) → A · B · C ≡ A · (B · C)

@@ -1,2 +1,4 @@
 pub mod Matrix
+pub mod Array
+pub mod Limits
 pub mod Refusal

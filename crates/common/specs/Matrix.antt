@@ -1,6 +1,6 @@
--- 3 by 3 matrices over anything that has sums, differences and products: at ℤ they are what contracts speak of, at the ring solver's expressions what it
--- computes with. Determinants and products add up in the Rust's order.
-use lib.IntN.{ℤ, pos, _+ℤ_, _*ℤ_, _-ℤ_}
+-- Vectors and 3 by 3 matrices over anything that has sums, differences and products: at ℤ they are what contracts speak of, at the ring solver's expressions
+-- what it computes with. Determinants and products add up in the Rust's order.
+use lib.IntN.{ℤ, pos, negℤ, _+ℤ_, _*ℤ_, _-ℤ_}
 
 pub data Axis : Type 0 where
   X Y Z : Axis
@@ -10,6 +10,11 @@ abbrev pub next : Axis → Axis
 next X = Y
 next Y = Z
 next Z = X
+
+pub record Vec (R : Type 0) : Type 0 where
+  pub x : R
+  pub y : R
+  pub z : R
 
 -- rows a b c, d e f and g h i
 pub record Mat (R : Type 0) : Type 0 where
@@ -24,6 +29,14 @@ pub record Mat (R : Type 0) : Type 0 where
   pub i : R
 
 module _ {R : Type 0} where
+  abbrev pub side : Vec R → Axis → R
+  side v X = v .x
+  side v Y = v .y
+  side v Z = v .z
+
+  abbrev pub vector : (Axis → R) → Vec R
+  vector f = record { x = f X; y = f Y; z = f Z }
+
   -- row j, column k
   abbrev pub entry : Mat R → Axis → Axis → R
   entry m X X = m .a
@@ -39,6 +52,15 @@ module _ {R : Type 0} where
   abbrev pub matrix : (Axis → Axis → R) → Mat R
   matrix f = record { a = f X X; b = f X Y; c = f X Z; d = f Y X; e = f Y Y; f = f Y Z; g = f Z X; h = f Z Y; i = f Z Z }
 
+  abbrev pub transpose : Mat R → Mat R
+  transpose m = matrix (λ j k. entry m k j)
+
+abbrev pub mapVec : {R S : Type 0} → (R → S) → Vec R → Vec S
+mapVec f v = vector (λ k. f (side v k))
+
+abbrev pub mapMat : {R S : Type 0} → (R → S) → Mat R → Mat S
+mapMat f m = matrix (λ j k. f (entry m j k))
+
 pub record Ops (R : Type 0) : Type 0 where
   pub plus : R → R → R
   pub minus : R → R → R
@@ -46,12 +68,19 @@ pub record Ops (R : Type 0) : Type 0 where
   pub zero : R
 
 module _ {R : Type 0} (o : Ops R) where
-  -- j k · m n
+  -- the determinant of rows j k and m n
   abbrev cross : R → R → R → R → R
   cross j k m n = o .minus (o .times j n) (o .times k m)
 
+  -- of a row and a column
+  abbrev dot : (Axis → R) → (Axis → R) → R
+  dot u v = o .plus (o .plus (o .times (u X) (v X)) (o .times (u Y) (v Y))) (o .times (u Z) (v Z))
+
   abbrev pub productOver : Mat R → Mat R → Mat R
-  productOver m n = matrix (λ j k. o .plus (o .plus (o .times (entry m j X) (entry n X k)) (o .times (entry m j Y) (entry n Y k))) (o .times (entry m j Z) (entry n Z k)))
+  productOver m n = matrix (λ j k. dot (entry m j) (λ l. entry n l k))
+
+  abbrev pub applyOver : Mat R → Vec R → Vec R
+  applyOver m v = vector (λ j. dot (entry m j) (side v))
 
   abbrev pub detOver : Mat R → R
   detOver m =
@@ -64,9 +93,9 @@ module _ {R : Type 0} (o : Ops R) where
   adjugateOver m =
       matrix (λ j k. cross (entry m (next k) (next j)) (entry m (next k) (next (next j))) (entry m (next (next k)) (next j)) (entry m (next (next k)) (next (next j))))
 
-  -- x on the diagonal
-  abbrev pub scalarOver : R → Mat R
-  scalarOver x = record { a = x; b = o .zero; c = o .zero; d = o .zero; e = x; f = o .zero; g = o .zero; h = o .zero; i = x }
+  -- v on the diagonal
+  abbrev pub diagonalOver : Vec R → Mat R
+  diagonalOver v = record { a = v .x; b = o .zero; c = o .zero; d = o .zero; e = v .y; f = o .zero; g = o .zero; h = o .zero; i = v .z }
 
 -- ---- at ℤ
 abbrev pub integers : Ops ℤ
@@ -82,8 +111,26 @@ det m = detOver integers m
 abbrev pub adjugate : Mat ℤ → Mat ℤ
 adjugate m = adjugateOver integers m
 
+abbrev pub diagonal : Vec ℤ → Mat ℤ
+diagonal v = diagonalOver integers v
+
 abbrev pub scalar : ℤ → Mat ℤ
-scalar x = scalarOver integers x
+scalar x = diagonal (vector (λ k. x))
 
 abbrev pub identity : Mat ℤ
 identity = scalar (pos 1)
+
+abbrev pub negate : Mat ℤ → Mat ℤ
+negate m = mapMat negℤ m
+
+abbrev pub inversion : Mat ℤ
+inversion = negate identity
+
+-- a matrix times a column
+infixr 8 _▹_
+abbrev pub _▹_ : Mat ℤ → Vec ℤ → Vec ℤ
+m ▹ v = applyOver integers m v
+
+-- of a determinant of 1 or -1
+abbrev pub inverse : Mat ℤ → Mat ℤ
+inverse m = scalar (det m) · adjugate m

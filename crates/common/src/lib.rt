@@ -1,4 +1,15 @@
-// What the modules share: the refusals and the filling of outputs.
+// What the modules share: limits, refusals and the filling of outputs.
+mod array;
+mod limits;
+
+pub use array::matrix_at;
+pub use array::matvec_ii;
+pub use limits::all_within;
+pub use limits::diagonal_fits;
+pub use limits::rotations_fit;
+pub use limits::shift_fits;
+pub use limits::whole_matrices;
+pub use limits::within;
 ghost use mathlib.Core.Path.{_≡_};
 ghost use Prim.Native.Nat.{_<_};
 ghost use lib.IntN.{pos};

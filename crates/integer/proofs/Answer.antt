@@ -5,18 +5,15 @@ use lib.IntN.{ℤ, natAbs}
 use lib.Signed.{mag, quotZ}
 use borrow.Author.Tests.{ltb-true, ne-eqb}
 use mir.Syntax.{w64}
-use mir.Val.{SFits, toZ, ofZ}
+use mir.Val.{SFits, ofZ}
 use mir.Facts.{toZ-ofZ}
 use native.Mathlib.Omega.{arith}
 use Rattle.integer.specs.Division.{Divisible}
 use Rattle.integer.specs.Checked.{fits64, pick, checked, divided}
 use Rattle.integer.specs.declared.Checked.{Checked}
 use Rattle.integer.specs.declared.Checked.the-variants.{Value, Overflow, ZeroDivisor}
+use Rattle.integer.proofs.Fits.{held}
 use Rattle.integer.proofs.Quotient.{zero-bits, nonzero-size}
-
--- what a signed local holds, read back from its bits
-abbrev pub held : ℤ → ℤ
-held z = toZ w64 (ofZ w64 z)
 
 module _ (v : ℤ) {t : Bool} (test : t ≡ fits64 v) where
   pub test-fits : t ≡ true → SFits w64 v

@@ -10,7 +10,8 @@ use native.Mathlib.Omega.{arith}
 use Rattle.integer.specs.Division.{divEuclid, remEuclid}
 use Rattle.integer.proofs.Ring.{neg-*ℤ, sub-eq-zero}
 use Rattle.integer.proofs.Reify.{ring, reify, zero-by, _∗_, _⊹_, eq-by}
-use Rattle.integer.proofs.Parts.{up, dn, ints, sum, difference, negative}
+use Rattle.integer.specs.Parts.{up, dn}
+use Rattle.integer.proofs.Parts.{ints, sum, difference, negative}
 use Rattle.integer.proofs.Order.{NonNeg, nonneg-dn, neg-up, pos-dn, parts-nonneg}
 use Rattle.integer.proofs.Size.{abs-neg, abs-mul, abs-zero, abs-between, abs-parts}
 

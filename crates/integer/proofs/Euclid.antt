@@ -13,10 +13,9 @@ use Rattle.integer.proofs.Test.{holds}
 use Rattle.integer.proofs.Parts.{ints}
 use Rattle.integer.proofs.Order.{nonneg-of, nonneg-dn}
 use Rattle.integer.proofs.Size.{abs-parts}
-use Rattle.integer.proofs.Fits.{from-zero}
+use Rattle.integer.proofs.Fits.{held, from-zero}
 use Rattle.integer.proofs.Division.{euclid-same, euclid-down, euclid-up}
 use Rattle.integer.proofs.Quotient.{rem-toward-sfits}
-use Rattle.integer.proofs.Answer.{held}
 
 module _ (a d : ℤ) (fa : SFits w64 a) (fd : SFits w64 d) (p : Divisible a d) where
   abbrev q : ℤ

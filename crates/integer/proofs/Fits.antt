@@ -7,11 +7,20 @@ use Prim.Native.Nat.{ℕ, zero, suc, _+_, _≤_, _<_}
 use native.Mathlib.Numerals.{add-one}
 use native.Mathlib.Omega.{arith}
 use mir.Syntax.{w64}
-use mir.Val.{SFits}
+use mir.Val.{SFits, toZ, ofZ}
+use mir.Facts.{toZ-ofZ}
 use Rattle.integer.specs.Checked.{fits64}
 use mathlib.Core.Bool.{true, false}
 use Rattle.integer.proofs.Test.{holds, fails, same-test}
-use Rattle.integer.proofs.Parts.{up, dn, ints, le-parts, parts-le, sum, difference, negative}
+use Rattle.integer.specs.Parts.{up, dn}
+use Rattle.integer.proofs.Parts.{ints, le-parts, parts-le, sum, difference, negative}
+
+-- what a signed local holds, read back from its bits
+abbrev pub held : ℤ → ℤ
+held z = toZ w64 (ofZ w64 z)
+
+pub held-is : (z : ℤ) → mag z < 0x8000000000000000 → held z ≡ z
+held-is z h = toZ-ofZ (record { sfits = h })
 
 abbrev pub least : ℤ
 least = negsuc 0x7fffffffffffffff

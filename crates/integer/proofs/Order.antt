@@ -6,7 +6,8 @@ use lib.Signed.{_≤ℤ_, _<ℤ_, nonNeg}
 use lib.Dec.{T, ltb→lt}
 use Prim.Native.Nat.{ℕ, suc, _≤_, _<_}
 use native.Mathlib.Omega.{arith}
-use Rattle.integer.proofs.Parts.{up, dn, ints, difference}
+use Rattle.integer.specs.Parts.{up, dn}
+use Rattle.integer.proofs.Parts.{ints, difference}
 
 -- 0 ≤ z
 pub record NonNeg (z : ℤ) : Type 0 where

@@ -8,16 +8,9 @@ use lib.Signed.{_≤ℤ_, _<ℤ_, leZ-yes, ltZ-yes}
 use lib.Dec.{leb→le, le→leb, ltb→lt, lt→ltb}
 use Prim.Native.Nat.{ℕ, zero, suc, _+_, _*_, _≤_, _<_}
 use native.Mathlib.Omega.{arith}
+use Rattle.integer.specs.Parts.{up, dn}
 use Rattle.integer.proofs.Ring.{+ℤ-swap}
 use Rattle.integer.proofs.Reify.{ring, reify}
-
-abbrev pub up : ℤ → ℕ
-up (pos n) = n
-up (negsuc n) = 0
-
-abbrev pub dn : ℤ → ℕ
-dn (pos n) = 0
-dn (negsuc n) = suc n
 
 -- ---- what omega reads off a fact between two numbers, and what it has to prove of a goal
 pub le-parts : {x y : ℤ} → x ≤ℤ y → up x + dn y ≤ up y + dn x
@@ -67,7 +60,7 @@ parts-eq {x = negsuc a} {y = negsuc b} h = ap negsuc (omega arith)
 
 pub ruleset ints = (le-parts, lt-parts, eq-parts, parts-le, parts-lt, parts-eq)
 
--- ---- the parts of a sum, a difference, a negative and a multiple
+-- ---- the parts of a sum, a difference, a negative, a product and a multiple
 pub split : (z : ℤ) → z +ℤ pos (dn z) ≡ pos (up z)
 split (pos n) = +ℤ-idr (pos n)
 split (negsuc n) = +ℤ-invl (pos (suc n))
@@ -91,6 +84,12 @@ negative (negsuc n) = (refl, refl)
 
 pub difference : (x y : ℤ) → up (x -ℤ y) + (dn x + up y) ≡ dn (x -ℤ y) + (up x + dn y)
 difference x y = omega (arith, sum x (negℤ y), negative y .0, negative y .1)
+
+pub product : (x y : ℤ) → up (x *ℤ y) + (up x * dn y + dn x * up y) ≡ dn (x *ℤ y) + (up x * up y + dn x * dn y)
+product (pos a) (pos b) = omega arith
+product (pos a) (negsuc b) = omega (arith, negative (pos (a * suc b)))
+product (negsuc a) (pos b) = omega (arith, negative (pos (suc a * b)))
+product (negsuc a) (negsuc b) = omega arith
 
 pub multiple : (k : ℕ) (x : ℤ) → up (pos k *ℤ x) + k * dn x ≡ dn (pos k *ℤ x) + k * up x
 multiple k x = resplit (pos k *ℤ x) (k * up x) (k * dn x) (law (pos k) x (pos (dn x)) ∙ ap (λ t. pos k *ℤ t) (split x))

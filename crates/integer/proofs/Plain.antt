@@ -3,10 +3,10 @@
 -- `fits-plain (search (plain, p-atom)) tt : SFits w v` and `plain-is (search (plain, p-atom)) tt : v ≡ ..`.
 use mathlib.Core.Path.{_≡_, refl, sym, _∙_, ap, ap₂, subst}
 use mathlib.Core.Bool.{Bool, true, _&&_}
-use lib.IntN.{ℤ, negℤ, natAbs, _+ℤ_, _*ℤ_}
+use lib.IntN.{ℤ, pos, negℤ, natAbs, _+ℤ_, _*ℤ_}
 use lib.Dec.{T, ltb, ltb→lt}
 use Prim.Native.Nat.{ℕ, _+_, _*_, _^_, _≤_}
-use native.Mathlib.Nat.{le-of-eq, le-trans, add-le-add, mul-le-mul, lt-of-le-of-lt}
+use native.Mathlib.Nat.{le-refl, le-of-eq, le-trans, add-le-add, mul-le-mul, lt-of-le-of-lt}
 use mir.Syntax.{Width, w32, w64}
 use mir.Val.{SFits, hbits, toZ, ofZ}
 use mir.Facts.{toZ-ofZ}
@@ -23,6 +23,10 @@ pub record Plain (v : ℤ) : Type 0 where
 
 abbrev pub p-atom : {v : ℤ} {k : ℕ} → natAbs v ≤ k → Plain v
 p-atom {v} {k} h = record { num = v; bound = k; ok = true; is = λ _. refl; within = λ _. h }
+
+-- a literal
+abbrev pub p-pos : (n : ℕ) → Plain (pos n)
+p-pos n = record { num = pos n; bound = n; ok = true; is = λ _. refl; within = λ _. le-refl n }
 
 pub add-is : {u v x y : ℤ} (a b : Bool) → (T a → u ≡ x) → (T b → v ≡ y) → T (a && b) → u +ℤ v ≡ x +ℤ y
 add-is a b p q t = ap₂ _+ℤ_ (p (and-l a b t)) (q (and-r a b t))
@@ -69,10 +73,13 @@ p-i64 a = p-trip w64 a
 abbrev pub p-i32 : {v : ℤ} → Plain v → Plain (toZ w32 (ofZ w32 v))
 p-i32 a = p-trip w32 a
 
-pub ruleset plain = (p-add, p-mul, p-neg, p-i64, p-i32)
+pub ruleset plain = (p-pos, p-add, p-mul, p-neg, p-i64, p-i32)
 
 pub fits-plain : {w : Width} {v : ℤ} (p : Plain v) → T (p .ok && ltb (p .bound) (2 ^ hbits w)) → SFits w v
 fits-plain {w} {v} p t = subst (SFits w) (sym (p .is (and-l (p .ok) (ltb (p .bound) (2 ^ hbits w)) t))) (sfits-abs (lt-of-le-of-lt (p .within (and-l (p .ok) (ltb (p .bound) (2 ^ hbits w)) t)) (ltb→lt (p .bound) (2 ^ hbits w) (and-r (p .ok) (ltb (p .bound) (2 ^ hbits w)) t))))
 
 pub plain-is : {v : ℤ} (p : Plain v) → T (p .ok) → v ≡ p .num
 plain-is p t = p .is t
+
+pub plain-within : {v : ℤ} (p : Plain v) → T (p .ok) → natAbs v ≤ p .bound
+plain-within p t = rw (p .is t) (p .within t)

@@ -9,7 +9,7 @@ use native.Mathlib.Omega.{arith}
 use mir.Syntax.{Width}
 use mir.Val.{SFits, hbits}
 use Rattle.integer.proofs.Test.{cond-cases}
-use Rattle.integer.proofs.Parts.{up, dn}
+use Rattle.integer.specs.Parts.{up, dn}
 
 pub abs-neg : (z : ℤ) → natAbs (negℤ z) ≡ natAbs z
 abs-neg (pos zero) = refl

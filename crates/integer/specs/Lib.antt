@@ -1,3 +1,4 @@
+pub mod Parts
 pub mod Division
 pub mod Divides
 pub mod Checked

@@ -1,4 +1,5 @@
 // The functions that have vectors, and one case of one.
+use crate::float_case;
 use crate::text;
 use crate::text::Count;
 
@@ -50,11 +51,7 @@ fn case(function: usize, a: i64, b: i64, answer: i64, value: i64) -> Verdict {
     Verdict::Same
 }
 
-pub fn judge(function: usize, line: &[u8]) -> Verdict {
-    let mut n = [0i64; 4];
-    let Count::Read(count) = text::numbers(line, &mut n) else {
-        return Verdict::Unread;
-    };
+fn judge_checked(function: usize, n: [i64; 5], count: usize) -> Verdict {
     if function == CHECKED_NEG {
         if count == 3 {
             return case(function, n[0], 0, n[1], n[2]);
@@ -65,4 +62,15 @@ pub fn judge(function: usize, line: &[u8]) -> Verdict {
         return case(function, n[0], n[1], n[2], n[3]);
     }
     Verdict::Unread
+}
+
+pub fn judge(function: usize, line: &[u8]) -> Verdict {
+    let mut n = [0i64; 5];
+    let Count::Read(count) = text::numbers(line, &mut n) else {
+        return Verdict::Unread;
+    };
+    if function <= CHECKED_REM {
+        return judge_checked(function, n, count);
+    }
+    float_case::judge_float(function, n, count)
 }

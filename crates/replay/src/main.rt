@@ -1,5 +1,6 @@
 // Replays the Rust's answers: reads the vectors of each function, data/FUNCTION, calls the port's
 // export, and prints how many cases there were and how many differ.
+mod float_case;
 mod function;
 mod text;
 
@@ -88,4 +89,13 @@ fn main() {
     replay_file(function::CHECKED_REM_EUCLID, b"checked_rem_euclid");
     replay_file(function::CHECKED_DIV, b"checked_div");
     replay_file(function::CHECKED_REM, b"checked_rem");
+    replay_file(float_case::ROUND, b"round");
+    replay_file(float_case::FLOOR, b"floor");
+    replay_file(float_case::CEIL, b"ceil");
+    replay_file(float_case::ABS, b"abs");
+    replay_file(float_case::SQRT, b"sqrt");
+    replay_file(float_case::TO_I64, b"to_i64");
+    replay_file(float_case::NINT, b"nint");
+    replay_file(float_case::IS_FINITE, b"is_finite");
+    replay_file(float_case::TO_F64, b"to_f64");
 }

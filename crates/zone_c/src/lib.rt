@@ -1,5 +1,16 @@
 // The exports for C and Rust. Each answers 0, or document 01's number of the refusal.
+mod floats;
+
 use common::Refusal;
+pub use floats::zone_abs;
+pub use floats::zone_ceil;
+pub use floats::zone_floor;
+pub use floats::zone_is_finite;
+pub use floats::zone_nint;
+pub use floats::zone_round;
+pub use floats::zone_sqrt;
+pub use floats::zone_to_f64;
+pub use floats::zone_to_i64;
 use integer::Checked;
 ghost use lib.IntN.{negℤ, _+ℤ_, _-ℤ_, _*ℤ_};
 ghost use lib.Signed.{quotZ, remZ};

@@ -21,7 +21,7 @@ pub fn run<F: Function>(cases: u64, seed: u64) -> u64 {
             None => F::Input::random(&mut random),
         };
         let mut expected = F::outputs(&input);
-        if random.one_in(DAMAGED_OUTPUTS) {
+        if F::LENT && random.one_in(DAMAGED_OUTPUTS) {
             expected.damage(&mut random);
         }
         let oracle = F::oracle(&input, &mut expected);

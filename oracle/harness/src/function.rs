@@ -24,6 +24,9 @@ pub trait Function {
     /// The export's name without its prefix.
     const NAME: &'static str;
 
+    /// Whether its outputs are lent, so that their lengths may be wrong.
+    const LENT: bool = true;
+
     type Input: Input;
 
     /// Outputs of the lengths that the call wants.

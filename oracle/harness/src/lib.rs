@@ -8,6 +8,7 @@
 pub mod arguments;
 pub mod bench;
 pub mod compare;
+pub mod floats;
 pub mod function;
 pub mod inputs;
 pub mod integers;

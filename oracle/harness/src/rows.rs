@@ -1,6 +1,7 @@
 //! The functions that the commands know.
 
 use crate::bench::{self, Times};
+use crate::floats::*;
 use crate::function::Function;
 use crate::integers::*;
 use crate::{compare, vectors};
@@ -35,4 +36,13 @@ pub static ROWS: &[Row] = &[
     Row::of::<CheckedDiv>(),
     Row::of::<CheckedRem>(),
     Row::of::<CheckedNeg>(),
+    Row::of::<Round>(),
+    Row::of::<Floor>(),
+    Row::of::<Ceil>(),
+    Row::of::<Abs>(),
+    Row::of::<Sqrt>(),
+    Row::of::<ToI64>(),
+    Row::of::<Nint>(),
+    Row::of::<IsFinite>(),
+    Row::of::<ToF64>(),
 ];

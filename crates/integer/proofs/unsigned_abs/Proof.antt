@@ -9,8 +9,7 @@ use mir.Val.{SFits}
 use mir.Facts.{toZ-ofZ}
 use borrow.Author.Needs.{needs}
 use Rattle.integer.proofs.Order.{nonneg-of}
-use Rattle.integer.proofs.Answer.{held}
-use Rattle.integer.proofs.Fits.{below-zero, from-zero, next-fits, minus-next, mag-next}
+use Rattle.integer.proofs.Fits.{held, below-zero, from-zero, next-fits, minus-next, mag-next}
 use Rattle.integer.proofs.unsigned_abs.Statement.{statement}
 use Rattle.integer.proofs.unsigned_abs.Tie as tie
 

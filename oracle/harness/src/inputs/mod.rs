@@ -1,5 +1,6 @@
 //! Where inputs come from, for every kind of argument that the exports take.
 
+pub mod floats;
 pub mod grids;
 pub mod groups;
 pub mod lattices;

@@ -1,0 +1,75 @@
+-- The loops and tests of limits.
+use mathlib.Core.Path.{_≡_, sym, _∙_, ap, ap₂}
+use mathlib.Core.Bool.{Bool, true, false, _&&_}
+use mathlib.Core.List.{List, [], _∷_}
+use Prim.Native.Nat.{ℕ, zero, suc, _+_, _<_, _≤_}
+use native.Mathlib.Nat.{lt-of-le-of-lt}
+use native.Mathlib.Numerals.{add-one}
+use lib.Dec.{T, ltb, leb→le, ltb→lt, lit≤}
+use lib.IntN.{ℤ, pos, negsuc, natAbs}
+use lib.Signed.{leZ, mag}
+use lib.ListN.{length, getD, drop, drop-of-length-le}
+use lib.Seq.{drop-cons}
+use mir.Facts.{toZ-ofZ}
+use Rattle.integer.proofs.Test.{and-r}
+use Rattle.integer.proofs.Size.{sfits-abs}
+use Rattle.integer.proofs.Fits.{held, held-is}
+use Rattle.integer.proofs.Plain.{Plain, plain, p-atom, plain-within}
+use Rattle.common.specs.Matrix.{_▹_}
+use Rattle.common.specs.Array.{vectorOf, items, matrixOf, dotOf, Sized, SizedRows}
+use Rattle.common.specs.Limits.{within, allWithin, sideFits}
+
+-- a test of two parts, of which the first is known
+pub first-holds : {a : Bool} (b : Bool) → a ≡ true → b ≡ a && b
+first-holds b e = sym (ap (λ t. t && b) e)
+
+pub first-fails : {a : Bool} (b : Bool) → a ≡ false → false ≡ a && b
+first-fails b e = sym (ap (λ t. t && b) e)
+
+module _ (k : ℕ) (l : List ℤ) (i : ℕ) (h : i < length l) where
+  at-place : allWithin k (drop i l) ≡ within k (getD l i (pos 0)) && allWithin k (drop (suc i) l)
+  at-place = ap (allWithin k) (drop-cons l i (pos 0) h)
+
+  pub within-on : within k (getD l i (pos 0)) ≡ true → allWithin k (drop i l) ≡ allWithin k (drop (i + 1) l)
+  within-on e = at-place ∙ sym (first-holds (allWithin k (drop (suc i) l)) e) ∙ ap (λ n. allWithin k (drop n l)) (sym (add-one i))
+
+  pub within-stop : within k (getD l i (pos 0)) ≡ false → allWithin k (drop i l) ≡ false
+  within-stop e = at-place ∙ sym (first-fails (allWithin k (drop (suc i) l)) e)
+
+pub within-end : (k : ℕ) (l : List ℤ) (i : ℕ) → length l ≤ i → allWithin k (drop i l) ≡ true
+within-end k l i h = ap (allWithin k) (drop-of-length-le l h)
+
+-- a diagonal number is at most 256
+pub side-size : (z : ℤ) → T (sideFits z) → natAbs z ≤ 256
+side-size (pos n) t = leb→le n 256 (and-r (leZ (pos 1) (pos n)) (leZ (pos n) (pos 256)) t)
+side-size (negsuc n) t = absurd t
+
+-- an entry's size, for overflow needs: `search (plain, p-sized)`
+abbrev pub p-sized : {k : ℕ} {l : List ℤ} (n : ℕ) → Sized k l → Plain (getD l n (pos 0))
+p-sized n h = p-atom (h .each n)
+
+-- an entry of known size is what a local holds of it
+module _ {k : ℕ} {l : List ℤ} (h : Sized k l) (n : ℕ) (t : T (ltb k 0x8000000000000000)) where
+  pub entry-held : held (getD l n (pos 0)) ≡ getD l n (pos 0)
+  entry-held = toZ-ofZ (sfits-abs (lt-of-le-of-lt (h .each n) (ltb→lt k 0x8000000000000000 t)))
+
+  pub held-size : natAbs (held (getD l n (pos 0))) ≤ k
+  held-size = rw entry-held (h .each n)
+
+-- and so what a call returned of entry n of two arrays is what it is of the entries
+pub entry-result : {j k : ℕ} {a b : List ℤ} → Sized j a → Sized k b → T (ltb j 0x8000000000000000) → T (ltb k 0x8000000000000000) → (n : ℕ) (g : ℤ → ℤ → ℤ) {r : ℤ}
+    → mag r < 0x8000000000000000 → r ≡ g (held (getD a n (pos 0))) (held (getD b n (pos 0))) → held r ≡ g (getD a n (pos 0)) (getD b n (pos 0))
+entry-result f h s t n g {r} ok e = held-is r ok ∙ e ∙ ap₂ g (entry-held f n s) (entry-held h n t)
+
+-- the size of a rotated address
+dot-size : {a b : List ℤ} → Sized 100000 a → Sized 20000000000001 b → natAbs (dotOf a b) ≤ 6000000000000300000
+dot-size {a} {b} f g = plain-within {v = dotOf a b} (search (plain, p-sized) depth 14) tt
+
+pub apply-sized : {m : List (List ℤ)} {v : List ℤ} → SizedRows 100000 m → Sized 20000000000001 v → Sized 6000000000000300000 (items (matrixOf m ▹ vectorOf v))
+apply-sized {m} {v} f g = record { each = at }
+  where
+    at : (n : ℕ) → natAbs (getD (items (matrixOf m ▹ vectorOf v)) n (pos 0)) ≤ 6000000000000300000
+    at zero = dot-size (f .each 0) g
+    at (suc zero) = dot-size (f .each 1) g
+    at (suc (suc zero)) = dot-size (f .each 2) g
+    at (suc (suc (suc n))) = lit≤ tt

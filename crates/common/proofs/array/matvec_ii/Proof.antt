@@ -1,0 +1,36 @@
+use borrow.Author.Needs.{needs}
+use Rattle.common.proofs.array.matvec_ii.Statement.{statement}
+use Rattle.common.proofs.array.matvec_ii.Tie as tie
+
+array-copy-out-x : tie.Need-array-copy-out-x
+array-copy-out-x c = search needs
+
+array-copy-out-y : tie.Need-array-copy-out-y
+array-copy-out-y c = search needs
+
+array-copy-out-z : tie.Need-array-copy-out-z
+array-copy-out-z c = search needs
+
+dot-i-requires : tie.Need-dot-i-requires
+dot-i-requires c κs = let p = c .before .before .before .pre in (p .0 .each 0, p .1)
+
+dot-i-requires-2 : tie.Need-dot-i-requires-2
+dot-i-requires-2 c κs = let p = c .before .before .before .before .pre in (p .0 .each 1, p .1)
+
+dot-i-requires-3 : tie.Need-dot-i-requires-3
+dot-i-requires-3 c κs = let p = c .before .before .before .before .before .pre in (p .0 .each 2, p .1)
+
+returns : tie.Need-returns
+returns c = search needs
+
+pub matvec-ii-spec : {M : Type 1} → statement M
+matvec-ii-spec =
+    tie.close
+    (tie.spec
+    array-copy-out-x
+    array-copy-out-y
+    array-copy-out-z
+    dot-i-requires
+    dot-i-requires-2
+    dot-i-requires-3
+    returns)

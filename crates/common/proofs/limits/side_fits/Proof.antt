@@ -1,0 +1,16 @@
+use mathlib.Core.Path.{_∙_}
+use lib.IntN.{pos}
+use lib.Signed.{leZ}
+use mir.Facts.{toZ-ofZ}
+use Rattle.common.proofs.Bounds.{first-holds, first-fails}
+use Rattle.common.proofs.limits.side_fits.Statement.{statement}
+use Rattle.common.proofs.limits.side_fits.Tie as tie
+
+returns : tie.Need-returns
+returns c = let s = c .before in rw (toZ-ofZ (s .fits .z)) (first-holds (leZ (s .args .z) (pos 256)) (rw (toZ-ofZ (s .fits .z)) at (c .if1 .taken)))
+
+returns-2 : tie.Need-returns-2
+returns-2 c = let s = c .before in c .if1 .left ∙ first-fails (leZ (s .args .z) (pos 256)) (rw (toZ-ofZ (s .fits .z)) at (c .if1 .left))
+
+pub side-fits-spec : {M : Type 1} → statement M
+side-fits-spec = tie.close (tie.spec returns returns-2)

@@ -1,0 +1,87 @@
+// The limits and lengths that calls test.
+ghost use mathlib.Core.Path.{_≡_};
+ghost use mathlib.Core.Bool.{_&&_};
+ghost use Prim.Native.Nat.{_*_, _≤_};
+ghost use lib.Dec.{leb};
+ghost use lib.IntN.{natAbs};
+ghost use Rattle.common.specs.Limits.{within, allWithin, rotationsFit, wholeMatrices, sideFits, diagonalFits, halfFits, shiftFits};
+
+pub fn within(z: i64, k: u64) -> bool
+    ensures { λ r. ⌜ r ≡ within k z ⌝ }
+{
+    integer::unsigned_abs(z) <= k
+}
+
+pub fn all_within(list: &[i64], k: u64) -> bool
+    ensures { λ r. ⌜ r ≡ allWithin k (now (list .entry)) ⌝ }
+{
+    let mut i = 0;
+    while i < list.len() {
+        if !within(list[i], k) {
+            return false;
+        }
+        i += 1;
+    }
+    true
+}
+
+pub fn whole_matrices(list: &[i64]) -> bool
+    ensures { λ r. ⌜ r ≡ wholeMatrices (now (list .entry)) ⌝ }
+{
+    list.len() % 9 == 0
+}
+
+pub fn rotations_fit(list: &[i64], k: u64) -> bool
+    ensures { λ r. ⌜ r ≡ rotationsFit k (now (list .entry)) ⌝ }
+{
+    if list.len() <= 1728 {
+        return all_within(list, k);
+    }
+    false
+}
+
+fn side_fits(z: i64) -> bool
+    ensures { λ r. ⌜ r ≡ sideFits z ⌝ }
+{
+    1 <= z && z <= 256
+}
+
+fn all_three(a: bool, b: bool, c: bool) -> bool
+    ensures { λ r. ⌜ r ≡ a && (b && c) ⌝ }
+{
+    if a {
+        if b {
+            return c;
+        }
+    }
+    false
+}
+
+// The number of points.
+fn volume_fits(a: i64, b: i64, c: i64) -> bool
+    requires { ⌜ (natAbs a ≤ 256) × (natAbs b ≤ 256) × (natAbs c ≤ 256) ⌝ }
+    ensures { λ r. ⌜ r ≡ leb (natAbs a * natAbs b * natAbs c) 65536 ⌝ }
+{
+    integer::unsigned_abs(a) * integer::unsigned_abs(b) * integer::unsigned_abs(c) <= 65536
+}
+
+pub fn diagonal_fits(d: [i64; 3]) -> bool
+    ensures { λ r. ⌜ r ≡ diagonalFits d ⌝ }
+{
+    if all_three(side_fits(d[0]), side_fits(d[1]), side_fits(d[2])) {
+        return volume_fits(d[0], d[1], d[2]);
+    }
+    false
+}
+
+fn half_fits(z: i64) -> bool
+    ensures { λ r. ⌜ r ≡ halfFits z ⌝ }
+{
+    0 <= z && z <= 1
+}
+
+pub fn shift_fits(ps: [i64; 3]) -> bool
+    ensures { λ r. ⌜ r ≡ shiftFits ps ⌝ }
+{
+    all_three(half_fits(ps[0]), half_fits(ps[1]), half_fits(ps[2]))
+}

@@ -1,4 +1,5 @@
 pub mod Matrix
+pub mod Unimodular
 pub mod Filled
 pub mod Bounds
 mod Examples

@@ -110,8 +110,14 @@ no-sign : (a : ℤ) → SameSign a (pos 0)
 no-sign (pos a) = record { sign = tt }
 no-sign (negsuc a) = record { sign = tt }
 
+exact : {a d : ℤ} → zero < natAbs d → (p : Divides d a) → (p .times ≡ quotZ a d) × (pos 0 ≡ remZ a d)
+exact {a} {d} h p = quot-unique a d (p .times) (pos 0) (sym (p .is ∙ ring (p .times ∷ d ∷ []) (search reify depth 40) tt)) (no-sign a) h
+
+pub divides-quot : {a d : ℤ} → zero < natAbs d → (p : Divides d a) → quotZ a d ≡ p .times
+divides-quot h p = sym (exact h p .0)
+
 pub divides-rem : {a d : ℤ} → zero < natAbs d → Divides d a → remZ a d ≡ pos 0
-divides-rem {a} {d} h p = sym (quot-unique a d (p .times) (pos 0) (sym (p .is ∙ ring (p .times ∷ d ∷ []) (search reify depth 40) tt)) (no-sign a) h .1)
+divides-rem h p = sym (exact h p .1)
 
 pub rem-euclid-zero : (a d : ℤ) → zero < natAbs d → remEuclid a d ≡ pos 0 → Divides d a
 rem-euclid-zero a d h e = record { times = divEuclid a d; is = sym (div-rem-euclid a d h) ∙ eq-by (zero-by e) (ring (divEuclid a d ∷ remEuclid a d ∷ d ∷ []) (search reify depth 40) tt) }

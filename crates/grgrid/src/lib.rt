@@ -1,0 +1,1 @@
+// Generalized regular grid helpers: the code follows the definitions of specs/.

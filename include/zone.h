@@ -36,6 +36,18 @@ int64_t zone_nint(double x);
 bool zone_is_finite(double x);
 double zone_to_f64(int64_t n);
 
+/* The grid with diagonal numbers d[3], N points. 13: a slice has another length, or rotations is not
+ * a list of matrices; 3: a number is outside its limits.
+ *
+ * The class map: for each point the lowest one of its class; told[1] is the number of classes.
+ * rotations has 9 numbers each, ps[3], map[N]. */
+int64_t zone_ir_grid_map(const int64_t *rotations, size_t rotations_len, const int64_t *d, size_t d_len,
+                         const int64_t *ps, size_t ps_len, int64_t *map, size_t map_len, int64_t *told,
+                         size_t told_len);
+
+/* The address of each point in index order: out[3 * N]. */
+int64_t zone_all_grid_addresses(const int64_t *d, size_t d_len, int64_t *out, size_t out_len);
+
 #ifdef __cplusplus
 }
 #endif

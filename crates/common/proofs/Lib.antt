@@ -2,4 +2,5 @@ pub mod Matrix
 pub mod Unimodular
 pub mod Filled
 pub mod Bounds
+pub mod Tests
 mod Examples

@@ -2,3 +2,4 @@ pub mod Matrix
 pub mod Array
 pub mod Limits
 pub mod Refusal
+pub mod Tested

@@ -1,12 +1,11 @@
 -- The limits in force and the lengths, as tests.
-use mathlib.Core.Bool.{Bool, true, false, _&&_}
+use mathlib.Core.Bool.{Bool, true, _&&_}
 use mathlib.Core.List.{List, [], _∷_}
 use Prim.Native.Nat.{ℕ, _*_, _%_}
 use lib.Dec.{leb, eqb}
 use lib.IntN.{ℤ, pos, natAbs}
 use lib.ListN.{length}
 use lib.Signed.{leZ}
-use Rattle.common.specs.Matrix.{Vec}
 use Rattle.common.specs.Array.{vectorOf, sidesOf}
 
 -- of size at most k

@@ -1,12 +1,12 @@
 // 3 by 3 matrices and vectors by value.
 ghost use mathlib.Core.Path.{_≡_};
 ghost use Prim.Native.Nat.{_+_, _*_, _≤_};
-ghost use lib.IntN.{ℤ};
 ghost use lib.ListN.{length};
-ghost use Rattle.common.specs.Matrix.{transpose, negate, _▹_};
+ghost use Rattle.common.specs.Matrix.{_▹_};
 ghost use Rattle.common.specs.Array.{vectorOf, items, matrixOf, rows, rowAt, matrixAt, dotOf, Sized, SizedRows};
 
-fn row_at(list: &[i64], at: usize) -> [i64; 3]
+// Three numbers of a lent list.
+pub fn row_at(list: &[i64], at: usize) -> [i64; 3]
     requires { ⌜ at + 3 ≤ length (now list) ⌝ }
     ensures { λ r. ⌜ r ≡ rowAt (now (list .entry)) at ⌝ }
 {

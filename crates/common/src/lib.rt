@@ -4,6 +4,7 @@ mod limits;
 
 pub use array::matrix_at;
 pub use array::matvec_ii;
+pub use array::row_at;
 pub use limits::all_within;
 pub use limits::diagonal_fits;
 pub use limits::rotations_fit;
@@ -65,6 +66,12 @@ impl Refusal {
     {
         self.number() as i64
     }
+}
+
+// The outcome of a call's tests.
+pub enum Tested {
+    Accepted,
+    Refused(Refusal),
 }
 
 // A refusal leaves -1 in every place of every output.

@@ -7,4 +7,9 @@ pub mod Acting
 pub mod Count
 pub mod MatrixGroup
 pub mod Classes
+pub mod Sizes
+pub mod Lower
+pub mod Numbers
+pub mod Accepted
+pub mod Walk
 mod Examples

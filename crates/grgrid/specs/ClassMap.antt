@@ -1,5 +1,5 @@
 -- The class map: point by point upwards, the first map that lands lower gives that point's number; else the point keeps its own.
-use mathlib.Core.Bool.{Bool, true, false}
+use mathlib.Core.Bool.{true, false}
 use mathlib.Core.List.{List, [], _∷_, map}
 use Prim.Native.Nat.{ℕ, zero, suc}
 use lib.Dec.{ltb, eqb}

@@ -34,8 +34,11 @@ abbrev pub double : Vec ℤ → Vec ℤ → Vec ℤ
 double a ps = vector (λ k. side a k *ℤ pos 2 +ℤ side ps k)
 
 -- toward zero
+abbrev pub half : ℤ → ℤ
+half z = quotZ z (pos 2)
+
 abbrev pub halve : Vec ℤ → Vec ℤ → Vec ℤ
-halve a ps = vector (λ k. quotZ (side a k -ℤ side ps k) (pos 2))
+halve a ps = vector (λ k. half (side a k -ℤ side ps k))
 
 unfoldable pub rotate : Vec ℕ → Vec ℤ → Mat ℤ → ℕ → ℕ
 unfolding index address

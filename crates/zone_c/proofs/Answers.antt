@@ -16,6 +16,18 @@ use Rattle.common.specs.declared.Refusal.the-variants as refusal
 use Rattle.common.specs.Refusal.{numberOf}
 use Rattle.zone_c.specs.Told.{checkedAnswer, pick, toldAnswer, told, Told}
 
+-- an output of one place
+pub stored : (b : List ℤ) → length b ≡ 1 → (z : ℤ) → set b 0 z ≡ z ∷ []
+stored [] e z = absurd (never e)
+  where
+    never : _≡_ {A = ℕ} 0 1 → ⊥
+    never e = omega arith
+stored (x ∷ []) e z = refl
+stored (x ∷ y ∷ b) e z = absurd (never (length b) e)
+  where
+    never : (n : ℕ) → suc (suc n) ≡ 1 → ⊥
+    never n e = omega arith
+
 module _ (b : List ℤ) (c : Checked) where
   untold : (length b ≡ 1 → ⊥) → (c : Checked) → replicate (length b) (negsuc 0) ≡ told (length b) c
   untold h (Value z) = ap (λ t. pick t (z ∷ []) (replicate (length b) (negsuc 0))) (sym (ne-eqb (length b) 1 h))
@@ -29,29 +41,14 @@ module _ (b : List ℤ) (c : Checked) where
   }
 
   module _ (one : length b ≡ 1) where
-    -- the only place
-    stored : (z : ℤ) → set b 0 z ≡ z ∷ []
-    stored z = go b one
-      where
-        go : (b : List ℤ) → length b ≡ 1 → set b 0 z ≡ z ∷ []
-        go [] e = absurd (never e)
-          where
-            never : _≡_ {A = ℕ} 0 1 → ⊥
-            never e = omega arith
-        go (x ∷ []) e = refl
-        go (x ∷ y ∷ b) e = absurd (never (length b) e)
-          where
-            never : (n : ℕ) → suc (suc n) ≡ 1 → ⊥
-            never n e = omega arith
-
     pub value-told : {z : ℤ} → c ≡ Value z → Told c b (pos 0) (set b 0 z)
-    value-told {z} e = record { answer = rw (e, one); written = stored z ∙ rw (e, one) }
+    value-told {z} e = record { answer = rw (e, one); written = stored b one z ∙ rw (e, one) }
 
     pub overflow-told : {v : ℤ} → v ≡ negsuc 0 → c ≡ Overflow → Told c b (pos (numberOf refusal.Overflow)) (set b 0 v)
-    overflow-told {v} blank e = record { answer = rw (e, one); written = stored v ∙ rw (blank, e, one) }
+    overflow-told {v} blank e = record { answer = rw (e, one); written = stored b one v ∙ rw (blank, e, one) }
 
     pub zero-divisor-told : {v : ℤ} → v ≡ negsuc 0 → c ≡ ZeroDivisor → Told c b (pos (numberOf refusal.Overflow)) (set b 0 v)
-    zero-divisor-told {v} blank e = record { answer = rw (e, one); written = stored v ∙ rw (blank, e, one) }
+    zero-divisor-told {v} blank e = record { answer = rw (e, one); written = stored b one v ∙ rw (blank, e, one) }
 
 -- an export hands on what `tell` said of the answer of its operation
 pub passed-on : {c d : Checked} {b l : List ℤ} {r : ℤ} → mag r < 0x8000000000000000 → d ≡ c → Told d b r l → Told c b (toZ w64 (ofZ w64 r)) l

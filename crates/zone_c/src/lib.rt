@@ -1,5 +1,6 @@
 // The exports for C and Rust. Each answers 0, or document 01's number of the refusal.
 mod floats;
+mod grid;
 
 use common::Refusal;
 pub use floats::zone_abs;
@@ -11,6 +12,8 @@ pub use floats::zone_round;
 pub use floats::zone_sqrt;
 pub use floats::zone_to_f64;
 pub use floats::zone_to_i64;
+pub use grid::zone_all_grid_addresses;
+pub use grid::zone_ir_grid_map;
 use integer::Checked;
 ghost use lib.IntN.{negℤ, _+ℤ_, _-ℤ_, _*ℤ_};
 ghost use lib.Signed.{quotZ, remZ};

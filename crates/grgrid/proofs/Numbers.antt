@@ -1,0 +1,83 @@
+-- The number of a point by where it is carried first; and the entries that equal their own place are the points that keep theirs.
+use mathlib.Core.Path.{_≡_, refl, sym, _∙_, ap, ap₂}
+use mathlib.Core.Bool.{Bool, true, false}
+use mathlib.Core.List.{List, [], _∷_, map}
+use Prim.Native.Nat.{ℕ, zero, suc, _+_, _<_, _≤_}
+use native.Mathlib.Nat.{le-refl}
+use native.Mathlib.Omega.{arith}
+use native.Mathlib.Numerals.{add-one}
+use lib.Dec.{ltb, eqb}
+use lib.IntN.{ℤ, pos}
+use lib.ListN.{length, getD, set, length-map, List·getD-map}
+use borrow.Author.Tests.{lt-ltb, le-ltb}
+use Rattle.common.specs.Matrix.{Vec, Mat}
+use Rattle.grgrid.specs.Grid.{size, rotate}
+use Rattle.grgrid.specs.ClassMap.{firstLower, number, pass, kept, classMap, classes}
+use Rattle.grgrid.specs.Own.{isPlace, ownPlaces}
+use Rattle.grgrid.proofs.Built.{length-build, written, written-step, written-read}
+
+-- the number of p, which is carried to q
+abbrev numberBy : List ℕ → ℕ → ℕ → ℕ
+numberBy done p q = elim (ltb q p) [ true ↦ getD done q 0 | false ↦ p ]
+
+number-is : (gs : List (ℕ → ℕ)) (p : ℕ) (done : List ℕ) → number gs p done ≡ numberBy done p (firstLower gs p)
+number-is [] p done = ap (λ (t : Bool). elim t [ true ↦ getD done p 0 | false ↦ p ]) (sym (le-ltb p p (le-refl p)))
+number-is (g ∷ gs) p done = go (ltb (g p) p) refl (number-is gs p done)
+  where
+    go : (t : Bool) → ltb (g p) p ≡ t → number gs p done ≡ numberBy done p (firstLower gs p)
+        → elim t [ true ↦ getD done (g p) 0 | false ↦ number gs p done ] ≡ numberBy done p (elim t [ true ↦ g p | false ↦ firstLower gs p ])
+    go true e rest = ap (λ (t : Bool). elim t [ true ↦ getD done (g p) 0 | false ↦ p ]) (sym e)
+    go false e rest = rest
+
+module _ (gs : List (ℕ → ℕ)) (p : ℕ) (done : List ℕ) {q : ℕ} (e : q ≡ firstLower gs p) where
+  by : number gs p done ≡ numberBy done p q
+  by = number-is gs p done ∙ ap (numberBy done p) (sym e)
+
+  pub number-lower : q < p → number gs p done ≡ getD done q 0
+  number-lower h = by ∙ ap (λ (t : Bool). elim t [ true ↦ getD done q 0 | false ↦ p ]) (lt-ltb q p h)
+
+  pub number-own : p ≤ q → number gs p done ≡ p
+  number-own h = by ∙ ap (λ (t : Bool). elim t [ true ↦ getD done q 0 | false ↦ p ]) (le-ltb q p h)
+
+-- ---- a turn of the pass: place p of the output, where the points below p have their numbers
+module _ (gs : List (ℕ → ℕ)) (p : ℕ) {q : ℕ} (e : q ≡ firstLower gs p) (before out : List ℤ) (inv : out ≡ written (number gs) pos p before) (h : p < length before) where
+  store : {z : ℤ} → z ≡ pos (number gs p (pass gs p)) → set out p z ≡ written (number gs) pos (p + 1) before
+  store {z} r = ap₂ (λ l v. set l p v) inv r ∙ written-step (number gs) pos p before (pos 0) h ∙ ap (λ n. written (number gs) pos n before) (sym (add-one p))
+
+  pub lower-stored : q < p → set out p (getD out q (pos 0)) ≡ written (number gs) pos (p + 1) before
+  lower-stored l = store (ap (λ o. getD o q (pos 0)) inv ∙ written-read (number gs) pos p q before 0 l ∙ ap pos (sym (number-lower gs p (pass gs p) e l)))
+
+  pub own-stored : p ≤ q → set out p (pos p) ≡ written (number gs) pos (p + 1) before
+  own-stored l = store (ap pos (sym (number-own gs p (pass gs p) e l)))
+
+-- ---- the count
+pub own-kept : (numbers : List ℕ) (n : ℕ) → ownPlaces (map pos numbers) n ≡ kept numbers n
+own-kept numbers zero = refl
+own-kept numbers (suc n) =
+    ap (λ (z : ℤ). elim (isPlace z n) [ true ↦ suc (ownPlaces (map pos numbers) n) | false ↦ ownPlaces (map pos numbers) n ]) (List·getD-map pos numbers n 0)
+    ∙ ap (λ (r : ℕ). elim (eqb (getD numbers n 0) n) [ true ↦ suc r | false ↦ r ]) (own-kept numbers n)
+
+pub own-few : (l : List ℤ) (n : ℕ) → ownPlaces l n ≤ n
+own-few l zero = le-refl 0
+own-few l (suc n) = go (isPlace (getD l n (pos 0)) n) (own-few l n)
+  where
+    go : (t : Bool) → ownPlaces l n ≤ n → elim t [ true ↦ suc (ownPlaces l n) | false ↦ ownPlaces l n ] ≤ suc n
+    go true h = omega arith
+    go false h = omega arith
+
+pub own-classes : (d : Vec ℕ) (ps : Vec ℤ) (ms : List (Mat ℤ)) {l : List ℤ} → l ≡ map pos (classMap d ps ms) → (length l ≡ size d) × (ownPlaces l (length l) ≡ classes d ps ms)
+unfolding classMap classes
+own-classes d ps ms {l} e = (size-is, ap₂ ownPlaces e size-is ∙ own-kept (classMap d ps ms) (size d))
+  where
+    size-is : length l ≡ size d
+    size-is = ap length e ∙ length-map (classMap d ps ms) pos ∙ length-build (number (map (rotate d ps) ms)) (size d)
+
+module _ (l : List ℤ) (n : ℕ) where
+  next : (t : Bool) → isPlace (getD l n (pos 0)) n ≡ t → ownPlaces l (n + 1) ≡ elim t [ true ↦ suc (ownPlaces l n) | false ↦ ownPlaces l n ]
+  next t e = ap (ownPlaces l) (add-one n) ∙ ap (λ (t : Bool). elim t [ true ↦ suc (ownPlaces l n) | false ↦ ownPlaces l n ]) e
+
+  pub own-more : isPlace (getD l n (pos 0)) n ≡ true → ownPlaces l n + 1 ≡ ownPlaces l (n + 1)
+  own-more e = add-one (ownPlaces l n) ∙ sym (next true e)
+
+  pub own-same : isPlace (getD l n (pos 0)) n ≡ false → ownPlaces l n ≡ ownPlaces l (n + 1)
+  own-same e = sym (next false e)

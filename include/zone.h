@@ -36,6 +36,16 @@ int64_t zone_nint(double x);
 bool zone_is_finite(double x);
 double zone_to_f64(int64_t n);
 
+/* The distinct rotations of a list in order, transposed or not, and under time reversal their
+ * negatives after them unless the inversion is among them: out[432], 9 numbers each, then -1; told[1]
+ * is their count. reciprocal_rotations transposes. 7: over 48 distinct rotations; 8: over 24, and
+ * negatives to join; 13 and 3 as below. */
+int64_t zone_reciprocal_point_group(const int64_t *rotations, size_t rotations_len, bool time_reversal,
+                                    bool transpose, int64_t *out, size_t out_len, int64_t *told,
+                                    size_t told_len);
+int64_t zone_reciprocal_rotations(const int64_t *rotations, size_t rotations_len, bool time_reversal,
+                                  int64_t *out, size_t out_len, int64_t *told, size_t told_len);
+
 /* The grid with diagonal numbers d[3], N points. 13: a slice has another length, or rotations is not
  * a list of matrices; 3: a number is outside its limits.
  *

@@ -1,8 +1,8 @@
 -- The loops and tests of limits.
 use mathlib.Core.Path.{_≡_, sym, _∙_, ap, ap₂}
 use mathlib.Core.Bool.{Bool, true, false, _&&_}
-use mathlib.Core.List.{List}
-use Prim.Native.Nat.{ℕ, zero, suc, _+_, _<_, _≤_}
+use mathlib.Core.List.{List, [], _∷_}
+use Prim.Native.Nat.{ℕ, zero, suc, _+_, _<_, _≤_, zero-le}
 use native.Mathlib.Nat.{lt-of-le-of-lt}
 use native.Mathlib.Numerals.{add-one}
 use lib.Dec.{T, ltb, leb→le, ltb→lt, lit≤}
@@ -11,7 +11,7 @@ use lib.Signed.{leZ, mag}
 use lib.ListN.{length, getD, drop, drop-of-length-le}
 use lib.Seq.{drop-cons}
 use mir.Facts.{toZ-ofZ}
-use Rattle.integer.proofs.Test.{and-r}
+use Rattle.integer.proofs.Test.{and-l, and-r}
 use Rattle.integer.proofs.Size.{sfits-abs}
 use Rattle.integer.proofs.Fits.{held, held-is}
 use Rattle.integer.proofs.Plain.{Plain, plain, p-atom, plain-within}
@@ -38,6 +38,11 @@ module _ (k : ℕ) (l : List ℤ) (i : ℕ) (h : i < length l) where
 
 pub within-end : (k : ℕ) (l : List ℤ) (i : ℕ) → length l ≤ i → allWithin k (drop i l) ≡ true
 within-end k l i h = ap (allWithin k) (drop-of-length-le l h)
+
+pub entry-within : (k : ℕ) (l : List ℤ) → T (allWithin k l) → (n : ℕ) → natAbs (getD l n (pos 0)) ≤ k
+entry-within k [] t n = zero-le
+entry-within k (z ∷ l) t zero = leb→le (natAbs z) k (and-l (within k z) (allWithin k l) t)
+entry-within k (z ∷ l) t (suc n) = entry-within k l (and-r (within k z) (allWithin k l) t) n
 
 -- a diagonal number is at most 256
 pub side-size : (z : ℤ) → T (sideFits z) → natAbs z ≤ 256

@@ -7,13 +7,10 @@ use lib.Dec.{T}
 use Prim.Native.Nat.{ℕ, _+_}
 use Rattle.integer.proofs.Test.{and-l, and-r}
 use Rattle.integer.proofs.Polynomial.{Expr, var, con, add, sub, mul, neg, eval, agree, solve}
-use Rattle.common.specs.Matrix.{Axis, X, Y, Z, Vec, Mat, side, vector, entry, matrix, transpose, mapMat, Ops, productOver, applyOver, detOver, adjugateOver, diagonalOver, _·_, det, adjugate, diagonal, scalar, identity, negate, _▹_}
+use Rattle.common.specs.Matrix.{Axis, X, Y, Z, allAxes, Vec, Mat, side, vector, entry, matrix, entries, transpose, mapMat, Ops, productOver, applyOver, detOver, adjugateOver, diagonalOver, _·_, det, adjugate, diagonal, scalar, identity, negate, _▹_}
 
 -- ---- what holds at every place
-abbrev allAxes : (Axis → Bool) → Bool
-allAxes f = f X && (f Y && f Z)
-
-axes-of : (f : Axis → Bool) → T (allAxes f) → (k : Axis) → T (f k)
+pub axes-of : (f : Axis → Bool) → T (allAxes f) → (k : Axis) → T (f k)
 axes-of f t X = and-l (f X) (f Y && f Z) t
 axes-of f t Y = and-l (f Y) (f Z) (and-r (f X) (f Y && f Z) t)
 axes-of f t Z = and-r (f Y) (f Z) (and-r (f X) (f Y && f Z) t)
@@ -51,9 +48,6 @@ expressions = record { plus = add; minus = sub; times = mul; zero = con (pos 0) 
 -- the matrix of the nine numbers from place k
 abbrev pub atoms : ℕ → Mat Expr
 atoms k = record { a = var k; b = var (k + 1); c = var (k + 2); d = var (k + 3); e = var (k + 4); f = var (k + 5); g = var (k + 6); h = var (k + 7); i = var (k + 8) }
-
-abbrev pub entries : Mat ℤ → List ℤ → List ℤ
-entries m ρ = m .a ∷ m .b ∷ m .c ∷ m .d ∷ m .e ∷ m .f ∷ m .g ∷ m .h ∷ m .i ∷ ρ
 
 abbrev pub evalMat : Mat Expr → List ℤ → Mat ℤ
 evalMat m ρ = matrix (λ j k. eval (entry m j k) ρ)

@@ -5,7 +5,7 @@ use Prim.Native.Nat.{ℕ, _*_, _%_}
 use lib.Dec.{leb, eqb}
 use lib.IntN.{ℤ, pos, natAbs}
 use lib.ListN.{length}
-use lib.Signed.{leZ}
+use lib.Signed.{leZ, ltZ}
 use Rattle.common.specs.Array.{vectorOf, sidesOf}
 
 -- of size at most k
@@ -38,3 +38,7 @@ halfFits z = leZ (pos 0) z && leZ z (pos 1)
 
 abbrev pub shiftFits : List ℤ → Bool
 shiftFits ps = let v = vectorOf ps in halfFits (v .x) && (halfFits (v .y) && halfFits (v .z))
+
+-- one of n points
+abbrev pub pointFits : ℤ → ℤ → Bool
+pointFits q n = leZ (pos 0) q && ltZ q n

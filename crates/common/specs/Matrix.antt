@@ -1,5 +1,7 @@
 -- Vectors and 3 by 3 matrices over anything that has sums, differences and products: at ℤ they are what contracts speak of, at the ring solver's expressions
 -- what it computes with. Determinants and products add up in the Rust's order.
+use mathlib.Core.Bool.{Bool, _&&_}
+use mathlib.Core.List.{List, _∷_}
 use lib.IntN.{ℤ, pos, negℤ, _+ℤ_, _*ℤ_, _-ℤ_}
 
 pub data Axis : Type 0 where
@@ -10,6 +12,9 @@ abbrev pub next : Axis → Axis
 next X = Y
 next Y = Z
 next Z = X
+
+abbrev pub allAxes : (Axis → Bool) → Bool
+allAxes f = f X && (f Y && f Z)
 
 pub record Vec (R : Type 0) : Type 0 where
   pub x : R
@@ -52,6 +57,10 @@ module _ {R : Type 0} where
   abbrev pub matrix : (Axis → Axis → R) → Mat R
   matrix f = record { a = f X X; b = f X Y; c = f X Z; d = f Y X; e = f Y Y; f = f Y Z; g = f Z X; h = f Z Y; i = f Z Z }
 
+  -- by rows, before l
+  abbrev pub entries : Mat R → List R → List R
+  entries m l = m .a ∷ m .b ∷ m .c ∷ m .d ∷ m .e ∷ m .f ∷ m .g ∷ m .h ∷ m .i ∷ l
+
   abbrev pub transpose : Mat R → Mat R
   transpose m = matrix (λ j k. entry m k j)
 
@@ -69,11 +78,11 @@ pub record Ops (R : Type 0) : Type 0 where
 
 module _ {R : Type 0} (o : Ops R) where
   -- the determinant of rows j k and m n
-  abbrev cross : R → R → R → R → R
+  abbrev pub cross : R → R → R → R → R
   cross j k m n = o .minus (o .times j n) (o .times k m)
 
   -- of a row and a column
-  abbrev dot : (Axis → R) → (Axis → R) → R
+  abbrev pub dot : (Axis → R) → (Axis → R) → R
   dot u v = o .plus (o .plus (o .times (u X) (v X)) (o .times (u Y) (v Y))) (o .times (u Z) (v Z))
 
   abbrev pub productOver : Mat R → Mat R → Mat R

@@ -1,12 +1,19 @@
 // What the modules share: limits, refusals and the filling of outputs.
 mod array;
+mod float_matrix;
 mod limits;
 
 pub use array::matrix_at;
 pub use array::matvec_ii;
 pub use array::row_at;
+pub use float_matrix::det_d;
+pub use float_matrix::mat_i_to_d;
+pub use float_matrix::matmul_d;
+pub use float_matrix::matvec_dd;
+pub use float_matrix::matvec_id;
 pub use limits::all_within;
 pub use limits::diagonal_fits;
+pub use limits::point_fits;
 pub use limits::rotations_fit;
 pub use limits::shift_fits;
 pub use limits::whole_matrices;

@@ -4,7 +4,7 @@ ghost use mathlib.Core.Bool.{_&&_};
 ghost use Prim.Native.Nat.{_*_, _≤_};
 ghost use lib.Dec.{leb};
 ghost use lib.IntN.{natAbs};
-ghost use Rattle.common.specs.Limits.{within, allWithin, rotationsFit, wholeMatrices, sideFits, diagonalFits, halfFits, shiftFits};
+ghost use Rattle.common.specs.Limits.{within, allWithin, rotationsFit, wholeMatrices, sideFits, diagonalFits, halfFits, shiftFits, pointFits};
 
 pub fn within(z: i64, k: u64) -> bool
     ensures { λ r. ⌜ r ≡ within k z ⌝ }
@@ -84,4 +84,11 @@ pub fn shift_fits(ps: [i64; 3]) -> bool
     ensures { λ r. ⌜ r ≡ shiftFits ps ⌝ }
 {
     all_three(half_fits(ps[0]), half_fits(ps[1]), half_fits(ps[2]))
+}
+
+// q0, one of the grid's points.
+pub fn point_fits(q: i64, points: i64) -> bool
+    ensures { λ r. ⌜ r ≡ pointFits q points ⌝ }
+{
+    0 <= q && q < points
 }

@@ -2,7 +2,6 @@
 use mathlib.Core.Path.{_≡_, sym, _∙_, ap, subst}
 use mathlib.Core.List.{[], _∷_}
 use lib.IntN.{ℤ, pos, _+ℤ_, _*ℤ_, _-ℤ_, +ℤ-idl, +ℤ-idr}
-use lib.Signed.{quotZ}
 use lib.Dec.{lit<}
 use Prim.Native.Nat.{ℕ}
 use Rattle.integer.specs.Divides.{Congruent}
@@ -10,9 +9,9 @@ use Rattle.integer.proofs.Polynomial.{Expr, con, add, mul}
 use Rattle.integer.proofs.Reify.{ring, reify, zero-by, _∗_, _⊹_, eq-by}
 use Rattle.integer.proofs.Divides.{divides-quot}
 use Rattle.integer.proofs.Congruence.{congruent-by, congruent-is, congruent-refl, congruent-add}
-use Rattle.common.specs.Matrix.{Axis, X, Y, Z, Vec, Mat, side, vector, entry, mapVec, _·_, diagonal, identity, negate, _▹_}
-use Rattle.common.proofs.Matrix.{same-vector, at-entry, entries, sides, column, solveVec, 𝔸, 𝔹, _⊡_, applyE, diagonal-product, product-diagonal, negate-product, product-negate, apply-product, apply-identity}
-use Rattle.grgrid.specs.Grid.{size, index, address, double, halve, rotate}
+use Rattle.common.specs.Matrix.{Axis, X, Y, Z, Vec, Mat, side, vector, entry, mapVec, _·_, diagonal, identity, negate, _▹_, entries}
+use Rattle.common.proofs.Matrix.{same-vector, at-entry, sides, column, solveVec, 𝔸, 𝔹, _⊡_, applyE, diagonal-product, product-diagonal, negate-product, product-negate, apply-product, apply-identity}
+use Rattle.grgrid.specs.Grid.{size, index, address, double, half, halve, rotate}
 use Rattle.grgrid.proofs.Group.{Action}
 use Rattle.grgrid.proofs.Folding.{Sides, Agree, agree-by, index-lt, index-address, address-agree, same-index}
 
@@ -79,9 +78,9 @@ double-double : (a t ps : Vec ℤ) → double a (double t ps) ≡ double (moved 
 double-double a t ps = solveVec (sides a (sides t (sides ps []))) (doubleE (column 0) (doubleE (column 3) (column 6))) (doubleE (movedE (column 0) (column 3)) (column 6)) tt
 
 halve-double : (a ps : Vec ℤ) → halve (double a ps) ps ≡ a
-halve-double a ps = same-vector {f = λ k. quotZ (side a k *ℤ pos 2 +ℤ side ps k -ℤ side ps k) (pos 2)} {g = side a} (λ k. exact (side a k) (side ps k))
+halve-double a ps = same-vector {f = λ k. half (side a k *ℤ pos 2 +ℤ side ps k -ℤ side ps k)} {g = side a} (λ k. exact (side a k) (side ps k))
   where
-    exact : (x p : ℤ) → quotZ (x *ℤ pos 2 +ℤ p -ℤ p) (pos 2) ≡ x
+    exact : (x p : ℤ) → half (x *ℤ pos 2 +ℤ p -ℤ p) ≡ x
     exact x p = divides-quot {a = x *ℤ pos 2 +ℤ p -ℤ p} {d = pos 2} (lit< tt) (record { times = x; is = ring (x ∷ p ∷ []) (search reify depth 40) tt })
 
 module _ {ps : Vec ℤ} {M : Mat ℤ} (s : Shifts ps M) where

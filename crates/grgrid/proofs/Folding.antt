@@ -2,7 +2,7 @@
 use mathlib.Core.Path.{_≡_, refl, sym, _∙_, ap, subst}
 use lib.IntN.{ℤ, pos, negsuc, natAbs}
 use Prim.Native.Nat.{ℕ, zero, _+_, _*_, _-_, _/_, _%_, _<_}
-use native.Mathlib.Nat.{mod-lt, mod-eq-of-lt, div-add-mod', add-mul-mod-self-right, add-mul-div-right, div-eq-of-lt, div-lt-iff-lt-mul, mul-le-mul-right, mul-pos}
+use native.Mathlib.Nat.{mod-lt, mod-eq-of-lt, div-add-mod', add-mul-mod-self-right, mul-add-mod-self-right, div-eq-of-lt-le, div-lt-iff-lt-mul, mul-le-mul-right, mul-pos}
 use native.Mathlib.Omega.{arith}
 use Rattle.integer.specs.Division.{remEuclid}
 use Rattle.integer.specs.Divides.{Congruent}
@@ -40,6 +40,28 @@ place-digits d p =
     let whole : p ≡ p % m + p / m * d .y * d .x = omega (arith, div-add-mod' p m) in
     omega (arith, div-add-mod' p m, ap (λ (n : ℕ). n / d .x * d .x) less, ap (λ (n : ℕ). n % d .x) whole ∙ add-mul-mod-self-right (p % m) (p / m * d .y) (d .x), div-add-mod' (p % m) (d .x))
 
+module _ (d r : Vec ℕ) (hx : r .x < d .x) (hy : r .y < d .y) where
+  layer : r .y * d .x + r .x < d .x * d .y
+  layer = row-lt (d .x) (d .y) (r .x) (r .y) hx hy
+
+  high : place d r / (d .x * d .y) ≡ r .z
+  high = div-eq-of-lt-le (d .x * d .y) (omega (arith, layer)) (omega (arith, layer))
+
+  low : place d r % d .x ≡ r .x
+  low = ap (λ n. n % d .x) split ∙ mul-add-mod-self-right (r .z * d .y + r .y) (d .x) (r .x) ∙ mod-eq-of-lt hx
+    where
+      split : place d r ≡ (r .z * d .y + r .y) * d .x + r .x
+      split = omega arith
+
+  middle : (place d r - r .z * (d .x * d .y)) / d .x ≡ r .y
+  middle = ap (λ n. n / d .x) rest ∙ div-eq-of-lt-le (d .x) (omega arith) (omega arith)
+    where
+      rest : place d r - r .z * (d .x * d .y) ≡ r .y * d .x + r .x
+      rest = omega arith
+
+  pub digits-place : digits d (place d r) ≡ r
+  digits-place = λ i. record { x = low i; y = (ap (λ q. (place d r - q * (d .x * d .y)) / d .x) high ∙ middle) i; z = high i }
+
 module _ (d : Vec ℕ) (s : Sides d) where
   area : zero < d .x * d .y
   area = mul-pos (s .positive X) (s .positive Y)
@@ -52,26 +74,6 @@ module _ (d : Vec ℕ) (s : Sides d) where
       | Z ↦ div-lt-iff-lt-mul area .1 (omega arith)
     ];
   }
-
-  pub digits-place : (r : Vec ℕ) → Within d r → digits d (place d r) ≡ r
-  digits-place r w = same-vector {f = side (digits d (place d r))} {g = side r} (λ k. elim k as (λ k. side (digits d (place d r)) k ≡ side r k) [ X ↦ first | Y ↦ second | Z ↦ third ])
-    where
-      first : place d r % d .x ≡ r .x
-      first =
-          let e : place d r ≡ r .x + (r .z * d .y + r .y) * d .x = omega arith in
-          ap (λ (n : ℕ). n % d .x) e ∙ add-mul-mod-self-right (r .x) (r .z * d .y + r .y) (d .x) ∙ mod-eq-of-lt (w .inside X)
-
-      third : place d r / (d .x * d .y) ≡ r .z
-      third =
-          let e : place d r ≡ (r .y * d .x + r .x) + r .z * (d .x * d .y) = omega arith in
-          ap (λ (n : ℕ). n / (d .x * d .y)) e ∙ add-mul-div-right (r .y * d .x + r .x) (r .z) area
-          ∙ omega (arith, div-eq-of-lt (row-lt (d .x) (d .y) (r .x) (r .y) (w .inside X) (w .inside Y)))
-
-      second : (place d r - place d r / (d .x * d .y) * (d .x * d .y)) / d .x ≡ r .y
-      second =
-          let e : place d r - r .z * (d .x * d .y) ≡ r .x + r .y * d .x = omega arith in
-          ap (λ (q : ℕ). (place d r - q * (d .x * d .y)) / d .x) third ∙ ap (λ (n : ℕ). n / d .x) e ∙ add-mul-div-right (r .x) (r .y) (s .positive X)
-          ∙ omega (arith, div-eq-of-lt (w .inside X))
 
 -- ---- addresses that agree modulo d
 pub record Agree (d : Vec ℕ) (u v : Vec ℤ) : Type 0 where
@@ -102,7 +104,7 @@ module _ (d : Vec ℕ) (s : Sides d) where
   -- the address of an index has the remainders
   pub address-index : (a : Vec ℤ) → address d (index d a) ≡ mapVec pos (folded d a)
   unfolding index address
-  address-index a = ap (mapVec pos) (digits-place d s (folded d a) (folded-within a))
+  address-index a = let w = folded-within a in ap (mapVec pos) (digits-place d (folded d a) (w .inside X) (w .inside Y))
 
   pub folded-agree : (a : Vec ℤ) → Agree d (mapVec pos (folded d a)) a
   folded-agree a = agree-by (λ k. pos (fold (side a k) (side d k))) (side a) (λ k. fold-congruent (side a k) (side d k) (s .positive k))

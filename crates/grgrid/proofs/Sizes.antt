@@ -3,14 +3,14 @@ use mathlib.Core.List.{List, [], _∷_}
 use Prim.Native.Nat.{ℕ, zero, suc, _*_, _-_, _/_, _<_, _≤_}
 use native.Mathlib.Nat.{div-le-self, mod-le}
 use native.Mathlib.Omega.{arith}
-use lib.Dec.{T, leb→le}
+use lib.Dec.{T}
 use lib.IntN.{ℤ, pos, natAbs, _+ℤ_, _*ℤ_}
 use lib.ListN.{getD}
-use Rattle.integer.proofs.Test.{and-l, and-r}
 use Rattle.integer.proofs.Plain.{plain, p-atom, plain-within}
 use Rattle.common.specs.Matrix.{Vec}
+use Rattle.common.proofs.Bounds.{entry-within}
 use Rattle.common.specs.Array.{vectorOf, items, rows, matrixAt, Sized, SizedRows}
-use Rattle.common.specs.Limits.{within, allWithin}
+use Rattle.common.specs.Limits.{allWithin}
 use Rattle.grgrid.specs.Grid.{size, address, double}
 use Rattle.grgrid.specs.Sides.{GridFits}
 
@@ -47,11 +47,6 @@ pub point-sized : (d : Vec ℕ) → GridFits d → {s : List ℤ} → Sized 1 s 
 point-sized d f g p h = double-sized {a = items (address d p)} (address-sized d f p h) g
 
 -- ---- the entries of a list of rotations
-pub entry-within : (k : ℕ) (l : List ℤ) → T (allWithin k l) → (n : ℕ) → natAbs (getD l n (pos 0)) ≤ k
-entry-within k [] t n = omega arith
-entry-within k (z ∷ l) t zero = leb→le (natAbs z) k (and-l (within k z) (allWithin k l) t)
-entry-within k (z ∷ l) t (suc n) = entry-within k l (and-r (within k z) (allWithin k l) t) n
-
 pub rotation-sized : (k : ℕ) (l : List ℤ) → T (allWithin k l) → (n : ℕ) → SizedRows k (rows (matrixAt l n))
 rotation-sized k l t n = record { each = at }
   where

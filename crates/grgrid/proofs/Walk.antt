@@ -1,8 +1,8 @@
 -- The walk over the points by their remainders, and the addresses that it writes.
 use mathlib.Core.Path.{_≡_, refl, sym, _∙_, ap, ap₂}
 use mathlib.Core.List.{List, _++_, append-nil}
-use Prim.Native.Nat.{ℕ, zero, suc, _+_, _*_, _-_, _/_, _%_, _<_, _≤_}
-use native.Mathlib.Nat.{mul-le-mul-left, mul-le-mul-right, div-eq-of-lt-le, mod-eq-of-lt, mul-add-mod-self-right, lt-of-not-le, le-of-eq}
+use Prim.Native.Nat.{ℕ, zero, suc, _+_, _*_, _<_, _≤_}
+use native.Mathlib.Nat.{mul-le-mul-left, lt-of-not-le, le-of-eq}
 use native.Mathlib.Numerals.{add-one}
 use native.Mathlib.Omega.{arith}
 use lib.IntN.{ℤ, pos}
@@ -12,29 +12,6 @@ use Rattle.common.specs.Matrix.{Vec, mapVec}
 use Rattle.common.specs.Array.{items}
 use Rattle.grgrid.specs.Grid.{size, place, digits, address}
 use Rattle.grgrid.specs.Addresses.{addresses}
-
-module _ (d r : Vec ℕ) (hx : r .x < d .x) (hy : r .y < d .y) where
-  -- a layer holds the last two
-  layer : r .y * d .x + r .x < d .x * d .y
-  layer = omega (arith, mul-le-mul-right (d .x) hy)
-
-  high : place d r / (d .x * d .y) ≡ r .z
-  high = div-eq-of-lt-le (d .x * d .y) (omega (arith, layer)) (omega (arith, layer))
-
-  low : place d r % d .x ≡ r .x
-  low = ap (λ n. n % d .x) split ∙ mul-add-mod-self-right (r .z * d .y + r .y) (d .x) (r .x) ∙ mod-eq-of-lt hx
-    where
-      split : place d r ≡ (r .z * d .y + r .y) * d .x + r .x
-      split = omega arith
-
-  middle : (place d r - r .z * (d .x * d .y)) / d .x ≡ r .y
-  middle = ap (λ n. n / d .x) rest ∙ div-eq-of-lt-le (d .x) (omega arith) (omega arith)
-    where
-      rest : place d r - r .z * (d .x * d .y) ≡ r .y * d .x + r .x
-      rest = omega arith
-
-  pub digits-place : digits d (place d r) ≡ r
-  digits-place = λ i. record { x = low i; y = (ap (λ q. (place d r - q * (d .x * d .y)) / d .x) high ∙ middle) i; z = high i }
 
 pub layer-inside : (d r : Vec ℕ) → place d r < size d → r .z < d .z
 layer-inside d r h = lt-of-not-le (λ k. omega (arith, mul-le-mul-left (d .x * d .y) k))

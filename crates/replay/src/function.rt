@@ -1,5 +1,6 @@
 // The functions that have vectors, and one case of one.
 use crate::float_case;
+use crate::slice_case;
 use crate::text;
 use crate::text::Count;
 
@@ -65,6 +66,9 @@ fn judge_checked(function: usize, n: [i64; 5], count: usize) -> Verdict {
 }
 
 pub fn judge(function: usize, line: &[u8]) -> Verdict {
+    if function > float_case::TO_F64 {
+        return slice_case::judge_slices(function, line);
+    }
     let mut n = [0i64; 5];
     let Count::Read(count) = text::numbers(line, &mut n) else {
         return Verdict::Unread;

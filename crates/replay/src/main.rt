@@ -2,6 +2,7 @@
 // export, and prints how many cases there were and how many differ.
 mod float_case;
 mod function;
+mod slice_case;
 mod text;
 
 use function::Verdict;
@@ -98,4 +99,11 @@ fn main() {
     replay_file(float_case::NINT, b"nint");
     replay_file(float_case::IS_FINITE, b"is_finite");
     replay_file(float_case::TO_F64, b"to_f64");
+    replay_file(
+        slice_case::RECIPROCAL_POINT_GROUP,
+        b"reciprocal_point_group",
+    );
+    replay_file(slice_case::RECIPROCAL_ROTATIONS, b"reciprocal_rotations");
+    replay_file(slice_case::IR_GRID_MAP, b"ir_grid_map");
+    replay_file(slice_case::ALL_GRID_ADDRESSES, b"all_grid_addresses");
 }

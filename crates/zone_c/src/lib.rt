@@ -1,6 +1,7 @@
 // The exports for C and Rust. Each answers 0, or document 01's number of the refusal.
 mod floats;
 mod grid;
+mod recip;
 
 use common::Refusal;
 pub use floats::zone_abs;
@@ -15,6 +16,8 @@ pub use floats::zone_to_i64;
 pub use grid::zone_all_grid_addresses;
 pub use grid::zone_ir_grid_map;
 use integer::Checked;
+pub use recip::zone_reciprocal_point_group;
+pub use recip::zone_reciprocal_rotations;
 ghost use lib.IntN.{negℤ, _+ℤ_, _-ℤ_, _*ℤ_};
 ghost use lib.Signed.{quotZ, remZ};
 ghost use Rattle.integer.specs.Checked.{checked, divided};

@@ -7,7 +7,8 @@ use borrow.Author.Needs.{needs}
 use Rattle.common.specs.Matrix.{X, Y, Z}
 use Rattle.grgrid.specs.Grid.{size, place, digits}
 use Rattle.grgrid.specs.Sides.{sides, remainders}
-use Rattle.grgrid.proofs.Walk.{digits-place, layer-inside, listed, listed-more, listed-end}
+use Rattle.grgrid.proofs.Folding.{digits-place}
+use Rattle.grgrid.proofs.Walk.{layer-inside, listed, listed-more, listed-end}
 use Rattle.grgrid.proofs.write_addresses.Statement.{statement}
 use Rattle.grgrid.proofs.write_addresses.Tie as tie
 

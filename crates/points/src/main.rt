@@ -1,0 +1,68 @@
+// Runs the points of document 01 that are not proved, one a line.
+
+fn print_number(n: i64) {
+    if n < 0 {
+        io::write_all(1, b"-");
+    }
+    io::print_decimal(1, integer::unsigned_abs(n));
+}
+
+fn round(name: &[u8], x: f64) {
+    io::write_all(1, b"round ");
+    io::write_all(1, name);
+    io::write_all(1, b": ");
+    print_number(zone_c::zone_nint(x));
+    io::write_all(1, b"\n");
+}
+
+fn store(list: &mut [i64], at: usize, v: i64) {
+    if at < list.len() {
+        list[at] = v;
+    }
+}
+
+// Makes a list of 0s one of shears, no two alike.
+fn distinct(rotations: &mut [i64]) {
+    let mut at = 0;
+    while at + 9 <= rotations.len() {
+        store(rotations, at, 1);
+        store(rotations, at + 1, at as i64);
+        store(rotations, at + 4, 1);
+        store(rotations, at + 8, 1);
+        at += 9;
+    }
+}
+
+// The reciprocal point group of a list of distinct rotations: the answer, and the count told.
+fn reciprocal(name: &[u8], rotations: &mut [i64], time_reversal: bool) {
+    distinct(rotations);
+    let mut out = [0i64; 432];
+    let mut told = [0i64; 1];
+    let answer = zone_c::zone_reciprocal_point_group(
+        rotations,
+        time_reversal,
+        true,
+        &mut out,
+        &mut told,
+    );
+    io::write_all(1, name);
+    io::write_all(1, b": ");
+    print_number(answer);
+    io::write_all(1, b", count ");
+    print_number(told[0]);
+    io::write_all(1, b"\n");
+}
+
+fn main() {
+    round(b"2.5", 2.5);
+    round(b"-2.5", -2.5);
+    round(b"0.49999999999999994", 0.49999999999999994);
+    let mut list = [0i64; 432];
+    reciprocal(b"48 rotations", &mut list, false);
+    let mut list = [0i64; 441];
+    reciprocal(b"49 rotations", &mut list, false);
+    let mut list = [0i64; 216];
+    reciprocal(b"24 rotations, time reversal", &mut list, true);
+    let mut list = [0i64; 225];
+    reciprocal(b"25 rotations, time reversal", &mut list, true);
+}

@@ -1,0 +1,4 @@
+pub mod Unique
+pub mod Flat
+pub mod PointGroup
+pub mod Steps

@@ -3,6 +3,7 @@
 use std::fmt::{Debug, Write};
 
 use crate::random::Random;
+use crate::refusals::{ACCEPTED, REFUSED_PLACE};
 
 /// The ins of one call.
 pub trait Input: Debug + Sized {
@@ -55,9 +56,33 @@ impl Outputs {
         }
     }
 
-    /// Gives one of the slices a length that it should not have.
+    /// Slices of these lengths, and `told` of another.
+    pub fn slices(lengths: &[usize], told: usize) -> Outputs {
+        Outputs {
+            slices: lengths.iter().map(|&length| vec![0; length]).collect(),
+            told: vec![0; told],
+        }
+    }
+
+    /// The answer of a call that writes every place, or is refused by a number.
+    pub fn answer(
+        &mut self,
+        call: impl FnOnce(&mut [Vec<i64>], &mut [i64]) -> Result<(), i64>,
+    ) -> i64 {
+        let Err(refusal) = call(&mut self.slices, &mut self.told) else {
+            return ACCEPTED;
+        };
+        self.slices
+            .iter_mut()
+            .for_each(|slice| slice.fill(REFUSED_PLACE));
+        self.told.fill(REFUSED_PLACE);
+        refusal
+    }
+
+    /// Gives one of the slices a length that it should not have. A call that
+    /// tells nothing is not lent `told`.
     pub fn damage(&mut self, random: &mut Random) {
-        let chosen = random.below(self.slices.len() + 1);
+        let chosen = random.below(self.slices.len() + usize::from(!self.told.is_empty()));
         let slice = self.slices.get_mut(chosen).unwrap_or(&mut self.told);
         let length = slice.len();
         let wrong = [0, length.saturating_sub(1), length + 1, length + 2];

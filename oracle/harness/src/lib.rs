@@ -1,15 +1,16 @@
 //! The port beside the Rust: inputs, both sides of every exported function, and
 //! what the three commands do with them.
 //!
-//! A function is added by its declaration and wrapper in `port`, its Rust in
-//! `oracle`, and an implementation of `function::Function` with a line in
-//! `rows`.
+//! A function is added by its declaration and wrapper in `port`, and an
+//! implementation of `function::Function`, in a file named for its module, with
+//! a line in `rows`.
 
 pub mod arguments;
 pub mod bench;
 pub mod compare;
 pub mod floats;
 pub mod function;
+pub mod grgrid;
 pub mod inputs;
 pub mod integers;
 pub mod limits;
@@ -17,6 +18,8 @@ pub mod oracle;
 pub mod panics;
 pub mod port;
 pub mod random;
+pub mod recip_rotations;
 pub mod refusals;
 pub mod rows;
+pub mod tests;
 pub mod vectors;

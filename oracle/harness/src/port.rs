@@ -20,6 +20,38 @@ extern "C" {
     fn zone_nint(x: f64) -> i64;
     fn zone_is_finite(x: f64) -> bool;
     fn zone_to_f64(n: i64) -> f64;
+    fn zone_reciprocal_point_group(
+        rotations: *const i64,
+        rotations_len: usize,
+        time_reversal: bool,
+        transpose: bool,
+        out: *mut i64,
+        out_len: usize,
+        told: *mut i64,
+        told_len: usize,
+    ) -> i64;
+    fn zone_reciprocal_rotations(
+        rotations: *const i64,
+        rotations_len: usize,
+        time_reversal: bool,
+        out: *mut i64,
+        out_len: usize,
+        told: *mut i64,
+        told_len: usize,
+    ) -> i64;
+    fn zone_ir_grid_map(
+        rotations: *const i64,
+        rotations_len: usize,
+        d: *const i64,
+        d_len: usize,
+        ps: *const i64,
+        ps_len: usize,
+        map: *mut i64,
+        map_len: usize,
+        told: *mut i64,
+        told_len: usize,
+    ) -> i64;
+    fn zone_all_grid_addresses(d: *const i64, d_len: usize, out: *mut i64, out_len: usize) -> i64;
 }
 
 pub fn checked_add(a: i64, b: i64, told: &mut [i64]) -> i64 {
@@ -88,4 +120,71 @@ pub fn is_finite(x: f64) -> bool {
 
 pub fn to_f64(n: i64) -> f64 {
     unsafe { zone_to_f64(n) }
+}
+
+pub fn reciprocal_point_group(
+    rotations: &[i64],
+    time_reversal: bool,
+    transpose: bool,
+    out: &mut [i64],
+    told: &mut [i64],
+) -> i64 {
+    unsafe {
+        zone_reciprocal_point_group(
+            rotations.as_ptr(),
+            rotations.len(),
+            time_reversal,
+            transpose,
+            out.as_mut_ptr(),
+            out.len(),
+            told.as_mut_ptr(),
+            told.len(),
+        )
+    }
+}
+
+pub fn reciprocal_rotations(
+    rotations: &[i64],
+    time_reversal: bool,
+    out: &mut [i64],
+    told: &mut [i64],
+) -> i64 {
+    unsafe {
+        zone_reciprocal_rotations(
+            rotations.as_ptr(),
+            rotations.len(),
+            time_reversal,
+            out.as_mut_ptr(),
+            out.len(),
+            told.as_mut_ptr(),
+            told.len(),
+        )
+    }
+}
+
+pub fn ir_grid_map(
+    rotations: &[i64],
+    d: &[i64],
+    ps: &[i64],
+    map: &mut [i64],
+    told: &mut [i64],
+) -> i64 {
+    unsafe {
+        zone_ir_grid_map(
+            rotations.as_ptr(),
+            rotations.len(),
+            d.as_ptr(),
+            d.len(),
+            ps.as_ptr(),
+            ps.len(),
+            map.as_mut_ptr(),
+            map.len(),
+            told.as_mut_ptr(),
+            told.len(),
+        )
+    }
+}
+
+pub fn all_grid_addresses(d: &[i64], out: &mut [i64]) -> i64 {
+    unsafe { zone_all_grid_addresses(d.as_ptr(), d.len(), out.as_mut_ptr(), out.len()) }
 }

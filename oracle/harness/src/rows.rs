@@ -3,7 +3,9 @@
 use crate::bench::{self, Times};
 use crate::floats::*;
 use crate::function::Function;
+use crate::grgrid::*;
 use crate::integers::*;
+use crate::recip_rotations::*;
 use crate::{compare, vectors};
 
 /// What the commands do with one function.
@@ -45,4 +47,8 @@ pub static ROWS: &[Row] = &[
     Row::of::<Nint>(),
     Row::of::<IsFinite>(),
     Row::of::<ToF64>(),
+    Row::of::<ReciprocalPointGroup>(),
+    Row::of::<ReciprocalRotations>(),
+    Row::of::<IrGridMap>(),
+    Row::of::<AllGridAddresses>(),
 ];

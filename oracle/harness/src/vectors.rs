@@ -4,14 +4,21 @@
 use crate::function::{Function, Input, Line};
 use crate::random::Random;
 
-/// Cases of each function: those at the limits, filled up with random ones.
+/// Cases of each function: those at the limits, filled up with random ones as
+/// far as the file has room.
 const CASES: usize = 64;
 
-/// A line is at most this long, the line feed among it.
-const LINE_BYTES: usize = 4_000;
-
-/// The replaying program reads a file that is shorter than this.
+/// What the replaying program holds: a line, so that it has under 4,096 numbers;
+/// the places of an output; a file, which is shorter than this.
+const LINE_BYTES: usize = 8_000;
+const PLACES: usize = 8_192;
 const FILE_BYTES: usize = 65_536;
+
+/// Bytes of a file's first line, at most.
+const HEAD_BYTES: usize = 64;
+
+/// An output of more places stands as their sum.
+const LISTED: usize = 432;
 
 /// The text of a function's file.
 pub fn text(seed: u64, lines: &[String]) -> String {
@@ -22,37 +29,61 @@ pub fn text(seed: u64, lines: &[String]) -> String {
 
 pub fn lines<F: Function>(seed: u64) -> Vec<String> {
     let mut random = Random::new(seed);
-    let mut lines: Vec<String> = F::Input::at_limits().iter().map(line::<F>).collect();
-    let all_fit = lines.iter().all(|line| fits(line));
-    assert!(all_fit, "a line of {} is too long", F::NAME);
-    while lines.len() < CASES {
-        let line = line::<F>(&F::Input::random(&mut random));
-        if fits(&line) && !lines.contains(&line) {
-            lines.push(line);
+    let at_limits = F::Input::at_limits();
+    let mut lines: Vec<String> = at_limits.iter().filter_map(line::<F>).collect();
+    let mut room = FILE_BYTES - HEAD_BYTES;
+    lines.iter().for_each(|line| room -= line.len() + 1);
+    for _ in lines.len()..CASES {
+        let line = loop {
+            let line = line::<F>(&F::Input::random(&mut random));
+            if let Some(line) = line.filter(|line| !lines.contains(line)) {
+                break line;
+            }
+        };
+        if room <= line.len() {
+            break;
         }
+        room -= line.len() + 1;
+        lines.push(line);
     }
     lines
 }
 
-fn fits(line: &str) -> bool {
-    line.len() < LINE_BYTES
-}
-
-/// The ins, the answer, the slices, and what was told.
-fn line<F: Function>(input: &F::Input) -> String {
+/// The ins, the answer, the slices, and what was told, if the replaying program
+/// can hold it.
+fn line<F: Function>(input: &F::Input) -> Option<String> {
     let mut outputs = F::outputs(input);
+    if outputs.slices.iter().any(|slice| slice.len() > PLACES) {
+        return None;
+    }
     let answer = F::oracle(input, &mut outputs);
     let mut line = Line::default();
     input.write(&mut line);
     line.number(answer);
-    outputs.slices.iter().for_each(|slice| line.slice(slice));
+    for slice in &outputs.slices {
+        if slice.len() > LISTED {
+            line.numbers(&[slice.len() as i64, sum(slice)]);
+        } else {
+            line.slice(slice);
+        }
+    }
     line.numbers(&outputs.told);
-    line.text()
+    let text = line.text();
+    (text.len() < LINE_BYTES).then_some(text)
+}
+
+/// A sum that every place, its sign and its value bear on.
+fn sum(places: &[i64]) -> i64 {
+    const MODULUS: u64 = 1_000_003;
+    let term = |place: &i64| place.unsigned_abs() % MODULUS * 2 + u64::from(*place < 0);
+    let add = |sum: u64, place| (sum * 31 + term(place)) % MODULUS;
+    places.iter().fold(0, add) as i64
 }
 
 #[cfg(test)]
 mod tests {
     use super::*;
+    use crate::grgrid::AllGridAddresses;
     use crate::integers::{CheckedMul, CheckedRem};
 
     #[test]
@@ -68,6 +99,22 @@ mod tests {
     #[test]
     fn refusals_are_among_them() {
         assert!(lines::<CheckedRem>(1).contains(&"-9223372036854775808 -1 4 -1".into()));
+    }
+
+    #[test]
+    fn sums() {
+        assert_eq!(sum(&[]), 0);
+        assert_eq!(sum(&[1, 0]), 62);
+        assert_eq!(sum(&[0, 1]), 2);
+        assert_eq!(sum(&[-1]), 3);
+    }
+
+    #[test]
+    fn large_outputs_stand_as_sums() {
+        let lines = lines::<AllGridAddresses>(1);
+        let large = |line: &&String| line.starts_with("3 13 14 15 0 8190 ");
+        let numbers = lines.iter().find(large).map(|line| line.split(' ').count());
+        assert_eq!(numbers, Some(7));
     }
 
     #[test]

@@ -8,6 +8,24 @@ use crate::random::Random;
 /// The shapes of the largest grids.
 const LARGEST: [Vec3I; 4] = [[256, 256, 1], [256, 128, 2], [256, 16, 16], [64, 32, 32]];
 
+/// Diagonals at the limits and past them.
+pub const AT_LIMITS: [Vec3I; 14] = [
+    [1, 1, 1],
+    [2, 3, 5],
+    [256, 1, 1],
+    [13, 14, 15],
+    [32, 16, 16],
+    [256, 256, 1],
+    [1, 256, 256],
+    [40, 40, 40],
+    [41, 40, 40],
+    [256, 256, 2],
+    [257, 1, 1],
+    [1, 0, 1],
+    [1, 1, -1],
+    [i64::MIN, i64::MAX, 4],
+];
+
 /// A diagonal within the limits. Small ones are cheap and meet the most cases,
 /// so they are the rule.
 pub fn diagonal(random: &mut Random) -> Vec3I {

@@ -6,7 +6,8 @@ use std::sync::LazyLock;
 use phonors::common::{matmul_i, MatI, IDENTITY, INVERSION};
 
 use crate::inputs::matrices::{self, elementary, is_within, Elementary};
-use crate::limits::ROTATIONS;
+use crate::inputs::numbers;
+use crate::limits::{RECIPROCAL_ROTATIONS, ROTATIONS, ROTATION_ENTRY};
 use crate::random::Random;
 
 /// The 48 signed permutation matrices.
@@ -99,6 +100,70 @@ pub fn damaged(random: &mut Random, mut list: Vec<MatI>, size: i64) -> Vec<MatI>
     list
 }
 
+/// The list as it is lent: by rows.
+pub fn flat(list: &[MatI]) -> Vec<i64> {
+    list.as_flattened().as_flattened().to_vec()
+}
+
+/// A lent list of any kind: a group, nearly one or none, some of them outside the
+/// limits or of a wrong length.
+pub fn lent(random: &mut Random) -> Vec<i64> {
+    let size = random.pick(&[1, 10, 100, ROTATION_ENTRY]);
+    let rotations = match random.below(10) {
+        0 => list(random, size),
+        1..=3 => {
+            let group = group(random, size);
+            damaged(random, group, size)
+        }
+        _ => group(random, size),
+    };
+    let mut numbers = flat(&rotations);
+    match random.below(100) {
+        0 => drop(numbers.pop()),
+        1 => numbers.push(1),
+        2 => numbers.resize(9 * (ROTATIONS + 1), 1),
+        3 if !numbers.is_empty() => {
+            let chosen = random.below(numbers.len());
+            numbers[chosen] = numbers::outside(random, ROTATION_ENTRY);
+        }
+        _ => {}
+    }
+    numbers
+}
+
+/// Lent lists at the limits of their length and entries, and past them.
+pub fn lent_at_limits() -> Vec<Vec<i64>> {
+    let mut last = flat(&[IDENTITY, INVERSION]);
+    last[17] = -ROTATION_ENTRY - 1;
+    vec![
+        vec![],
+        vec![1; 8],
+        vec![1; 10],
+        vec![ROTATION_ENTRY; 9],
+        vec![ROTATION_ENTRY + 1; 9],
+        vec![i64::MIN; 9],
+        last,
+        vec![0; 9 * ROTATIONS],
+        vec![0; 9 * (ROTATIONS + 1)],
+    ]
+}
+
+/// Lists of distinct matrices about the counts that the reciprocal calls hold,
+/// without the inversion and with it in the last place.
+pub fn distinct_at_limits() -> Vec<Vec<i64>> {
+    let mut lists = Vec::new();
+    for count in [RECIPROCAL_ROTATIONS / 2, RECIPROCAL_ROTATIONS] {
+        for count in [count, count + 1] {
+            let number = |k| [[k as i64, 1, 2], [0, 1, 0], [0, 0, 1]];
+            let mut list: Vec<MatI> = (0..count).map(number).collect();
+            lists.push(flat(&list));
+            list[count - 1] = INVERSION;
+            lists.push(flat(&list));
+        }
+    }
+    lists
+}
+
 #[cfg(test)]
 mod tests {
     use phonors::common::det_i;
@@ -160,6 +225,32 @@ mod tests {
         let lengths: Vec<usize> = lists.iter().map(Vec::len).collect();
         assert_eq!(lengths.iter().min(), Some(&0));
         assert_eq!(lengths.iter().max(), Some(&ROTATIONS));
+    }
+
+    #[test]
+    fn lent_lists_of_every_kind() {
+        let mut random = Random::new(1);
+        let lists: Vec<_> = (0..2000).map(|_| lent(&mut random)).collect();
+        let longest = 9 * ROTATIONS;
+        let fits = |list: &&Vec<i64>| {
+            let small = |number: &i64| (-ROTATION_ENTRY..=ROTATION_ENTRY).contains(number);
+            list.len() % 9 == 0 && list.len() <= longest && list.iter().all(small)
+        };
+        assert!(lists.iter().filter(fits).count() > 1800);
+        assert!(lists.iter().any(|list| list.len() % 9 != 0));
+        assert!(lists.iter().any(|list| list.len() > longest));
+        assert!(lists
+            .iter()
+            .flatten()
+            .any(|number| !(-ROTATION_ENTRY..=ROTATION_ENTRY).contains(number)));
+    }
+
+    #[test]
+    fn distinct_lists_are_distinct() {
+        for list in distinct_at_limits() {
+            let rotations: Vec<_> = list.chunks_exact(9).collect();
+            assert!((1..rotations.len()).all(|i| !rotations[..i].contains(&rotations[i])));
+        }
     }
 
     #[test]

@@ -4,5 +4,6 @@ pub mod floats;
 pub mod grids;
 pub mod groups;
 pub mod lattices;
+pub mod lent;
 pub mod matrices;
 pub mod numbers;

@@ -1,0 +1,31 @@
+//! Slices as a caller lends them, now and then of a wrong length.
+
+use crate::random::Random;
+
+/// Once in so many cases.
+const WRONG: usize = 100;
+
+/// The numbers of a slice of fixed length.
+pub fn fixed(random: &mut Random, numbers: &[i64]) -> Vec<i64> {
+    let mut slice = numbers.to_vec();
+    if random.one_in(WRONG) {
+        let wrong = [0, slice.len() - 1, slice.len() + 1];
+        slice.resize(random.pick(&wrong), 1);
+    }
+    slice
+}
+
+#[cfg(test)]
+mod tests {
+    use super::*;
+
+    #[test]
+    fn most_lengths_are_right() {
+        let mut random = Random::new(1);
+        let lengths: Vec<usize> = (0..2000)
+            .map(|_| fixed(&mut random, &[7, 8, 9]).len())
+            .collect();
+        assert!([0, 2, 3, 4].iter().all(|length| lengths.contains(length)));
+        assert!(lengths.iter().filter(|&&length| length == 3).count() > 1900);
+    }
+}

@@ -1,0 +1,137 @@
+//! The functions of recip_rotations.
+
+use phonors::common::MatI;
+use phonors::recip_rotations::{
+    get_reciprocal_point_group, reciprocal_rotations, ReciprocalRotationsError,
+};
+
+use crate::function::{Function, Input, Line, Outputs};
+use crate::inputs::groups::{self, CUBIC};
+use crate::limits::{RECIPROCAL_ROTATIONS, ROTATION_ENTRY};
+use crate::panics::counted;
+use crate::random::Random;
+use crate::refusals::{REFUSED_PLACE, TOO_MANY_FOR_INVERSION, TOO_MANY_ROTATIONS};
+use crate::{port, tests};
+
+/// Places of the list that is answered.
+const PLACES: usize = 9 * RECIPROCAL_ROTATIONS;
+
+/// A list of rotations and flags.
+#[derive(Debug)]
+pub struct ListInput<const FLAGS: usize> {
+    rotations: Vec<i64>,
+    flags: [bool; FLAGS],
+}
+
+impl<const FLAGS: usize> Input for ListInput<FLAGS> {
+    fn at_limits() -> Vec<Self> {
+        let input = |rotations, flag| ListInput {
+            rotations,
+            flags: [flag; FLAGS],
+        };
+        let lent = groups::lent_at_limits().into_iter();
+        let mut inputs: Vec<Self> = lent.map(|list| input(list, false)).collect();
+        for list in groups::distinct_at_limits() {
+            inputs.push(input(list.clone(), false));
+            inputs.push(input(list, true));
+        }
+        inputs
+    }
+
+    fn random(random: &mut Random) -> Self {
+        ListInput {
+            rotations: groups::lent(random),
+            flags: [(); FLAGS].map(|()| random.coin()),
+        }
+    }
+
+    fn typical(random: &mut Random) -> Self {
+        ListInput {
+            rotations: groups::flat(&CUBIC),
+            flags: [(); FLAGS].map(|()| random.coin()),
+        }
+    }
+
+    fn write(&self, line: &mut Line) {
+        line.slice(&self.rotations);
+        self.flags.iter().for_each(|&flag| line.number(flag.into()));
+    }
+}
+
+/// Tests the call, makes it, and hands its list over.
+fn answer(
+    rotations: &[i64],
+    outputs: &mut Outputs,
+    call: impl FnOnce(&[MatI]) -> Result<Vec<MatI>, ReciprocalRotationsError>,
+) -> i64 {
+    outputs.answer(|slices, told| {
+        let rotations = tests::matrices(rotations)?;
+        tests::length(slices[0].len() == PLACES && told.len() == 1)?;
+        tests::limit(tests::rotations_fit(&rotations, ROTATION_ENTRY))?;
+        let list = counted(|| call(&rotations))?.map_err(|error| match error {
+            ReciprocalRotationsError::TooManyRotations => TOO_MANY_ROTATIONS,
+            ReciprocalRotationsError::TooManyForInversion => TOO_MANY_FOR_INVERSION,
+        })?;
+        let numbers = list.as_flattened().as_flattened();
+        slices[0].fill(REFUSED_PLACE);
+        slices[0][..numbers.len()].copy_from_slice(numbers);
+        told[0] = list.len() as i64;
+        Ok(())
+    })
+}
+
+pub struct ReciprocalPointGroup;
+
+impl Function for ReciprocalPointGroup {
+    const NAME: &'static str = "reciprocal_point_group";
+
+    type Input = ListInput<2>;
+
+    fn outputs(_: &Self::Input) -> Outputs {
+        Outputs::slices(&[PLACES], 1)
+    }
+
+    fn port(input: &Self::Input, outputs: &mut Outputs) -> i64 {
+        let [time_reversal, transpose] = input.flags;
+        let Outputs { slices, told } = outputs;
+        port::reciprocal_point_group(
+            &input.rotations,
+            time_reversal,
+            transpose,
+            &mut slices[0],
+            told,
+        )
+    }
+
+    fn oracle(input: &Self::Input, outputs: &mut Outputs) -> i64 {
+        let [time_reversal, transpose] = input.flags;
+        answer(&input.rotations, outputs, |rotations| {
+            get_reciprocal_point_group(rotations, time_reversal, transpose)
+        })
+    }
+}
+
+pub struct ReciprocalRotations;
+
+impl Function for ReciprocalRotations {
+    const NAME: &'static str = "reciprocal_rotations";
+
+    type Input = ListInput<1>;
+
+    fn outputs(_: &Self::Input) -> Outputs {
+        Outputs::slices(&[PLACES], 1)
+    }
+
+    fn port(input: &Self::Input, outputs: &mut Outputs) -> i64 {
+        let [time_reversal] = input.flags;
+        let Outputs { slices, told } = outputs;
+        port::reciprocal_rotations(&input.rotations, time_reversal, &mut slices[0], told)
+    }
+
+    fn oracle(input: &Self::Input, outputs: &mut Outputs) -> i64 {
+        let [time_reversal] = input.flags;
+        answer(&input.rotations, outputs, |rotations| {
+            reciprocal_rotations(rotations, time_reversal)
+        })
+    }
+}

@@ -1,0 +1,77 @@
+//! The tests of document 01 that come before a call of the library, as results:
+//! the value, or the number of the refusal.
+
+use phonors::common::{MatI, Vec3I};
+
+use crate::inputs::matrices::is_within;
+use crate::limits::{DIAGONAL, POINTS, ROTATIONS};
+use crate::refusals::{OUTSIDE_LIMITS, WRONG_LENGTH};
+
+/// Lengths that are wrong.
+pub fn length(holds: bool) -> Result<(), i64> {
+    holds.then_some(()).ok_or(WRONG_LENGTH)
+}
+
+/// Numbers outside the limits.
+pub fn limit(holds: bool) -> Result<(), i64> {
+    holds.then_some(()).ok_or(OUTSIDE_LIMITS)
+}
+
+/// A slice of a fixed length.
+pub fn fixed<const N: usize>(slice: &[i64]) -> Result<[i64; N], i64> {
+    slice.try_into().map_err(|_| WRONG_LENGTH)
+}
+
+/// A lent list of matrices, by rows.
+pub fn matrices(list: &[i64]) -> Result<Vec<MatI>, i64> {
+    length(list.len() % 9 == 0)?;
+    let matrix = |m: &[i64]| [0, 3, 6].map(|row| [m[row], m[row + 1], m[row + 2]]);
+    Ok(list.chunks_exact(9).map(matrix).collect())
+}
+
+pub fn rotations_fit(list: &[MatI], size: i64) -> bool {
+    list.len() <= ROTATIONS && list.iter().all(|rotation| is_within(rotation, size))
+}
+
+/// The number of points of a diagonal within the limits.
+pub fn points(d: Vec3I) -> Result<usize, i64> {
+    limit(d.iter().all(|number| (1..=DIAGONAL).contains(number)))?;
+    let points: i64 = d.iter().product();
+    limit(points <= POINTS)?;
+    Ok(points as usize)
+}
+
+pub fn shift_fits(ps: Vec3I) -> bool {
+    ps.iter().all(|number| [0, 1].contains(number))
+}
+
+#[cfg(test)]
+mod tests {
+    use super::*;
+
+    #[test]
+    fn lists_of_matrices() {
+        assert_eq!(matrices(&[]), Ok(vec![]));
+        assert_eq!(matrices(&[0; 10]), Err(13));
+        let two: Vec<i64> = (1..=18).collect();
+        let last = [[10, 11, 12], [13, 14, 15], [16, 17, 18]];
+        assert_eq!(matrices(&two).unwrap()[1], last);
+        assert!(rotations_fit(&[[[-5; 3]; 3]; 192], 5));
+        assert!(!rotations_fit(&[[[0; 3]; 3]; 193], 5));
+        assert!(!rotations_fit(&[[[6; 3]; 3]], 5));
+    }
+
+    #[test]
+    fn diagonals() {
+        assert_eq!(points([256, 256, 1]), Ok(65_536));
+        assert_eq!(points([256, 256, 2]), Err(3));
+        assert_eq!(points([257, 1, 1]), Err(3));
+        assert_eq!(points([i64::MAX, i64::MAX, 0]), Err(3));
+    }
+
+    #[test]
+    fn lengths() {
+        assert_eq!(fixed(&[1, 2, 3]), Ok([1, 2, 3]));
+        assert_eq!(fixed::<3>(&[1, 2]), Err(13));
+    }
+}

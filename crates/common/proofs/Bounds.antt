@@ -5,7 +5,7 @@ use mathlib.Core.List.{List, [], _∷_}
 use Prim.Native.Nat.{ℕ, zero, suc, _+_, _<_, _≤_, zero-le}
 use native.Mathlib.Nat.{lt-of-le-of-lt}
 use native.Mathlib.Numerals.{add-one}
-use lib.Dec.{T, ltb, leb→le, ltb→lt, lit≤}
+use lib.Dec.{T, ltb, leb→le, le→leb, ltb→lt, lit≤}
 use lib.IntN.{ℤ, pos, negsuc, natAbs}
 use lib.Signed.{leZ, mag}
 use lib.ListN.{length, getD, drop, drop-of-length-le}
@@ -15,16 +15,11 @@ use Rattle.integer.proofs.Test.{and-l, and-r}
 use Rattle.integer.proofs.Size.{sfits-abs}
 use Rattle.integer.proofs.Fits.{held, held-is}
 use Rattle.integer.proofs.Plain.{Plain, plain, p-atom, plain-within}
-use Rattle.common.specs.Matrix.{_▹_}
+use Rattle.common.proofs.Matrix.{axes-of, all-axes}
+use Rattle.common.proofs.Tests.{first-holds, first-fails}
+use Rattle.common.specs.Matrix.{Axis, Mat, entry, allAxes, _▹_}
 use Rattle.common.specs.Array.{vectorOf, items, matrixOf, dotOf, Sized, SizedRows}
-use Rattle.common.specs.Limits.{within, allWithin, sideFits}
-
--- a test of two parts, of which the first is known
-pub first-holds : {a : Bool} (b : Bool) → a ≡ true → b ≡ a && b
-first-holds b e = sym (ap (λ t. t && b) e)
-
-pub first-fails : {a : Bool} (b : Bool) → a ≡ false → false ≡ a && b
-first-fails b e = sym (ap (λ t. t && b) e)
+use Rattle.common.specs.Limits.{within, allWithin, matrixWithin, sideFits}
 
 module _ (k : ℕ) (l : List ℤ) (i : ℕ) (h : i < length l) where
   at-place : allWithin k (drop i l) ≡ within k (getD l i (pos 0)) && allWithin k (drop (suc i) l)
@@ -44,7 +39,17 @@ entry-within k [] t n = zero-le
 entry-within k (z ∷ l) t zero = leb→le (natAbs z) k (and-l (within k z) (allWithin k l) t)
 entry-within k (z ∷ l) t (suc n) = entry-within k l (and-r (within k z) (allWithin k l) t) n
 
--- a diagonal number is at most 256
+pub matrix-sizes : (n : ℕ) (m : Mat ℤ) → T (matrixWithin n m) → (j k : Axis) → natAbs (entry m j k) ≤ n
+matrix-sizes n m t j k = leb→le (natAbs (entry m j k)) n (axes-of (λ k. within n (entry m j k)) (axes-of (λ j. allAxes (λ k. within n (entry m j k))) t j) k)
+
+pub sizes-within : (n : ℕ) (m : Mat ℤ) → ((j k : Axis) → natAbs (entry m j k) ≤ n) → T (matrixWithin n m)
+sizes-within n m h = all-axes (λ j. allAxes (λ k. within n (entry m j k))) (λ j. all-axes (λ k. within n (entry m j k)) (λ k. le→leb (natAbs (entry m j k)) n (h j k)))
+
+-- a diagonal number is 1 to 256
+pub side-positive : (z : ℤ) → T (sideFits z) → 0 < natAbs z
+side-positive (pos n) t = leb→le 1 n (and-l (leZ (pos 1) (pos n)) (leZ (pos n) (pos 256)) t)
+side-positive (negsuc n) t = absurd t
+
 pub side-size : (z : ℤ) → T (sideFits z) → natAbs z ≤ 256
 side-size (pos n) t = leb→le n 256 (and-r (leZ (pos 1) (pos n)) (leZ (pos n) (pos 256)) t)
 side-size (negsuc n) t = absurd t

@@ -3,4 +3,7 @@ pub mod Unimodular
 pub mod Filled
 pub mod Bounds
 pub mod Tests
+pub mod Whole
+pub mod Nine
+pub mod Reading
 mod Examples

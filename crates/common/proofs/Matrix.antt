@@ -5,7 +5,7 @@ use mathlib.Core.List.{List, [], _∷_}
 use lib.IntN.{ℤ, pos, negℤ, _*ℤ_}
 use lib.Dec.{T}
 use Prim.Native.Nat.{ℕ, _+_}
-use Rattle.integer.proofs.Test.{and-l, and-r}
+use Rattle.integer.proofs.Test.{and-l, and-r, and-in}
 use Rattle.integer.proofs.Polynomial.{Expr, var, con, add, sub, mul, neg, eval, agree, solve}
 use Rattle.common.specs.Matrix.{Axis, X, Y, Z, allAxes, Vec, Mat, side, vector, entry, matrix, entries, transpose, mapMat, Ops, productOver, applyOver, detOver, adjugateOver, diagonalOver, _·_, det, adjugate, diagonal, scalar, identity, negate, _▹_}
 
@@ -14,6 +14,9 @@ pub axes-of : (f : Axis → Bool) → T (allAxes f) → (k : Axis) → T (f k)
 axes-of f t X = and-l (f X) (f Y && f Z) t
 axes-of f t Y = and-l (f Y) (f Z) (and-r (f X) (f Y && f Z) t)
 axes-of f t Z = and-r (f Y) (f Z) (and-r (f X) (f Y && f Z) t)
+
+pub all-axes : (f : Axis → Bool) → ((k : Axis) → T (f k)) → T (allAxes f)
+all-axes f h = and-in (f X) (f Y && f Z) (h X) (and-in (f Y) (f Z) (h Y) (h Z))
 
 module _ {R : Type 0} where
   pub same-vector : {f g : Axis → R} → ((k : Axis) → f k ≡ g k) → vector f ≡ vector g

@@ -1,6 +1,6 @@
 -- Laws of a chain of tests.
-use mathlib.Core.Path.{_≡_, refl, sym, _∙_}
-use mathlib.Core.Bool.{Bool, true, false, not}
+use mathlib.Core.Path.{_≡_, refl, sym, _∙_, ap}
+use mathlib.Core.Bool.{Bool, true, false, not, _&&_}
 use Prim.Native.Nat.{ℕ}
 use native.Mathlib.Omega.{arith}
 use borrow.Author.Tests.{not-true, not-false}
@@ -9,6 +9,13 @@ use Rattle.common.specs.declared.Tested.{Tested}
 use Rattle.common.specs.declared.Tested.the-variants.{Accepted}
 use Rattle.common.specs.Tested.{require}
 
+-- a test of two parts, of which the first is known
+pub first-holds : {a : Bool} (b : Bool) → a ≡ true → b ≡ a && b
+first-holds b e = sym (ap (λ t. t && b) e)
+
+pub first-fails : {a : Bool} (b : Bool) → a ≡ false → false ≡ a && b
+first-fails b e = sym (ap (λ t. t && b) e)
+
 -- what a call that tests says of its test
 module _ {r t : Bool} (e : r ≡ t) where
   pub yes : not r ≡ false → t ≡ true
@@ -16,6 +23,13 @@ module _ {r t : Bool} (e : r ≡ t) where
 
   pub no : not r ≡ true → t ≡ false
   no h = sym e ∙ not-true r h
+
+  -- where failing ends the function, and the tests after it
+  pub ends : (b : Bool) → not r ≡ true → false ≡ t && b
+  ends b h = first-fails b (no h)
+
+  pub goes-on : {b c : Bool} → not r ≡ false → c ≡ b → c ≡ t && b
+  goes-on {b} h f = f ∙ first-holds b (yes h)
 
 pub passed : (t : Bool) (r : Refusal) (rest : Tested) → require t r rest ≡ Accepted → (t ≡ true) × (rest ≡ Accepted)
 passed true r rest e = (refl, e)

@@ -6,7 +6,7 @@ use native.Mathlib.Nat.{le-of-eq, mul-pos}
 use Rattle.integer.proofs.Size.{abs-neg, abs-mul}
 use Rattle.integer.proofs.Divides.{mul-cancel, unit-abs, unit-square}
 use Rattle.common.specs.Matrix.{Axis, Mat, entry, transpose, _·_, det, adjugate, scalar, identity, negate, inverse}
-use Rattle.common.proofs.Matrix.{same-matrix, at-entry, product-assoc, identity-product, product-identity, product-adjugate, adjugate-product, product-diagonal, scalar-product, scalar-commutes, det-product, det-transpose, det-negate}
+use Rattle.common.proofs.Matrix.{same-matrix, at-entry, product-assoc, identity-product, product-identity, product-adjugate, adjugate-product, product-diagonal, scalar-product, scalar-commutes, negate-product, product-negate, det-product, det-transpose, det-negate}
 
 pub record Regular (A : Mat ℤ) : Type 0 where
   pub nonzero : zero < natAbs (det A)
@@ -20,6 +20,9 @@ abs-product A B = ap natAbs (det-product A B) ∙ abs-mul (det A) (det B)
 
 pub regular-product : {A B : Mat ℤ} → Regular A → Regular B → Regular (A · B)
 regular-product {A} {B} r s = record { nonzero = subst (λ (n : ℕ). zero < n) (sym (abs-product A B)) (mul-pos (r .nonzero) (s .nonzero)) }
+
+pub regular-transpose : {A : Mat ℤ} → Regular A → Regular (transpose A)
+regular-transpose {A} r = record { nonzero = subst (λ (z : ℤ). zero < natAbs z) (sym (det-transpose A)) (r .nonzero) }
 
 pub unimodular-regular : {A : Mat ℤ} → Unimodular A → Regular A
 unimodular-regular u = record { nonzero = le-of-eq (sym (u .unit)) }
@@ -53,7 +56,17 @@ module _ {A : Mat ℤ} (r : Regular A) where
       multiple : (B : Mat ℤ) → B · scalar (det A) ≡ B · A · adjugate A
       multiple B = ap (λ M. B · M) (sym (product-adjugate A)) ∙ sym (product-assoc B A (adjugate A))
 
-  -- similar matrices have one determinant
+-- ---- similar matrices, B·A = A·C
+pub similar-product : (A B C D E : Mat ℤ) → B · A ≡ A · C → D · A ≡ A · E → B · D · A ≡ A · (C · E)
+similar-product A B C D E e f = product-assoc B D A ∙ ap (λ M. B · M) f ∙ sym (product-assoc B A E) ∙ ap (λ M. M · E) e ∙ product-assoc A C E
+
+pub similar-negate : (A B C : Mat ℤ) → B · A ≡ A · C → negate B · A ≡ A · negate C
+similar-negate A B C e = negate-product B A ∙ ap negate e ∙ sym (product-negate A C)
+
+module _ {A : Mat ℤ} (r : Regular A) where
+  pub similar-identity : (B : Mat ℤ) → B · A ≡ A · identity → B ≡ identity
+  similar-identity B e = cancel-right r B identity (e ∙ product-identity A ∙ sym (identity-product A))
+
   pub similar-det : (B C : Mat ℤ) → B · A ≡ A · C → det B ≡ det C
   similar-det B C e = mul-cancel (det B) (det C) (det A) (r .nonzero) (sym (det-product B A) ∙ ap det e ∙ det-product A C ∙ *ℤ-comm (det A) (det C))
 
@@ -69,3 +82,12 @@ module _ {A : Mat ℤ} (u : Unimodular A) where
 
   pub unimodular-inverse : Unimodular (inverse A)
   unimodular-inverse = record { unit = unit-abs (det (inverse A)) (det A) (sym (det-product (inverse A) A) ∙ ap det inverse-left) }
+
+  -- M is D·A⁻¹·R·A·D⁻¹, so it is similar to R
+  pub conjugate-similar : (D M R : Mat ℤ) → M · D ≡ D · (inverse A · R · A) → M · (D · inverse A) ≡ D · inverse A · R
+  conjugate-similar D M R e =
+      sym (product-assoc M D (inverse A)) ∙ ap (λ N. N · inverse A) e ∙ product-assoc D (inverse A · R · A) (inverse A) ∙ ap (λ N. D · N) undone
+      ∙ sym (product-assoc D (inverse A) R)
+    where
+      undone : inverse A · R · A · inverse A ≡ inverse A · R
+      undone = product-assoc (inverse A · R) A (inverse A) ∙ ap (λ N. inverse A · R · N) inverse-right ∙ product-identity (inverse A · R)

@@ -1,17 +1,21 @@
 -- Vectors and matrices as the code holds them: arrays by value, and the matrices of a lent list, nine numbers each by rows.
 use mathlib.Core.List.{List, [], _∷_}
 use Prim.Native.Nat.{ℕ, zero, suc, _+_, _*_, _/_, _≤_}
-use lib.IntN.{ℤ, pos, natAbs, _+ℤ_, _*ℤ_}
+use lib.IntN.{ℤ, pos, natAbs}
 use lib.ListN.{getD, length}
-use Rattle.common.specs.Matrix.{Axis, X, Y, Z, Vec, Mat, vector, matrix, mapVec}
+use Rattle.common.specs.Matrix.{Axis, X, Y, Z, Vec, Mat, vector, matrix, entries, mapVec, dot, integers}
 
 abbrev pub number : Axis → ℕ
 number X = 0
 number Y = 1
 number Z = 2
 
+-- the number along an axis
+abbrev pub along : List ℤ → Axis → ℤ
+along l k = getD l (number k) (pos 0)
+
 abbrev pub vectorOf : List ℤ → Vec ℤ
-vectorOf l = vector (λ k. getD l (number k) (pos 0))
+vectorOf l = vector (along l)
 
 -- the diagonal numbers, which are positive
 abbrev pub sidesOf : List ℤ → Vec ℕ
@@ -23,12 +27,16 @@ items v = v .x ∷ v .y ∷ v .z ∷ []
 abbrev pub matrixOf : List (List ℤ) → Mat ℤ
 matrixOf m = matrix (λ j k. getD (getD m (number j) []) (number k) (pos 0))
 
-abbrev pub rows : Mat ℤ → List (List ℤ)
+abbrev pub rows : {A : Type 0} → Mat A → List (List A)
 rows m = (m .a ∷ m .b ∷ m .c ∷ []) ∷ (m .d ∷ m .e ∷ m .f ∷ []) ∷ (m .g ∷ m .h ∷ m .i ∷ []) ∷ []
 
 -- three numbers of a list
 abbrev pub rowAt : List ℤ → ℕ → List ℤ
 rowAt l n = getD l n (pos 0) ∷ getD l (n + 1) (pos 0) ∷ getD l (n + 2) (pos 0) ∷ []
+
+-- one number of each row
+abbrev pub columnAt : List (List ℤ) → ℕ → List ℤ
+columnAt m k = getD (getD m 0 []) k (pos 0) ∷ getD (getD m 1 []) k (pos 0) ∷ getD (getD m 2 []) k (pos 0) ∷ []
 
 -- matrix n of a list
 abbrev pub matrixAt : List ℤ → ℕ → Mat ℤ
@@ -42,8 +50,13 @@ matricesFrom l n (suc m) = matrixAt l n ∷ matricesFrom l (suc n) m
 abbrev pub matrices : List ℤ → List (Mat ℤ)
 matrices l = matricesFrom l 0 (length l / 9)
 
+-- the list of such matrices
+abbrev pub flat : List (Mat ℤ) → List ℤ
+flat [] = []
+flat (m ∷ l) = entries m (flat l)
+
 abbrev pub dotOf : List ℤ → List ℤ → ℤ
-dotOf a b = getD a 0 (pos 0) *ℤ getD b 0 (pos 0) +ℤ getD a 1 (pos 0) *ℤ getD b 1 (pos 0) +ℤ getD a 2 (pos 0) *ℤ getD b 2 (pos 0)
+dotOf a b = dot integers (along a) (along b)
 
 -- ---- sizes: each entry at most k
 pub record Sized (k : ℕ) (l : List ℤ) : Type 0 where

@@ -4,8 +4,8 @@ use Prim.Native.Nat.{ℕ}
 use lib.IntN.{ℤ, pos}
 use lib.ListN.{getD}
 use lib.Ieee.{Float, nan, binary64, add, sub, mul, ofInt}
-use Rattle.common.specs.Matrix.{Vec, Mat, vector, matrix, mapVec, mapMat, Ops, dot, productOver, applyOver, detOver}
-use Rattle.common.specs.Array.{number, vectorOf, items, matrixOf}
+use Rattle.common.specs.Matrix.{Vec, Mat, vector, matrix, mapVec, mapMat, Ops, dot, expand, productOver, applyOver, detOver}
+use Rattle.common.specs.Array.{number, vectorOf, items, matrixOf, rows}
 
 abbrev pub floats : Ops Float
 floats = record { plus = add binary64; minus = sub binary64; times = mul binary64; zero = ofInt binary64 (pos 0) }
@@ -15,9 +15,6 @@ floatVector l = vector (λ k. getD l (number k) nan)
 
 abbrev pub floatMatrix : List (List Float) → Mat Float
 floatMatrix m = matrix (λ j k. getD (getD m (number j) []) (number k) nan)
-
-abbrev pub floatRows : Mat Float → List (List Float)
-floatRows m = (m .a ∷ m .b ∷ m .c ∷ []) ∷ (m .d ∷ m .e ∷ m .f ∷ []) ∷ (m .g ∷ m .h ∷ m .i ∷ []) ∷ []
 
 -- whole numbers, each to its nearest f64
 abbrev pub rowD : List ℤ → List Float
@@ -30,7 +27,7 @@ abbrev pub dotD : List Float → List Float → Float
 dotD a b = dot floats (λ k. getD a (number k) nan) (λ k. getD b (number k) nan)
 
 abbrev pub matmulD : List (List Float) → List (List Float) → List (List Float)
-matmulD a b = floatRows (productOver floats (floatMatrix a) (floatMatrix b))
+matmulD a b = rows (productOver floats (floatMatrix a) (floatMatrix b))
 
 abbrev pub matvecDD : List (List Float) → List Float → List Float
 matvecDD a b = items (applyOver floats (floatMatrix a) (floatVector b))
@@ -38,11 +35,8 @@ matvecDD a b = items (applyOver floats (floatMatrix a) (floatVector b))
 abbrev pub matvecID : List (List ℤ) → List Float → List Float
 matvecID a b = items (applyOver floats (toFloats a) (floatVector b))
 
--- a row with three minors, as a determinant adds them up
-abbrev pub expandD : List Float → Float → Float → Float → Float
-expandD l p q r =
-    let v = floatVector l in
-    add binary64 (sub binary64 (mul binary64 (v .x) p) (mul binary64 (v .y) q)) (mul binary64 (v .z) r)
+abbrev pub expandD : List Float → List Float → Float
+expandD a b = expand floats (λ k. getD a (number k) nan) (λ k. getD b (number k) nan)
 
 abbrev pub detD : List (List Float) → Float
 detD m = detOver floats (floatMatrix m)

@@ -1,5 +1,6 @@
 pub mod Matrix
 pub mod Array
+pub mod IntegerMatrix
 pub mod FloatMatrix
 pub mod Limits
 pub mod Refusal

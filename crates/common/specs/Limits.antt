@@ -6,6 +6,7 @@ use lib.Dec.{leb, eqb}
 use lib.IntN.{ℤ, pos, natAbs}
 use lib.ListN.{length}
 use lib.Signed.{leZ, ltZ}
+use Rattle.common.specs.Matrix.{Mat, entry, allAxes}
 use Rattle.common.specs.Array.{vectorOf, sidesOf}
 
 -- of size at most k
@@ -15,6 +16,9 @@ within k z = leb (natAbs z) k
 abbrev pub allWithin : ℕ → List ℤ → Bool
 allWithin k [] = true
 allWithin k (z ∷ l) = within k z && allWithin k l
+
+abbrev pub matrixWithin : ℕ → Mat ℤ → Bool
+matrixWithin n m = allAxes (λ j. allAxes (λ k. within n (entry m j k)))
 
 -- nine numbers a matrix
 abbrev pub wholeMatrices : List ℤ → Bool

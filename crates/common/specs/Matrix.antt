@@ -91,11 +91,18 @@ module _ {R : Type 0} (o : Ops R) where
   abbrev pub applyOver : Mat R → Vec R → Vec R
   applyOver m v = vector (λ j. dot (entry m j) (side v))
 
+  -- a row with its three minors, as a determinant adds them up
+  abbrev pub expand : (u v : Axis → R) → R
+  expand u v = o .plus (o .minus (o .times (u X) (v X)) (o .times (u Y) (v Y))) (o .times (u Z) (v Z))
+
+  -- the determinants of two rows without column k
+  abbrev pub minors : (y z : Axis → R) → Axis → R
+  minors y z X = cross (y Y) (y Z) (z Y) (z Z)
+  minors y z Y = cross (y X) (y Z) (z X) (z Z)
+  minors y z Z = cross (y X) (y Y) (z X) (z Y)
+
   abbrev pub detOver : Mat R → R
-  detOver m =
-      o .plus
-      (o .minus (o .times (m .a) (cross (m .e) (m .f) (m .h) (m .i))) (o .times (m .b) (cross (m .d) (m .f) (m .g) (m .i))))
-      (o .times (m .c) (cross (m .d) (m .e) (m .g) (m .h)))
+  detOver m = expand (entry m X) (minors (entry m Y) (entry m Z))
 
   -- the transpose of the cofactors, whose signs the circle of axes gives
   abbrev pub adjugateOver : Mat R → Mat R

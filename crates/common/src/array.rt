@@ -1,9 +1,10 @@
 // 3 by 3 matrices and vectors by value.
+use crate::integer_matrix::dot_i;
 ghost use mathlib.Core.Path.{_≡_};
 ghost use Prim.Native.Nat.{_+_, _*_, _≤_};
 ghost use lib.ListN.{length};
 ghost use Rattle.common.specs.Matrix.{_▹_};
-ghost use Rattle.common.specs.Array.{vectorOf, items, matrixOf, rows, rowAt, matrixAt, dotOf, Sized, SizedRows};
+ghost use Rattle.common.specs.Array.{vectorOf, items, matrixOf, rows, rowAt, matrixAt, Sized, SizedRows};
 
 // Three numbers of a lent list.
 pub fn row_at(list: &[i64], at: usize) -> [i64; 3]
@@ -20,13 +21,6 @@ pub fn matrix_at(list: &[i64], n: usize) -> [[i64; 3]; 3]
 {
     let at = n * 9;
     [row_at(list, at), row_at(list, at + 3), row_at(list, at + 6)]
-}
-
-fn dot_i(a: [i64; 3], b: [i64; 3]) -> i64
-    requires { ⌜ Sized 100000 a ⌝ ∗ ⌜ Sized 20000000000001 b ⌝ }
-    ensures { λ r. ⌜ r ≡ dotOf a b ⌝ }
-{
-    a[0] * b[0] + a[1] * b[1] + a[2] * b[2]
 }
 
 // With entries of a rotation and of an address that was doubled, no step leaves 64 bits.

@@ -2,7 +2,8 @@
 ghost use mathlib.Core.Path.{_≡_};
 ghost use mathlib.Core.List.{[], _∷_};
 ghost use Rattle.common.specs.Matrix.{cross};
-ghost use Rattle.common.specs.FloatMatrix.{floats, floatRows, rowD, toFloats, dotD, matmulD, matvecDD, matvecID, expandD, detD};
+ghost use Rattle.common.specs.Array.{rows};
+ghost use Rattle.common.specs.FloatMatrix.{floats, rowD, toFloats, dotD, matmulD, matvecDD, matvecID, expandD, detD};
 
 fn dot_d(a: [f64; 3], b: [f64; 3]) -> f64
     ensures { λ r. ⌜ r ≡ dotD a b ⌝ }
@@ -19,7 +20,7 @@ pub fn matvec_dd(a: [[f64; 3]; 3], b: [f64; 3]) -> [f64; 3]
     [dot_d(x, b), dot_d(y, b), dot_d(z, b)]
 }
 
-fn row_to_d(a: [i64; 3]) -> [f64; 3]
+pub fn row_to_d(a: [i64; 3]) -> [f64; 3]
     ensures { λ r. ⌜ r ≡ rowD a ⌝ }
 {
     [
@@ -30,7 +31,7 @@ fn row_to_d(a: [i64; 3]) -> [f64; 3]
 }
 
 pub fn mat_i_to_d(m: [[i64; 3]; 3]) -> [[f64; 3]; 3]
-    ensures { λ r. ⌜ r ≡ floatRows (toFloats m) ⌝ }
+    ensures { λ r. ⌜ r ≡ rows (toFloats m) ⌝ }
 {
     let x = m[0];
     let y = m[1];
@@ -73,11 +74,11 @@ fn cross_d(a: f64, b: f64, c: f64, d: f64) -> f64
     a * d - b * c
 }
 
-// By its first row and the minors of the others.
-fn expand_d(x: [f64; 3], p: f64, q: f64, r: f64) -> f64
-    ensures { λ s. ⌜ s ≡ expandD x p q r ⌝ }
+// A row with its three minors.
+fn expand_d(a: [f64; 3], b: [f64; 3]) -> f64
+    ensures { λ r. ⌜ r ≡ expandD a b ⌝ }
 {
-    x[0] * p - x[1] * q + x[2] * r
+    a[0] * b[0] - a[1] * b[1] + a[2] * b[2]
 }
 
 pub fn det_d(m: [[f64; 3]; 3]) -> f64
@@ -87,5 +88,5 @@ pub fn det_d(m: [[f64; 3]; 3]) -> f64
     let p = cross_d(m[1][1], m[1][2], m[2][1], m[2][2]);
     let q = cross_d(m[1][0], m[1][2], m[2][0], m[2][2]);
     let r = cross_d(m[1][0], m[1][1], m[2][0], m[2][1]);
-    expand_d(x, p, q, r)
+    expand_d(x, [p, q, r])
 }

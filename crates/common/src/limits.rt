@@ -4,7 +4,9 @@ ghost use mathlib.Core.Bool.{_&&_};
 ghost use Prim.Native.Nat.{_*_, _≤_};
 ghost use lib.Dec.{leb};
 ghost use lib.IntN.{natAbs};
-ghost use Rattle.common.specs.Limits.{within, allWithin, rotationsFit, wholeMatrices, sideFits, diagonalFits, halfFits, shiftFits, pointFits};
+ghost use Rattle.common.specs.Matrix.{allAxes};
+ghost use Rattle.common.specs.Array.{along, matrixOf};
+ghost use Rattle.common.specs.Limits.{within, allWithin, matrixWithin, rotationsFit, wholeMatrices, sideFits, diagonalFits, halfFits, shiftFits, pointFits};
 
 pub fn within(z: i64, k: u64) -> bool
     ensures { λ r. ⌜ r ≡ within k z ⌝ }
@@ -23,6 +25,21 @@ pub fn all_within(list: &[i64], k: u64) -> bool
         i += 1;
     }
     true
+}
+
+fn row_within(a: [i64; 3], k: u64) -> bool
+    ensures { λ r. ⌜ r ≡ allAxes (λ x. within k (along a x)) ⌝ }
+{
+    all_three(within(a[0], k), within(a[1], k), within(a[2], k))
+}
+
+pub fn matrix_within(m: [[i64; 3]; 3], k: u64) -> bool
+    ensures { λ r. ⌜ r ≡ matrixWithin k (matrixOf m) ⌝ }
+{
+    let x = m[0];
+    let y = m[1];
+    let z = m[2];
+    all_three(row_within(x, k), row_within(y, k), row_within(z, k))
 }
 
 pub fn whole_matrices(list: &[i64]) -> bool
@@ -46,7 +63,7 @@ fn side_fits(z: i64) -> bool
     1 <= z && z <= 256
 }
 
-fn all_three(a: bool, b: bool, c: bool) -> bool
+pub fn all_three(a: bool, b: bool, c: bool) -> bool
     ensures { λ r. ⌜ r ≡ a && (b && c) ⌝ }
 {
     if a {

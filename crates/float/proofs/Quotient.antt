@@ -4,12 +4,13 @@
 use mathlib.Core.Path.{_≡_, refl, sym, ap, _∙_, subst}
 use mathlib.Core.Logic.{_⊎_, inl, inr}
 use mathlib.Core.Bool.{Bool, true, false, not, cond}
+use mathlib.Core.List.{[], _∷_}
 use Prim.Native.Nat.{ℕ, zero, suc, _+_, _-_, _*_, _^_, _≤_, _<_}
 use native.Mathlib.Nat.{le-trans, le-of-eq, le-of-lt, le-refl, lt-of-le-of-lt, mul-pos, mul-le-mul, mul-le-mul-right, le-of-mul-le-mul-right, pow-succ'}
 use native.Mathlib.Omega.{arith}
-use lib.Dec.{T, T-not, not-T, lit≤}
+use lib.Dec.{T, T-not, not-T, lit≤, lit<}
 use lib.Pow.{pow-pos, pow-mono, pow-add}
-use lib.IntN.{ℤ, pos, natAbs, _*ℤ_, *ℤ-comm, +ℤ-invr}
+use lib.IntN.{ℤ, pos, negsuc, negℤ, natAbs, _*ℤ_, *ℤ-comm, +ℤ-invr}
 use lib.Ieee.{Float, nan, inf, fin, binary64, up, size, round, neg, sub, div, le, lt, fits, ofInt, ofBits}
 use lib.Ieee.Digits.{size-lt, size-le, size-reaches}
 use lib.Ieee.Fits.{round-fits, div-fits}
@@ -18,15 +19,16 @@ use lib.Ieee.Scale.{finite}
 use lib.Ieee.Positive.{den, den-pos}
 use Rattle.integer.specs.Parts as parts
 use Rattle.integer.proofs.Parts as law
-use Rattle.integer.proofs.Size.{abs-parts, abs-mul}
+use Rattle.integer.proofs.Reify.{ring, reify}
+use Rattle.integer.proofs.Size.{abs-neg, abs-parts, abs-mul}
 use Rattle.float.specs.Value.{plus, less, zeroF, Value, Whole, Bounded}
 use Rattle.float.specs.Rounding.{absOf, nintOf, offset, tolerance}
-use Rattle.float.proofs.Sign.{neg-neg}
+use Rattle.float.proofs.Sign.{neg-neg, div-neg}
 use Rattle.float.proofs.Order.{by-test, le→cross, cross→le, lt-le-trans, neg-le, numbers}
 use Rattle.float.proofs.Rounds.{Rounds, over, under, round-neg, rounds-same, rounds-mono, self-rounds, dyadic}
 use Rattle.float.proofs.Operations.{sub-rounds, div-rounds}
 use Rattle.float.proofs.Bounds.{rounds-bounded}
-use Rattle.float.proofs.Whole.{value-same, value-of, ofInt-whole, rounds-whole, sub-whole, whole-num, whole-positive}
+use Rattle.float.proofs.Whole.{value-same, value-of, ofInt-whole, rounds-whole, sub-whole, neg-whole, whole-num, whole-positive}
 use Rattle.float.proofs.Cast.{le-abs, absOf-neg, nint-bounded, nint-whole}
 
 -- ---- the quotient is n / d, rounded
@@ -238,3 +240,19 @@ module _ (x y : Float) (n : ℤ) (d : ℕ) (N : natAbs n < 2 ^ 49) (D : 0 < d) (
         (zero-close (sub binary64 (ofInt binary64 k) q)
         (subst (λ z. Whole (sub binary64 (ofInt binary64 k) q) z) (+ℤ-invr k)
         (sub-whole binary64 (ofInt binary64 k) q k k (ofInt-whole binary64 k (omega arith)) quotient-exact (le-trans (le-of-eq (ap natAbs (+ℤ-invr k))) (lit≤ tt)))))
+
+-- ---- by 1 or -1 the quotient is exact
+quotient-one : (x y : Float) (n : ℤ) → natAbs n < 2 ^ 49 → Whole x n → Whole y (pos 1) → Whole (div binary64 x y) n
+quotient-one x y n h v u = quotient-exact x y n 1 h (lit< tt) (lit≤ tt) v u n (ring (n ∷ []) (search reify depth 40) tt)
+
+pub quotient-unit : (x y : Float) (n z : ℤ) → natAbs n < 2 ^ 49 → natAbs z ≡ 1 → Whole x n → Whole y z → Whole (div binary64 x y) (z *ℤ n)
+quotient-unit x y n (pos k) h e v u =
+    let same : pos 1 *ℤ n ≡ n = ring (n ∷ []) (search reify depth 40) tt in
+    subst (Whole (div binary64 x y)) (sym (ap (λ (k : ℕ). pos k *ℤ n) e ∙ same))
+    (quotient-one x y n h v (subst (λ (k : ℕ). Whole y (pos k)) e u))
+quotient-unit x y n (negsuc k) h e v u =
+    let e : k ≡ 0 = omega arith in
+    let turned : negsuc 0 *ℤ n ≡ negℤ n = ring (n ∷ []) (search reify depth 40) tt in
+    subst (Whole (div binary64 x y)) (sym (ap (λ (k : ℕ). negsuc k *ℤ n) e ∙ turned))
+    (subst (λ q. Whole q (negℤ n)) (div-neg binary64 x y)
+    (quotient-one (neg x) (neg y) (negℤ n) (rw abs-neg h) (neg-whole x n v) (neg-whole y (negsuc 0) (subst (λ (k : ℕ). Whole y (negsuc k)) e u))))

@@ -2,7 +2,7 @@
 use mathlib.Core.Path.{_≡_, refl}
 use mathlib.Core.Bool.{true, false}
 use lib.Dec.{T}
-use lib.Ieee.{Float, nan, inf, fin, neg}
+use lib.Ieee.{Float, nan, inf, fin, Format, neg, div}
 use lib.Ieee.Scale.{finite}
 use lib.Ieee.Positive.{den}
 use Rattle.float.specs.Value.{plus, less}
@@ -41,3 +41,23 @@ unfolding neg
 den-neg nan = refl
 den-neg (inf s) = refl
 den-neg (fin s m e) = refl
+
+-- ---- a quotient of negatives
+pub div-neg : (f : Format) (x y : Float) → div f (neg x) (neg y) ≡ div f x y
+unfolding neg div
+div-neg f nan y = refl
+div-neg f (inf s) nan = refl
+div-neg f (inf s) (inf t) = refl
+div-neg f (inf true) (fin true n d) = refl
+div-neg f (inf true) (fin false n d) = refl
+div-neg f (inf false) (fin true n d) = refl
+div-neg f (inf false) (fin false n d) = refl
+div-neg f (fin s m e) nan = refl
+div-neg f (fin true m e) (inf true) = refl
+div-neg f (fin true m e) (inf false) = refl
+div-neg f (fin false m e) (inf true) = refl
+div-neg f (fin false m e) (inf false) = refl
+div-neg f (fin true m e) (fin true n d) = refl
+div-neg f (fin true m e) (fin false n d) = refl
+div-neg f (fin false m e) (fin true n d) = refl
+div-neg f (fin false m e) (fin false n d) = refl

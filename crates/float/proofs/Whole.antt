@@ -6,9 +6,9 @@ use Prim.Native.Nat.{ℕ, zero, suc, _+_, _*_, _^_, _≤_, _<_}
 use native.Mathlib.Nat.{lt-irrefl, zero-lt-suc, mul-pos, mul-le-mul-right, mul-lt-mul-of-pos-right, le-of-mul-le-mul-right, lt-of-mul-lt-mul-right, eq-of-mul-eq-mul-right}
 use native.Mathlib.Omega.{arith}
 use lib.Dec.{T}
-use lib.IntN.{ℤ, pos, negsuc, natAbs, _+ℤ_, _-ℤ_, _*ℤ_}
+use lib.IntN.{ℤ, pos, negsuc, negℤ, natAbs, _+ℤ_, _-ℤ_, _*ℤ_}
 use lib.Signed.{leZ, ltZ, leZ-yes, ltZ-yes}
-use lib.Ieee.{Float, nan, inf, fin, Format, prec, up, down, round, add, sub, mul, le, lt, eq, fits, ofInt}
+use lib.Ieee.{Float, nan, inf, fin, Format, prec, up, down, round, neg, add, sub, mul, le, lt, eq, fits, ofInt}
 use lib.Ieee.Fits.{down-pos, round-fits, ofInt-fits}
 use lib.Ieee.Exact.{HasValue}
 use lib.Ieee.Back.{round-whole, whole-unique}
@@ -17,6 +17,7 @@ use Rattle.integer.proofs.Test.{same-test}
 use Rattle.integer.specs.Parts as parts
 use Rattle.integer.proofs.Parts as law
 use Rattle.float.specs.Value.{plus, less, Value, Whole}
+use Rattle.float.proofs.Sign.{neg-finite, plus-neg, less-neg, den-neg}
 use Rattle.float.proofs.Order.{cross, le→cross, cross→le, lt→cross, cross→lt, eq→cross, cross→eq}
 use Rattle.float.proofs.Rounds.{Rounds, rounds-exact}
 use Rattle.float.proofs.Operations.{one-sided, add-rounds, sub-rounds, mul-rounds}
@@ -40,6 +41,9 @@ pub ofInt-whole : (f : Format) (z : ℤ) → natAbs z ≤ 2 ^ prec f → Whole (
 unfolding ofInt
 ofInt-whole f (pos n) h = value-of (round f false n 1) false n 1 (round-whole f false n h)
 ofInt-whole f (negsuc n) h = value-of (round f true (suc n) 1) true (suc n) 1 (round-whole f true (suc n) h)
+
+pub neg-whole : (x : Float) (z : ℤ) → Whole x z → Whole (neg x) (negℤ z)
+neg-whole x z v = let g = v .is in record { number = neg-finite x (v .number); is = rw (plus-neg x, less-neg x, den-neg x, law.negative z .0, law.negative z .1) (omega arith) }
 
 -- ---- exact operations: the rounded fraction is a whole number z
 pub rounds-whole : {f : Format} {x : Float} {p n c : ℕ} (z : ℤ) → Rounds f x p n c → 0 < c → p + parts.dn z * c ≡ parts.up z * c + n → natAbs z ≤ 2 ^ prec f → Whole x z

@@ -15,7 +15,7 @@ use Rattle.common.specs.Array.{sidesOf, Sized}
 use Rattle.common.specs.Limits.{allWithin, sideFits, diagonalFits, halfFits, shiftFits, rotationsFit, wholeMatrices}
 use Rattle.common.specs.declared.Tested.the-variants.{Accepted}
 use Rattle.common.specs.declared.Refusal.the-variants.{OutsideLimits, WrongLength}
-use Rattle.common.proofs.Bounds.{side-size}
+use Rattle.common.proofs.Bounds.{side-positive, side-size}
 use Rattle.common.proofs.Tests.{passed}
 use Rattle.grgrid.specs.Grid.{size}
 use Rattle.grgrid.specs.Sides.{GridFits}
@@ -23,10 +23,6 @@ use Rattle.grgrid.specs.IrGridMap.{mapTests}
 use Rattle.grgrid.specs.Addresses.{addressTests}
 
 -- ---- the diagonal numbers
-side-positive : (z : ℤ) → T (sideFits z) → 0 < natAbs z
-side-positive (pos n) t = leb→le 1 n (and-l (leZ (pos 1) (pos n)) (leZ (pos n) (pos 256)) t)
-side-positive (negsuc n) t = absurd t
-
 module _ (d : List ℤ) (t : T (diagonalFits d)) where
   abbrev at : ℕ → ℤ
   at n = getD d n (pos 0)

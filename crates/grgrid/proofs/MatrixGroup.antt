@@ -6,8 +6,8 @@ use lib.IntN.{ℤ, pos, natAbs}
 use Prim.Native.Nat.{ℕ, zero, _<_}
 use native.Mathlib.Nat.{mul-pos}
 use Rattle.common.specs.Matrix.{X, Y, Z, Vec, Mat, side, transpose, _·_, identity, negate, inversion, inverse}
-use Rattle.common.proofs.Matrix.{product-assoc, identity-product, product-identity, det-diagonal, transpose-product, negate-twice, negate-product, product-negate}
-use Rattle.common.proofs.Unimodular.{Regular, Unimodular, regular-product, unimodular-regular, unimodular-transpose, unimodular-negate, unimodular-inverse, cancel-left, cancel-right, similar-det, inverse-right}
+use Rattle.common.proofs.Matrix.{det-diagonal, transpose-product, negate-twice, negate-product, product-negate}
+use Rattle.common.proofs.Unimodular.{Regular, Unimodular, regular-product, unimodular-regular, unimodular-transpose, unimodular-negate, unimodular-inverse, cancel-left, cancel-right, similar-identity, similar-product, similar-det, conjugate-similar}
 use Rattle.grgrid.proofs.Lists.{_∈_, Distinct, Injective, distinct-append, distinct-map}
 use Rattle.grgrid.proofs.Group.{Group, closed-group}
 use Rattle.grgrid.proofs.Folding.{Sides}
@@ -20,7 +20,7 @@ pub record MatrixGroup (l : List (Mat ℤ)) : Type 0 where
   pub units : (A : Mat ℤ) → A ∈ l → Unimodular A
   pub times : (A B : Mat ℤ) → A ∈ l → B ∈ l → A · B ∈ l
 
-grid-regular : {d : Vec ℕ} → Sides d → Regular (grid d)
+pub grid-regular : {d : Vec ℕ} → Sides d → Regular (grid d)
 grid-regular {d} s = record { nonzero = subst (λ x. zero < natAbs x) (sym (det-diagonal (λ k. pos (side d k)))) (mul-pos (mul-pos (s .positive X) (s .positive Y)) (s .positive Z)) }
 
 module _ {l : List (Mat ℤ)} (m : MatrixGroup l) where
@@ -50,23 +50,14 @@ module _ {l : List (Mat ℤ)} (m : MatrixGroup l) where
   similar {T} r f h = image f
       (λ A B j k e. cancel-left r A B (sym (h A j) ∙ ap (λ M. M · T) e ∙ h B k))
       (λ A k. record { unit = ap natAbs (similar-det r (f A) A (h A k)) ∙ m .units A k .unit })
-      (cancel-right r (f identity) identity (h identity (m .one) ∙ product-identity T ∙ sym (identity-product T)))
-      (λ A B j k. cast (cancel-right r (f A · f B) (f (A · B)) (product A B j k)) (map-in f (m .times A B j k)))
-    where
-      product : (A B : Mat ℤ) → A ∈ l → B ∈ l → f A · f B · T ≡ f (A · B) · T
-      product A B j k =
-          product-assoc (f A) (f B) T ∙ ap (λ M. f A · M) (h B k) ∙ sym (product-assoc (f A) T B) ∙ ap (λ M. M · B) (h A j) ∙ product-assoc T A B
-          ∙ sym (h (A · B) (m .times A B j k))
+      (similar-identity r (f identity) (h identity (m .one)))
+      (λ A B j k.
+      cast (cancel-right r (f A · f B) (f (A · B)) (similar-product T (f A) A (f B) B (h A j) (h B k) ∙ sym (h (A · B) (m .times A B j k)))) (map-in f (m .times A B j k)))
 
   -- what an accepted transform by Q on the grid d returns
   pub transformed : {d : Vec ℕ} {Q : Mat ℤ} → Sides d → Unimodular Q → (f : Mat ℤ → Mat ℤ) → ((A : Mat ℤ) → A ∈ l → f A · grid d ≡ grid d · (inverse Q · A · Q))
       → MatrixGroup (map f l)
-  transformed {d} {Q} s u f h = similar (regular-product (grid-regular s) (unimodular-regular (unimodular-inverse u))) f (λ A k.
-      sym (product-assoc (f A) (grid d) (inverse Q)) ∙ ap (λ M. M · inverse Q) (h A k) ∙ product-assoc (grid d) (inverse Q · A · Q) (inverse Q)
-      ∙ ap (λ M. grid d · M) (undone (inverse Q · A)) ∙ sym (product-assoc (grid d) (inverse Q) A))
-    where
-      undone : (M : Mat ℤ) → M · Q · inverse Q ≡ M
-      undone M = product-assoc M Q (inverse Q) ∙ ap (λ N. M · N) (inverse-right u) ∙ product-identity M
+  transformed {d} s u f h = similar (regular-product (grid-regular s) (unimodular-regular (unimodular-inverse u))) f (λ A k. conjugate-similar u (grid d) (f A) A (h A k))
 
   -- ---- negatives joined
   joined-of : {A : Mat ℤ} → A ∈ l ++ map negate l → (A ∈ l) ⊎ (negate A ∈ l)

@@ -28,6 +28,18 @@ zero-of-mul x d h e = abs-zero x (nat-zero (natAbs x) (natAbs d) h (sym (abs-mul
 pub mul-cancel : (x y d : ℤ) → zero < natAbs d → x *ℤ d ≡ y *ℤ d → x ≡ y
 mul-cancel x y d h e = sub-eq-zero x y (zero-of-mul (x -ℤ y) d h (eq-by (zero-by e) (ring (x ∷ y ∷ d ∷ []) (search reify depth 40) tt)))
 
+nat-factors : (m n : ℕ) → zero < m * n → (zero < m) × (zero < n)
+nat-factors zero n h = absurd (omega arith)
+nat-factors (suc m) zero h = absurd (never m h)
+  where
+    never : (m : ℕ) → zero < suc m * zero → ⊥
+    never m h = omega arith
+nat-factors (suc m) (suc n) h = (omega arith, omega arith)
+
+-- the factors of a product that is not 0
+pub nonzero-factors : (x y : ℤ) → zero < natAbs (x *ℤ y) → (zero < natAbs x) × (zero < natAbs y)
+nonzero-factors x y h = nat-factors (natAbs x) (natAbs y) (subst (λ (n : ℕ). zero < n) (abs-mul x y) h)
+
 nat-one : (m n : ℕ) → m * n ≡ 1 → m ≡ 1
 nat-one zero n e = absurd (never n e)
   where

@@ -1,9 +1,9 @@
 -- What fits 64 signed bits, for omega; and each test of the code as a test of the exact result.
-use mathlib.Core.Path.{_≡_, subst}
+use mathlib.Core.Path.{_≡_, sym, _∙_, subst}
 use lib.Dec.{T, ltb→lt, lt→ltb}
 use lib.IntN.{ℤ, pos, negsuc, negℤ, natAbs, _+ℤ_, _-ℤ_, negℤ-negℤ}
-use lib.Signed.{_≤ℤ_, _<ℤ_, leZ, ltZ, leZ-yes, ltZ-yes, ltZ-no, mag}
-use Prim.Native.Nat.{ℕ, zero, suc, _+_, _≤_, _<_}
+use lib.Signed.{_≤ℤ_, _<ℤ_, leZ, ltZ, leZ-yes, ltZ-yes, ltZ-no, mag, natAbs-le}
+use Prim.Native.Nat.{ℕ, zero, suc, _+_, _^_, _≤_, _<_}
 use native.Mathlib.Numerals.{add-one}
 use native.Mathlib.Omega.{arith}
 use mir.Syntax.{w64}
@@ -12,6 +12,7 @@ use mir.Facts.{toZ-ofZ}
 use Rattle.integer.specs.Checked.{fits64}
 use mathlib.Core.Bool.{true, false}
 use Rattle.integer.proofs.Test.{holds, fails, same-test}
+use Rattle.integer.proofs.Size.{mag-le}
 use Rattle.integer.specs.Parts.{up, dn}
 use Rattle.integer.proofs.Parts.{ints, le-parts, parts-le, sum, difference, negative}
 
@@ -22,11 +23,22 @@ held z = toZ w64 (ofZ w64 z)
 pub held-is : (z : ℤ) → mag z < 0x8000000000000000 → held z ≡ z
 held-is z h = toZ-ofZ (record { sfits = h })
 
+-- v, worked out with locals, is z, which fits
+module _ {v z : ℤ} (e : v ≡ z) (t : T (fits64 z)) where
+  pub fits-of : SFits w64 v
+  fits-of = record { sfits = ltb→lt (mag v) 0x8000000000000000 (subst (λ (w : ℤ). T (fits64 w)) (sym e) t) }
+
+  pub held-of : held v ≡ z
+  held-of = toZ-ofZ fits-of ∙ e
+
 abbrev pub least : ℤ
 least = negsuc 0x7fffffffffffffff
 
 abbrev pub largest : ℤ
 largest = pos 0x7fffffffffffffff
+
+pub size-fits : (z : ℤ) → natAbs z < 0x8000000000000000 → T (fits64 z)
+size-fits z h = lt→ltb (mag z) 0x8000000000000000 (omega (arith, mag-le z))
 
 -- -2^63 ≤ z < 2^63
 abbrev pub InRange : ℤ → Type 0
@@ -45,6 +57,9 @@ sfits-range {z} f = fits-range z (lt→ltb (mag z) 0x8000000000000000 (f .sfits)
 
 pub range-sfits : (z : ℤ) → InRange z → SFits w64 z
 range-sfits z h = record { sfits = ltb→lt (mag z) 0x8000000000000000 (range-fits z h) }
+
+pub fits-size : (z : ℤ) → T (fits64 z) → natAbs z ≤ 2 ^ 63
+fits-size z t = natAbs-le z (ltb→lt (mag z) 0x8000000000000000 t)
 
 -- ---- the sign, by the code's test
 pub below-zero : (z : ℤ) → ltZ z (pos 0) ≡ true → z ≤ℤ pos 0

@@ -10,6 +10,7 @@ pub mod Division
 pub mod Divides
 pub mod Congruence
 pub mod Fits
+pub mod Same
 pub mod Product
 pub mod Quotient
 pub mod Answer

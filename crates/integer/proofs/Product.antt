@@ -32,11 +32,12 @@ other-signs (negsuc a) (pos b) e = refl
 other-signs (negsuc a) (negsuc b) e = absurd (fails e)
 
 -- ---- and whether it fits, by a division
-by-division : (k n m : ℕ) → (m ≡ 0 → ⊥) → leb k (n / m) ≡ leb (k * m) n
-by-division k n m h =
+pub by-division : (m k n : ℕ) → (m ≡ 0 → ⊥) → leb k (n / m) ≡ leb (m * k) n
+by-division m k n h =
     same-test (leb k (n / m)) (leb (k * m) n)
     (λ t. le→leb (k * m) n (le-div-iff-mul-le {k = m} {x = k} {y = n} (omega arith) .0 (leb→le k (n / m) t)))
     (λ t. le→leb k (n / m) (le-div-iff-mul-le {k = m} {x = k} {y = n} (omega arith) .1 (leb→le (k * m) n t)))
+    ∙ ap (λ (j : ℕ). leb j n) (mul-comm k m)
 
 pos-fits : (n : ℕ) → leb n 0x7fffffffffffffff ≡ fits64 (pos n)
 pos-fits n =
@@ -49,14 +50,11 @@ neg-fits zero = refl
 neg-fits (suc n) = refl
 
 module _ (a b : ℤ) (nonzero : natAbs a ≡ 0 → ⊥) where
-  swapped : (n : ℕ) → leb (natAbs b) (n / natAbs a) ≡ leb (natAbs a * natAbs b) n
-  swapped n = by-division (natAbs b) n (natAbs a) nonzero ∙ ap (λ (k : ℕ). leb k n) (mul-comm (natAbs b) (natAbs a))
-
   pub same-fits : sameSign a b ≡ true → leb (natAbs b) (0x7fffffffffffffff / natAbs a) ≡ fits64 (a *ℤ b)
-  same-fits e = swapped 0x7fffffffffffffff ∙ pos-fits (natAbs a * natAbs b) ∙ ap fits64 (sym (same-signs a b e))
+  same-fits e = by-division (natAbs a) (natAbs b) 0x7fffffffffffffff nonzero ∙ pos-fits (natAbs a * natAbs b) ∙ ap fits64 (sym (same-signs a b e))
 
   pub other-fits : sameSign a b ≡ false → leb (natAbs b) (0x8000000000000000 / natAbs a) ≡ fits64 (a *ℤ b)
-  other-fits e = swapped 0x8000000000000000 ∙ neg-fits (natAbs a * natAbs b) ∙ ap fits64 (sym (other-signs a b e))
+  other-fits e = by-division (natAbs a) (natAbs b) 0x8000000000000000 nonzero ∙ neg-fits (natAbs a * natAbs b) ∙ ap fits64 (sym (other-signs a b e))
 
 -- ---- small factors
 pub small-fits : (a b : ℤ) → natAbs a * natAbs b < 0x8000000000000000 → true ≡ fits64 (a *ℤ b)

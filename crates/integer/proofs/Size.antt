@@ -1,8 +1,9 @@
 -- The size of a whole number, `natAbs`: of a negative, a product, a sum; and what fits a width by its size.
 use mathlib.Core.Path.{_≡_, refl, ap}
+use mathlib.Core.Bool.{not}
 use lib.IntN.{ℤ, pos, negsuc, negℤ, natAbs, subℕ, _+ℤ_, _*ℤ_}
 use lib.Signed.{mag}
-use lib.Dec.{ltb, ltb→lt}
+use lib.Dec.{T, ltb, ltb→lt, eqb→eq, not-T}
 use Prim.Native.Nat.{ℕ, zero, suc, _+_, _*_, _-_, _^_, _≤_, _<_}
 use native.Mathlib.Nat.{lt-of-le-of-lt}
 use native.Mathlib.Omega.{arith}
@@ -10,6 +11,7 @@ use mir.Syntax.{Width}
 use mir.Val.{SFits, hbits}
 use Rattle.integer.proofs.Test.{cond-cases}
 use Rattle.integer.specs.Parts.{up, dn}
+use Rattle.integer.specs.Checked.{isZero}
 
 pub abs-neg : (z : ℤ) → natAbs (negℤ z) ≡ natAbs z
 abs-neg (pos zero) = refl
@@ -42,6 +44,22 @@ abs-zero (negsuc n) e = absurd (never n e)
     never : (n : ℕ) → suc n ≡ 0 → ⊥
     never n e = omega arith
 
+-- ---- the test for 0
+pub zero-test : (z : ℤ) → T (isZero z) → z ≡ pos 0
+zero-test z t = abs-zero z (eqb→eq (natAbs z) 0 t)
+
+pub nonzero-test : (z : ℤ) → T (not (isZero z)) → zero < natAbs z
+nonzero-test (pos zero) t = absurd t
+nonzero-test (pos (suc n)) t = omega arith
+nonzero-test (negsuc n) t = omega arith
+
+pub test-nonzero : (z : ℤ) → zero < natAbs z → T (not (isZero z))
+test-nonzero z h = not-T (isZero z) (λ t. never (natAbs z) h (eqb→eq (natAbs z) 0 t))
+  where
+    never : (n : ℕ) → zero < n → n ≡ 0 → ⊥
+    never n h e = omega arith
+
+-- ---- and what fits
 pub mag-le : (z : ℤ) → mag z ≤ natAbs z
 mag-le (pos n) = omega arith
 mag-le (negsuc n) = omega arith

@@ -2,6 +2,7 @@
 use mathlib.Core.Path.{_≡_, refl, sym, subst}
 use mathlib.Core.Bool.{Bool, true, false, not, _&&_, cond}
 use lib.Dec.{T}
+use Rattle.integer.specs.Checked.{pick}
 
 pub and-l : (a b : Bool) → T (a && b) → T a
 and-l true b t = tt
@@ -18,6 +19,10 @@ and-in false b s t = s
 pub cond-cases : {A : Type 0} (c : Bool) (x y : A) (P : A → Type 0) → (T c → P x) → (T (not c) → P y) → P (cond c x y)
 cond-cases true x y P f g = f tt
 cond-cases false x y P f g = g tt
+
+pub pick-cases : {A : Type 0} (c : Bool) (x y : A) (P : A → Type 0) → (T c → P x) → (T (not c) → P y) → P (pick c x y)
+pick-cases true x y P f g = f tt
+pick-cases false x y P f g = g tt
 
 -- ---- a test and its value
 pub holds : {t : Bool} → t ≡ true → T t

@@ -13,7 +13,7 @@ fits64 z = ltb (mag z) 0x8000000000000000
 abbrev pub isZero : ℤ → Bool
 isZero z = eqb (natAbs z) 0
 
-abbrev pub pick : Bool → Checked → Checked → Checked
+abbrev pub pick : {X : Type 0} → Bool → X → X → X
 pick true a b = a
 pick false a b = b
 

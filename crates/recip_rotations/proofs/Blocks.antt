@@ -9,9 +9,9 @@ use lib.IntN.{ℤ, pos, negℤ}
 use lib.ListN.{length, getD, take, drop, set, length-append, length-map, take-append-drop}
 use lib.Seq.{drop-cons, drop-append-add, getD-append-add, drop-drop, paste}
 use Rattle.common.specs.Matrix.{Mat, entries, transpose, negate}
-use Rattle.common.specs.Array.{number, matrixAt, matricesFrom}
-use Rattle.common.proofs.Matrix.{same-matrix}
-use Rattle.recip_rotations.specs.Flat.{flat, laid}
+use Rattle.common.specs.Array.{matrixAt, matricesFrom, flat}
+use Rattle.common.proofs.Reading.{length-flat}
+use Rattle.recip_rotations.specs.Flat.{laid}
 use Rattle.recip_rotations.specs.Steps.{swapped, transposedAt}
 
 -- ---- reading
@@ -74,31 +74,9 @@ module _ (l : List ℤ) where
   flat-first k h = flat-from 0 k (omega arith)
 
 -- ---- writing
-pub length-flat : (l : List (Mat ℤ)) → length (flat l) ≡ length l * 9
-length-flat [] = refl
-length-flat (m ∷ l) = ap (λ n. suc (suc (suc (suc (suc (suc (suc (suc (suc n))))))))) (length-flat l) ∙ nine (length l)
-  where
-    nine : (k : ℕ) → suc (suc (suc (suc (suc (suc (suc (suc (suc (k * 9))))))))) ≡ suc k * 9
-    nine k = omega arith
-
 pub flat-append : (a b : List (Mat ℤ)) → flat (a ++ b) ≡ flat a ++ flat b
 flat-append [] b = refl
 flat-append (m ∷ a) b = ap (entries m) (flat-append a b)
-
--- what is laid is read again
-pub laid-read : (l : List (Mat ℤ)) (r : List ℤ) → matricesFrom (flat l ++ r) 0 (length l) ≡ l
-laid-read [] r = refl
-laid-read (m ∷ l) r = ap (λ t. m ∷ t) (shift 0 (length l) ∙ laid-read l r)
-  where
-    at : (n a b : ℕ) → getD (entries m (flat l ++ r)) (suc n * 9 + a + b) (pos 0) ≡ getD (flat l ++ r) (n * 9 + a + b) (pos 0)
-    at n a b = ap (λ k. getD (entries m (flat l ++ r)) k (pos 0)) (nine n a b)
-      where
-        nine : (n a b : ℕ) → suc n * 9 + a + b ≡ suc (suc (suc (suc (suc (suc (suc (suc (suc (n * 9 + a + b)))))))))
-        nine n a b = omega arith
-
-    shift : (n k : ℕ) → matricesFrom (entries m (flat l ++ r)) (suc n) k ≡ matricesFrom (flat l ++ r) n k
-    shift n zero = refl
-    shift n (suc k) = ap₂ _∷_ (same-matrix (λ i j. at n (number i * 3) (number j))) (shift (suc n) k)
 
 -- a longer list laid over one
 pub laid-over : (k l : List (Mat ℤ)) (d : List ℤ) → length l ≤ length k → laid k (laid l d) ≡ laid k d

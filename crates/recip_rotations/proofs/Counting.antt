@@ -10,10 +10,11 @@ use lib.ListN.{length, length-append, drop}
 use lib.Seq.{paste}
 use Rattle.common.specs.Matrix.{Mat}
 use Rattle.common.specs.Array.{matrixAt, matricesFrom, matrices}
+use Rattle.common.proofs.Reading.{read-flat}
 use Rattle.recip_rotations.specs.Unique.{among, kept, unique}
 use Rattle.recip_rotations.specs.Flat.{laid}
 use Rattle.recip_rotations.specs.Steps.{Counted}
-use Rattle.recip_rotations.proofs.Blocks.{length-from, laid-read, laid-over, laid-self, laid-copy}
+use Rattle.recip_rotations.proofs.Blocks.{length-from, laid-over, laid-self, laid-copy}
 use Rattle.recip_rotations.proofs.Distinct.{kept-there, kept-new, unique-more, unique-longer}
 
 clash : {A : Type 0} {r : ℕ} → r ≤ 48 → 48 < r → A
@@ -55,7 +56,7 @@ module _ (s : List ℤ) (d : List ℤ) where
       → Counted (kept (matricesFrom out 0 f) (matrixAt s n)) out after r → Counted (unique (matricesFrom s 0 (n + 1))) d after r
   counted-more n f {out} {after} {r} p q c =
       let u = unique (matricesFrom s 0 n) in
-      let e : kept (matricesFrom out 0 f) (matrixAt s n) ≡ unique (matricesFrom s 0 (n + 1)) = ap (λ l. kept l (matrixAt s n)) (ap₂ (λ l k. matricesFrom l 0 k) q p ∙ laid-read u _) ∙ sym (unique-more s n) in
+      let e : kept (matricesFrom out 0 f) (matrixAt s n) ≡ unique (matricesFrom s 0 (n + 1)) = ap (λ l. kept l (matrixAt s n)) (ap₂ (λ l k. matricesFrom l 0 k) q p ∙ read-flat u _) ∙ sym (unique-more s n) in
       let c = subst (λ l. Counted l out after r) e c in
       record {
         count = c .count;

@@ -12,13 +12,14 @@ use Rattle.common.specs.Matrix.{Mat, transpose, negate}
 use Rattle.common.specs.Array.{matricesFrom, matrices}
 use Rattle.common.specs.Tested.{require}
 use Rattle.common.specs.declared.Refusal.the-variants.{TooManyRotations}
+use Rattle.common.proofs.Reading.{read-flat}
 use Rattle.recip_rotations.specs.Unique.{unique}
 use Rattle.recip_rotations.specs.Flat.{laid}
 use Rattle.recip_rotations.specs.PointGroup.{turned, joins, joined, joinTests, roomTests, pointGroup}
 use Rattle.recip_rotations.specs.Steps.{Counted, Grouped}
 use Rattle.recip_rotations.specs.declared.PointGroup.{PointGroup}
 use Rattle.recip_rotations.specs.declared.PointGroup.the-variants.{Refused}
-use Rattle.recip_rotations.proofs.Blocks.{laid-read, laid-over}
+use Rattle.recip_rotations.proofs.Blocks.{laid-over}
 use Rattle.recip_rotations.proofs.Outcomes.{refused}
 
 pub counted-from : {l : List (Mat ℤ)} {d e out : List ℤ} {r : ℕ} → d ≡ e → Counted l d out r → Counted l e out r
@@ -50,7 +51,7 @@ module _ (s : List ℤ) (time t : Bool) (d : List ℤ) where
 
       pub turned-laid : {turn : List ℤ} → turn ≡ laid (turned t (matricesFrom out 0 r)) out → turn ≡ laid (turned t u) d
       turned-laid e =
-          e ∙ ap₂ (λ l o. laid (turned t l) o) (ap₂ (λ o n. matricesFrom o 0 n) (c .held h) (c .count h) ∙ laid-read u _) (c .held h)
+          e ∙ ap₂ (λ l o. laid (turned t l) o) (ap₂ (λ o n. matricesFrom o 0 n) (c .held h) (c .count h) ∙ read-flat u _) (c .held h)
           ∙ laid-over (turned t u) u d (le-of-eq (sym (turned-length t u)))
 
       pub group-joined : {turn after : List ℤ} {x : PointGroup} → turn ≡ laid (turned t u) d
@@ -58,7 +59,7 @@ module _ (s : List ℤ) (time t : Bool) (d : List ℤ) where
           → Grouped (roomTests (matrices s) time t) (pointGroup (matrices s) time t) d after x
       unfolding roomTests pointGroup
       group-joined {turn} {after} {x} e g =
-          let f : matricesFrom turn 0 r ≡ turned t u = ap₂ (λ o n. matricesFrom o 0 n) e (sym counted-turned) ∙ laid-read (turned t u) _ in
+          let f : matricesFrom turn 0 r ≡ turned t u = ap₂ (λ o n. matricesFrom o 0 n) e (sym counted-turned) ∙ read-flat (turned t u) _ in
           let g = subst (λ l. Grouped (joinTests time l) (joined time l) turn after x) f g in
           let room : roomTests (matrices s) time t ≡ joinTests time (turned t u) = ap (λ b. require b TooManyRotations (joinTests time (turned t u))) (le-leb (length u) 48 (omega (arith, c .count h))) in
           subst (λ q. Grouped q (joined time (turned t u)) d after x) (sym room) (record {

@@ -1,5 +1,5 @@
 -- The numbers that are laid are within the limits.
-use mathlib.Core.Path.{_≡_, refl, sym, subst}
+use mathlib.Core.Path.{_≡_, refl, subst}
 use mathlib.Core.Logic.{_⊎_, inl, inr, ⊎-elim}
 use mathlib.Core.Bool.{Bool, true, false}
 use mathlib.Core.List.{List, [], _∷_, _++_, foldl, List·Memᴰ·head as here, List·Memᴰ·tail as there, List·Memᴰ·not-nil as not-nil, List·Memᴰ·cases-cons as cases, List·Memᴰ·append-cases as append-cases, Memᴰ·of-map as of-map}
@@ -9,13 +9,13 @@ use lib.IntN.{ℤ, pos, negsuc, natAbs}
 use lib.ListN.{length, getD, drop, replicate}
 use lib.Seq.{getD-drop}
 use Rattle.common.specs.Matrix.{Axis, X, Y, Z, Mat, entry, entries, transpose}
-use Rattle.common.specs.Array.{number, matrixAt, matricesFrom, matrices, Sized}
+use Rattle.common.specs.Array.{matrices, flat, Sized}
 use Rattle.common.specs.Limits.{allWithin}
 use Rattle.common.proofs.Matrix.{entry-matrix}
-use Rattle.common.proofs.Bounds.{entry-within}
+use Rattle.common.proofs.Reading.{read-small}
 use Rattle.grgrid.proofs.Lists.{_∈_}
 use Rattle.recip_rotations.specs.Unique.{among, kept, unique}
-use Rattle.recip_rotations.specs.Flat.{flat, laid}
+use Rattle.recip_rotations.specs.Flat.{laid}
 use Rattle.recip_rotations.specs.PointGroup.{turned}
 
 -- ---- the members of `unique`
@@ -40,13 +40,6 @@ module _ (b : ℕ) where
 
   abbrev AllSmall : List (Mat ℤ) → Type 0
   AllSmall l = (m : Mat ℤ) → m ∈ l → Small m
-
-  small-from : (s : List ℤ) → T (allWithin b s) → (n k : ℕ) → AllSmall (matricesFrom s n k)
-  small-from s t n zero m i = absurd (not-nil i)
-  small-from s t n (suc k) m i = ⊎-elim (λ e. subst Small (sym e) at) (small-from s t (suc n) k m) (cases i)
-    where
-      at : Small (matrixAt s n)
-      at j k = rw (entry-matrix (λ j k. getD s (n * 9 + number j * 3 + number k) (pos 0)) j k) (entry-within b s t (n * 9 + number j * 3 + number k))
 
   small-turned : (t : Bool) (l : List (Mat ℤ)) → AllSmall l → AllSmall (turned t l)
   small-turned true l h m i = let r = of-map transpose l i in subst Small (r .2) (λ j k. rw (entry-matrix (λ j k. entry (r .0) k j) j k) (h (r .0) (r .1) k j))
@@ -74,7 +67,7 @@ module _ (b : ℕ) where
 pub sized-group : (s : List ℤ) → T (allWithin 100000 s) → (t : Bool) (n : ℕ) → Sized 100000 (laid (turned t (unique (matrices s))) (replicate n (negsuc 0)))
 sized-group s w t n =
     sized-flat 100000 (turned t (unique (matrices s))) (drop (length (turned t (unique (matrices s))) * 9) (replicate n (negsuc 0)))
-    (small-turned 100000 t (unique (matrices s)) (λ m i. small-from 100000 s w 0 (length s / 9) m (unique-of (matrices s) i)))
+    (small-turned 100000 t (unique (matrices s)) (λ m i. read-small 100000 s w 0 (length s / 9) m (unique-of (matrices s) i)))
     (record { each = λ i. rw (getD-drop (length (turned t (unique (matrices s))) * 9) (replicate n (negsuc 0)) i (pos 0)) (blank n (length (turned t (unique (matrices s))) * 9 + i)) })
   where
     blank : (n i : ℕ) → natAbs (getD (replicate n (negsuc 0)) i (pos 0)) ≤ 100000

@@ -8,7 +8,7 @@ use lib.ListN.{length, getD, set}
 use Rattle.common.specs.declared.Tested.{Tested}
 use Rattle.common.specs.declared.Tested.the-variants.{Accepted}
 use Rattle.common.specs.Matrix.{Mat}
-use Rattle.recip_rotations.specs.Unique.{same}
+use Rattle.integer.specs.Same.{same}
 use Rattle.recip_rotations.specs.Flat.{laid}
 use Rattle.recip_rotations.specs.PointGroup.{answerFor}
 use Rattle.recip_rotations.specs.declared.PointGroup.{PointGroup}

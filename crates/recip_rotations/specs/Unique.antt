@@ -1,15 +1,9 @@
 -- The distinct matrices of a list, in the order in which each comes first.
 use mathlib.Core.Bool.{Bool, true, false}
 use mathlib.Core.List.{List, [], _∷_, _++_, foldl}
-use lib.Dec.{eqb}
-use lib.IntN.{ℤ, pos, negsuc}
+use lib.IntN.{ℤ}
+use Rattle.integer.specs.Same.{same}
 use Rattle.common.specs.Matrix.{Mat, entry, allAxes}
-
-abbrev pub same : ℤ → ℤ → Bool
-same (pos m) (pos n) = eqb m n
-same (pos m) (negsuc n) = false
-same (negsuc m) (pos n) = false
-same (negsuc m) (negsuc n) = eqb m n
 
 abbrev pub sameMatrix : Mat ℤ → Mat ℤ → Bool
 sameMatrix m n = allAxes (λ j. allAxes (λ k. same (entry m j k) (entry n j k)))

@@ -1,6 +1,6 @@
 use mathlib.Core.Path.{sym, _∙_}
 use borrow.Author.Needs.{needs}
-use Rattle.common.proofs.Bounds.{first-holds, first-fails}
+use Rattle.common.proofs.Tests.{first-holds, first-fails}
 use Rattle.common.proofs.Tests.{yes, no}
 use Rattle.recip_rotations.proofs.Same.{matrix-rows}
 use Rattle.recip_rotations.proofs.same_matrix.Statement.{statement}

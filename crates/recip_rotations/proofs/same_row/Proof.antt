@@ -3,8 +3,8 @@ use Prim.Native.Nat.{_+_}
 use lib.IntN.{pos}
 use lib.ListN.{getD}
 use borrow.Author.Needs.{needs}
-use Rattle.common.proofs.Bounds.{first-holds, first-fails}
-use Rattle.recip_rotations.proofs.Same.{bits-same, bits-equal, bits-differ}
+use Rattle.common.proofs.Tests.{first-holds, first-fails}
+use Rattle.integer.proofs.Same.{bits-same, bits-equal, bits-differ}
 use Rattle.recip_rotations.proofs.same_row.Statement.{statement}
 use Rattle.recip_rotations.proofs.same_row.Tie as tie
 

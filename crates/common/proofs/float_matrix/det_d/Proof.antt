@@ -1,4 +1,4 @@
-use mathlib.Core.List.{[]}
+use mathlib.Core.List.{[], _∷_}
 use lib.ListN.{getD}
 use mathlib.Core.Path.{_∙_}
 use Rattle.common.specs.FloatMatrix.{expandD}
@@ -98,7 +98,7 @@ returns c =
     let third = c .before in
     let second = third .before .before .before .before .before in
     let first = second .before .before .before .before .before in
-    c .expand-d .ensures ∙ (λ i. expandD (getD (first .before .before .before .before .before .before .args .t1) 0 []) (first .cross-d .ensures i) (second .cross-d2 .ensures i) (third .cross-d3 .ensures i))
+    c .expand-d .ensures ∙ (λ i. expandD (getD (first .before .before .before .before .before .before .args .t1) 0 []) (first .cross-d .ensures i ∷ second .cross-d2 .ensures i ∷ third .cross-d3 .ensures i ∷ []))
 
 pub det-d-spec : {M : Type 1} → statement M
 det-d-spec =

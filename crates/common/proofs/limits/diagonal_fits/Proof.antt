@@ -9,7 +9,8 @@ use borrow.Author.Needs.{needs}
 use Rattle.integer.proofs.Fits.{held, held-is}
 use Rattle.integer.proofs.Test.{holds, and-l, and-r}
 use Rattle.common.specs.Limits.{sideFits}
-use Rattle.common.proofs.Bounds.{first-holds, first-fails, side-size}
+use Rattle.common.proofs.Bounds.{side-size}
+use Rattle.common.proofs.Tests.{first-holds, first-fails}
 use Rattle.common.proofs.limits.diagonal_fits.Statement.{statement}
 use Rattle.common.proofs.limits.diagonal_fits.Tie as tie
 

@@ -1,7 +1,7 @@
 use mathlib.Core.Path.{_∙_}
 use lib.Signed.{ltZ}
 use mir.Facts.{toZ-ofZ}
-use Rattle.common.proofs.Bounds.{first-holds, first-fails}
+use Rattle.common.proofs.Tests.{first-holds, first-fails}
 use Rattle.common.proofs.limits.point_fits.Statement.{statement}
 use Rattle.common.proofs.limits.point_fits.Tie as tie
 

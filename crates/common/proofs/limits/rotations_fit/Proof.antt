@@ -3,7 +3,7 @@ use lib.ListN.{length}
 use borrow.Author.Tests.{le-leb, lt-leb}
 use borrow.Author.Needs.{needs}
 use Rattle.common.specs.Limits.{allWithin}
-use Rattle.common.proofs.Bounds.{first-holds, first-fails}
+use Rattle.common.proofs.Tests.{first-holds, first-fails}
 use Rattle.common.proofs.limits.rotations_fit.Statement.{statement}
 use Rattle.common.proofs.limits.rotations_fit.Tie as tie
 

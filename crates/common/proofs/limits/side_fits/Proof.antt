@@ -2,7 +2,7 @@ use mathlib.Core.Path.{_∙_}
 use lib.IntN.{pos}
 use lib.Signed.{leZ}
 use mir.Facts.{toZ-ofZ}
-use Rattle.common.proofs.Bounds.{first-holds, first-fails}
+use Rattle.common.proofs.Tests.{first-holds, first-fails}
 use Rattle.common.proofs.limits.side_fits.Statement.{statement}
 use Rattle.common.proofs.limits.side_fits.Tie as tie
 

@@ -1,0 +1,17 @@
+pub mod Fitting
+pub mod Remainders
+pub mod Binding
+pub mod Settled
+pub mod Passes
+pub mod Comparing
+pub mod Accepted
+pub mod Bezout
+pub mod FittingEntries
+pub mod RowOperations
+pub mod Zeroing
+pub mod Clearing
+pub mod Keeping
+pub mod Disturbance
+pub mod Ending
+pub mod Diagonal
+pub mod Examples

@@ -1,0 +1,18 @@
+use Rattle.snf3x3.specs.Stages.{Outcome, second}
+use Rattle.snf3x3.specs.StagesView.{threeOf}
+use Rattle.snf3x3.proofs.Binding.{part-left}
+use borrow.Author.Needs.{needs}
+use Rattle.snf3x3.proofs.finalize.second_left.Statement.{statement}
+use Rattle.snf3x3.proofs.finalize.second_left.Tie as tie
+
+second-requires : tie.Need-second-requires
+second-requires c κs = search needs
+
+returns : tie.Need-returns
+returns c =
+    let s = c .before .before .args .s in
+    let o = c .before .second .result in
+    part-left (λ (o : Outcome). o .left) second (s .fits) (o .left .fits) (threeOf s) (record { done = o .done; left = threeOf (o .left) }) (c .before .second .ensures)
+
+pub second-left-spec : {M : Type 1} → statement M
+second-left-spec = tie.close (tie.spec second-requires returns)

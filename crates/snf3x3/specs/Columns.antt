@@ -1,0 +1,68 @@
+-- The steps that clear a column, on a and the matrix that goes with it: P, or the transpose of Q.
+use mathlib.Core.Bool.{Bool, not, _&&_}
+use mathlib.Core.List.{[], _∷_}
+use Prim.Native.Nat.{ℕ}
+use lib.Dec.{eqb}
+use lib.IntN.{ℤ, pos}
+use lib.ListN.{getD}
+use Rattle.integer.specs.Checked.{isZero, pick}
+use Rattle.common.specs.Matrix.{Mat, _·_}
+use Rattle.common.specs.Array.{matrixOf}
+use Rattle.common.specs.IntegerMatrix.{productFits}
+use Rattle.snf3x3.specs.Result.{Result, ok, _then_, provided}
+use Rattle.snf3x3.specs.Gcd.{Euclid, extendedGcd}
+use Rattle.snf3x3.specs.Elementary.{elementarySwapRows, elementarySetZero, setZeroFits}
+
+pub record Pair : Type 0 where
+  pub a : Mat ℤ
+  pub p : Mat ℤ
+
+-- both, multiplied from the left
+unfoldable pub multiply : Mat ℤ → Pair → Result Pair
+multiply l s = provided (productFits l (s .a) && productFits l (s .p)) (record { a = l · s .a; p = l · s .p })
+
+-- the matrix that makes b in row j 0 by a in row i
+abbrev pub zeroing : ℕ → ℕ → ℤ → ℤ → Euclid → Result (Mat ℤ)
+zeroing i j a b g = provided (setZeroFits a b (g .r)) (matrixOf (elementarySetZero i j a b (g .r) (g .s) (g .t)))
+
+-- a step by a matrix that may have overflowed
+abbrev pub stepped : Result (Mat ℤ) → Pair → Result Pair
+stepped m s = m then λ l. multiply l s
+
+abbrev pub zeroBy : ℕ → ℕ → ℤ → ℤ → Pair → Euclid → Result Pair
+zeroBy i j a b s g = stepped (zeroing i j a b g) s
+
+unfoldable pub makeZero : ℕ → ℕ → ℤ → ℤ → Pair → Result Pair
+makeZero i j a b s = pick (isZero b) (ok s) (extendedGcd a b then zeroBy i j a b s)
+
+-- ---- the first column
+-- the first row whose entry is not 0
+pub data Pivot : Type 0 where
+  row : ℕ → Pivot
+  none : Pivot
+
+abbrev pub searchFirstPivot : Mat ℤ → Pivot
+searchFirstPivot m = pick (isZero (m .a)) (pick (isZero (m .d)) (pick (isZero (m .g)) none (row 2)) (row 1)) (row 0)
+
+abbrev pub toTop : ℕ → Pair → Result Pair
+toTop i s = pick (eqb i 0) (ok s) (multiply (matrixOf (elementarySwapRows 0 i)) s)
+
+abbrev pub zeroFirstColumn : ℕ → Pair → Result Pair
+zeroFirstColumn j s = makeZero 0 j (s .a .a) (getD (s .a .a ∷ s .a .d ∷ s .a .g ∷ []) j (pos 0)) s
+
+abbrev pub clearFrom : Pivot → Pair → Result Pair
+clearFrom none s = ok s
+clearFrom (row i) s = toTop i s then zeroFirstColumn 1 then zeroFirstColumn 2
+
+unfoldable pub firstColumn : Pair → Result Pair
+firstColumn s = clearFrom (searchFirstPivot (s .a)) s
+
+-- ---- the second column
+abbrev pub secondToTop : Pair → Result Pair
+secondToTop s = pick (isZero (s .a .e) && not (isZero (s .a .h))) (multiply (matrixOf (elementarySwapRows 1 2)) s) (ok s)
+
+abbrev pub zeroSecondColumn : Pair → Result Pair
+zeroSecondColumn s = makeZero 1 2 (s .a .e) (s .a .h) s
+
+unfoldable pub secondColumn : Pair → Result Pair
+secondColumn s = secondToTop s then zeroSecondColumn

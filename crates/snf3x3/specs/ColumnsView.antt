@@ -1,0 +1,23 @@
+-- What the code's pairs, pivots and steps stand for.
+use lib.IntN.{ℤ}
+use Rattle.common.specs.Matrix.{Mat}
+use Rattle.common.specs.Array.{matrixAt}
+use Rattle.snf3x3.specs.declared.columns.Pair as code
+use Rattle.snf3x3.specs.declared.columns.Pivot as found
+use Rattle.snf3x3.specs.declared.columns.Step as step
+use Rattle.snf3x3.specs.declared.columns.Pivot.the-variants.{Row, Nothing}
+use Rattle.snf3x3.specs.Result.{Result, provided}
+use Rattle.snf3x3.specs.Columns.{Pair, Pivot, row, none}
+
+abbrev pub matricesOf : code.Pair → Pair
+matricesOf s = record { a = matrixAt (s .a) 0; p = matrixAt (s .p) 0 }
+
+abbrev pub pairOf : code.Pair → Result Pair
+pairOf s = provided (s .fits) (matricesOf s)
+
+abbrev pub pivotOf : found.Pivot → Pivot
+pivotOf (Row i) = row i
+pivotOf Nothing = none
+
+abbrev pub stepOf : step.Step → Result (Mat ℤ)
+stepOf z = provided (z .fits) (matrixAt (z .l) 0)

@@ -1,0 +1,175 @@
+// The steps that clear a column, on a and the matrix that goes with it: P, or the transpose of Q.
+use crate::elementary;
+use crate::gcd;
+use crate::gcd::Division;
+ghost use mathlib.Core.Path.{_≡_};
+ghost use Prim.Native.Nat.{_<_};
+ghost use Rattle.common.specs.Array.{matrixOf};
+ghost use Rattle.snf3x3.specs.Result.{overflow, _then_};
+ghost use Rattle.snf3x3.specs.Columns as columns;
+ghost use Rattle.snf3x3.specs.ColumnsView.{pairOf, pivotOf, stepOf};
+ghost use Rattle.snf3x3.specs.Gcd.{extendedGcd};
+
+// `fits` is false once a number left 64 bits; the matrices then say nothing.
+pub struct Pair {
+    pub a: [i64; 9],
+    pub p: [i64; 9],
+    pub fits: bool,
+}
+
+pub enum Pivot {
+    Row(usize),
+    Nothing,
+}
+
+pub fn overflowed() -> Pair
+    ensures { λ r. ⌜ pairOf r ≡ overflow ⌝ }
+{
+    Pair {
+        a: [0; 9],
+        p: [0; 9],
+        fits: false,
+    }
+}
+
+// Both, multiplied from the left.
+pub fn multiply(l: [[i64; 3]; 3], s: Pair) -> Pair
+    ensures { λ r. ⌜ pairOf r ≡ (pairOf s then columns.multiply (matrixOf l)) ⌝ }
+{
+    if !s.fits {
+        return s;
+    }
+    let fa = s.a;
+    let fp = s.p;
+    let a = common::nested(fa);
+    let p = common::nested(fp);
+    if !common::matmul_fits(l, a, p) {
+        return overflowed();
+    }
+    let la = common::flat(common::matmul_i(l, a));
+    let lp = common::flat(common::matmul_i(l, p));
+    Pair {
+        a: la,
+        p: lp,
+        fits: true,
+    }
+}
+
+// The matrix of a step; `fits` is false where a number on the way to it left 64 bits.
+pub struct Step {
+    pub l: [i64; 9],
+    pub fits: bool,
+}
+
+// Of the step that makes b in row j 0 by a in row i.
+fn zeroing(i: usize, j: usize, a: i64, b: i64) -> Step
+    requires { ⌜ (i < 3) × (j < 3) ⌝ }
+    ensures { λ r. ⌜ stepOf r ≡ (extendedGcd a b then columns.zeroing i j a b) ⌝ }
+{
+    let Division::Done(g) = gcd::extended_gcd(a, b) else {
+        return Step {
+            l: [0; 9],
+            fits: false,
+        };
+    };
+    if !elementary::set_zero_fits(a, b, g.r) {
+        return Step {
+            l: [0; 9],
+            fits: false,
+        };
+    }
+    let l = common::flat(elementary::elementary_set_zero(i, j, a, b, g.r, g.s, g.t));
+    Step { l: l, fits: true }
+}
+
+fn apply(z: Step, s: Pair) -> Pair
+    ensures { λ r. ⌜ pairOf r ≡ (pairOf s then columns.stepped (stepOf z)) ⌝ }
+{
+    if !z.fits {
+        return overflowed();
+    }
+    let l = z.l;
+    multiply(common::nested(l), s)
+}
+
+// ---- the first column
+fn search_first_pivot(a: [[i64; 3]; 3]) -> Pivot
+    ensures { λ r. ⌜ pivotOf r ≡ columns.searchFirstPivot (matrixOf a) ⌝ }
+{
+    if a[0][0] != 0 {
+        return Pivot::Row(0);
+    }
+    if a[1][0] != 0 {
+        return Pivot::Row(1);
+    }
+    if a[2][0] != 0 {
+        return Pivot::Row(2);
+    }
+    Pivot::Nothing
+}
+
+fn to_top(i: usize, s: Pair) -> Pair
+    requires { ⌜ i < 3 ⌝ }
+    ensures { λ r. ⌜ pairOf r ≡ (pairOf s then columns.toTop i) ⌝ }
+{
+    if i == 0 {
+        return s;
+    }
+    multiply(elementary::elementary_swap_rows(0, i), s)
+}
+
+fn zero_first_column(j: usize, s: Pair) -> Pair
+    requires { ⌜ j < 3 ⌝ }
+    ensures { λ r. ⌜ pairOf r ≡ (pairOf s then columns.zeroFirstColumn j) ⌝ }
+{
+    let m = s.a;
+    let b = m[3 * j];
+    if b == 0 {
+        return s;
+    }
+    apply(zeroing(0, j, m[0], b), s)
+}
+
+pub fn first_column(s: Pair) -> Pair
+    ensures { λ r. ⌜ pairOf r ≡ (pairOf s then columns.firstColumn) ⌝ }
+{
+    if !s.fits {
+        return s;
+    }
+    let m = s.a;
+    let Pivot::Row(i) = search_first_pivot(common::nested(m)) else {
+        return s;
+    };
+    zero_first_column(2, zero_first_column(1, to_top(i, s)))
+}
+
+// ---- the second column
+fn second_to_top(s: Pair) -> Pair
+    ensures { λ r. ⌜ pairOf r ≡ (pairOf s then columns.secondToTop) ⌝ }
+{
+    let m = s.a;
+    if m[4] != 0 {
+        return s;
+    }
+    if m[7] == 0 {
+        return s;
+    }
+    multiply(elementary::elementary_swap_rows(1, 2), s)
+}
+
+fn zero_second_column(s: Pair) -> Pair
+    ensures { λ r. ⌜ pairOf r ≡ (pairOf s then columns.zeroSecondColumn) ⌝ }
+{
+    let m = s.a;
+    let b = m[7];
+    if b == 0 {
+        return s;
+    }
+    apply(zeroing(1, 2, m[4], b), s)
+}
+
+pub fn second_column(s: Pair) -> Pair
+    ensures { λ r. ⌜ pairOf r ≡ (pairOf s then columns.secondColumn) ⌝ }
+{
+    zero_second_column(second_to_top(s))
+}

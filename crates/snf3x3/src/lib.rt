@@ -1,0 +1,161 @@
+// Diagonalising a 3 by 3 integer matrix.
+mod columns;
+mod elementary;
+mod finalize;
+mod gcd;
+mod stages;
+
+use common::Refusal;
+use common::Tested;
+use stages::Outcome;
+use stages::Triple;
+ghost use mathlib.Core.Path.{_≡_};
+ghost use mathlib.Core.Bool.{true};
+ghost use Prim.Native.Nat.{_≤_};
+ghost use Rattle.common.specs.Array.{vectorOf, matrixOf};
+ghost use Rattle.snf3x3.specs.Result.{_then_};
+ghost use Rattle.snf3x3.specs.StagesView.{threeOf, tripleOf, outcomeOf};
+ghost use Rattle.snf3x3.specs.Snf3x3 as walk;
+ghost use Rattle.snf3x3.specs.Written.{written};
+ghost use Rattle.snf3x3.specs.SameGrid.{sameNumbers, sameAs, sameGrid};
+ghost use Rattle.snf3x3.specs.declared.SameGrid.the-variants as same;
+ghost use Rattle.integer.specs.Checked.{pick};
+
+// P·A·Q is the diagonal matrix of `d_diag`; `rounds` says how many passes it took.
+pub struct Snf {
+    pub tested: Tested,
+    pub d_diag: [i64; 3],
+    pub p: [i64; 9],
+    pub q: [i64; 9],
+    pub rounds: i64,
+}
+
+fn refuse(r: Refusal) -> Snf
+    ensures { λ s. ⌜ s ≡ written (walk.refused r) ⌝ }
+{
+    Snf {
+        tested: Tested::Refused(r),
+        d_diag: [-1; 3],
+        p: [-1; 9],
+        q: [-1; 9],
+        rounds: -1,
+    }
+}
+
+fn round(s: Triple) -> Outcome
+    ensures { λ r. ⌜ outcomeOf r ≡ (tripleOf s then walk.round) ⌝ }
+{
+    let o = stages::first(s);
+    if !o.done {
+        return o;
+    }
+    stages::second(o.left)
+}
+
+// After n rounds.
+fn answer(s: Triple, n: usize) -> Snf
+    requires { ⌜ n ≤ 100 ⌝ }
+    ensures { λ r. ⌜ r ≡ written (walk.answer n (tripleOf s)) ⌝ }
+{
+    if !s.fits {
+        return refuse(Refusal::Overflow);
+    }
+    let a = s.a;
+    let p = s.p;
+    let q = s.q;
+    let t = stages::transposed(q);
+    Snf {
+        tested: Tested::Accepted,
+        d_diag: [a[0], a[4], a[8]],
+        p: p,
+        q: t,
+        rounds: n as i64,
+    }
+}
+
+fn rounds(s: Triple) -> Snf
+    requires { ⌜ s .fits ≡ true ⌝ }
+    ensures { λ r. ⌜ r ≡ written (walk.rounds 100 0 (threeOf s)) ⌝ }
+{
+    let mut t = s;
+    let mut n: usize = 0;
+    while n < 100 {
+        let o = round(t);
+        let u = o.left;
+        if !u.fits {
+            return refuse(Refusal::Overflow);
+        }
+        if o.done {
+            return answer(finalize::finalize(u), n + 1);
+        }
+        t = u;
+        n += 1;
+    }
+    refuse(Refusal::NotConverged)
+}
+
+pub fn snf3x3(a: [[i64; 3]; 3]) -> Snf
+    ensures { λ r. ⌜ r ≡ written (walk.snf3x3 (matrixOf a)) ⌝ }
+{
+    if !common::matrix_within(a, 1000000) {
+        return refuse(Refusal::OutsideLimits);
+    }
+    if common::det_i(a) == 0 {
+        return refuse(Refusal::Singular);
+    }
+    let m = common::flat(a);
+    rounds(Triple {
+        a: m,
+        p: [1, 0, 0, 0, 1, 0, 0, 0, 1],
+        q: [1, 0, 0, 0, 1, 0, 0, 0, 1],
+        fits: true,
+    })
+}
+
+// Whether two matrices make the same grid.
+pub enum SameGrid {
+    Same,
+    Different,
+    Refused(Refusal),
+}
+
+fn same_numbers(d: [i64; 3], e: [i64; 3]) -> bool
+    ensures { λ r. ⌜ r ≡ sameNumbers (vectorOf d) (vectorOf e) ⌝ }
+{
+    common::all_three(d[0] == e[0], d[1] == e[1], d[2] == e[2])
+}
+
+fn compared(d: [i64; 3], e: [i64; 3]) -> SameGrid
+    ensures { λ r. ⌜ r ≡ pick (sameNumbers (vectorOf d) (vectorOf e)) same.Same same.Different ⌝ }
+{
+    if same_numbers(d, e) {
+        SameGrid::Same
+    } else {
+        SameGrid::Different
+    }
+}
+
+// Of a matrix with the diagonal numbers d, and b.
+fn same_as(d: [i64; 3], b: [[i64; 3]; 3]) -> SameGrid
+    ensures { λ r. ⌜ r ≡ sameAs (vectorOf d) (walk.snf3x3 (matrixOf b)) ⌝ }
+{
+    let y = snf3x3(b);
+    let e = y.d_diag;
+    let t = y.tested;
+    match t {
+        Tested::Accepted => compared(d, e),
+        Tested::Refused(r) => SameGrid::Refused(r),
+    }
+}
+
+pub fn same_grid(a: [[i64; 3]; 3], b: [[i64; 3]; 3]) -> SameGrid
+    ensures { λ r. ⌜ r ≡ sameGrid (walk.snf3x3 (matrixOf a)) (walk.snf3x3 (matrixOf b)) ⌝ }
+{
+    let x = snf3x3(a);
+    let d = x.d_diag;
+    let t = x.tested;
+    match t {
+        Tested::Accepted => same_as(d, b),
+        Tested::Refused(r) => SameGrid::Refused(r),
+    }
+}

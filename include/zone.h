@@ -46,6 +46,24 @@ int64_t zone_reciprocal_point_group(const int64_t *rotations, size_t rotations_l
 int64_t zone_reciprocal_rotations(const int64_t *rotations, size_t rotations_len, bool time_reversal,
                                   int64_t *out, size_t out_len, int64_t *told, size_t told_len);
 
+/* The matrix a[9] made diagonal: P·A·Q is the diagonal matrix of d[3], with P and Q in p[9] and q[9],
+ * all by rows; told[1] is the number of rounds. 1: the determinant is 0; 2: 100 rounds were not enough;
+ * 4: a number on the way leaves 64 bits; 13 and 3 as below. */
+int64_t zone_snf3x3(const int64_t *a, size_t a_len, int64_t *d, size_t d_len, int64_t *p, size_t p_len,
+                    int64_t *q, size_t q_len, int64_t *told, size_t told_len);
+
+/* Whether the matrices a[9] and b[9] have the same diagonal numbers: told[1] is 1 or 0. The refusals
+ * are those of zone_snf3x3, of a before b. */
+int64_t zone_same_grid(const int64_t *a, size_t a_len, const int64_t *b, size_t b_len, int64_t *told,
+                       size_t told_len);
+
+/* The rotations as those of the grid with diagonal numbers d[3] and Q in q[9]: D·Q⁻¹·R·Q·D⁻¹ of each R,
+ * in f64, rounded; rotations has 9 numbers each, out is as long. 5: the determinant of Q is 0; 6: a
+ * number is over 1e-5 from a whole one; 13 and 3 as below. */
+int64_t zone_transform_rotations(const int64_t *rotations, size_t rotations_len, const int64_t *d,
+                                 size_t d_len, const int64_t *q, size_t q_len, int64_t *out,
+                                 size_t out_len);
+
 /* The grid with diagonal numbers d[3], N points. 13: a slice has another length, or rotations is not
  * a list of matrices; 3: a number is outside its limits.
  *

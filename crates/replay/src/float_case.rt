@@ -1,6 +1,7 @@
 // One case of a function on f64. A float stands in a line as the two 32-bit words of its bits, the
 // high one first.
 use crate::function::Verdict;
+use crate::function::verdict_of;
 
 pub const ROUND: usize = 8;
 
@@ -53,14 +54,6 @@ fn same(x: f64, y: f64) -> bool {
         return x == y && 1.0 / x == 1.0 / y;
     }
     y != y
-}
-
-fn verdict_of(same: bool) -> Verdict {
-    if same {
-        Verdict::Same
-    } else {
-        Verdict::Differs
-    }
 }
 
 fn float_result(function: usize, x: f64) -> f64 {

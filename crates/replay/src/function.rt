@@ -1,5 +1,6 @@
 // The functions that have vectors, and one case of one.
 use crate::float_case;
+use crate::matrix_case;
 use crate::slice_case;
 use crate::text;
 use crate::text::Count;
@@ -25,6 +26,14 @@ pub enum Verdict {
     Differs,
     // no vector of the function
     Unread,
+}
+
+pub fn verdict_of(same: bool) -> Verdict {
+    if same {
+        Verdict::Same
+    } else {
+        Verdict::Differs
+    }
 }
 
 fn call(function: usize, a: i64, b: i64, told: &mut [i64]) -> i64 {
@@ -66,6 +75,9 @@ fn judge_checked(function: usize, n: [i64; 5], count: usize) -> Verdict {
 }
 
 pub fn judge(function: usize, line: &[u8]) -> Verdict {
+    if function > slice_case::TRANSFORM_ROTATIONS {
+        return matrix_case::judge_matrices(function, line);
+    }
     if function > float_case::TO_F64 {
         return slice_case::judge_slices(function, line);
     }

@@ -2,6 +2,7 @@
 // export, and prints how many cases there were and how many differ.
 mod float_case;
 mod function;
+mod matrix_case;
 mod slice_case;
 mod text;
 
@@ -106,4 +107,7 @@ fn main() {
     replay_file(slice_case::RECIPROCAL_ROTATIONS, b"reciprocal_rotations");
     replay_file(slice_case::IR_GRID_MAP, b"ir_grid_map");
     replay_file(slice_case::ALL_GRID_ADDRESSES, b"all_grid_addresses");
+    replay_file(matrix_case::SNF3X3, b"snf3x3");
+    replay_file(matrix_case::SAME_GRID, b"same_grid");
+    replay_file(slice_case::TRANSFORM_ROTATIONS, b"transform_rotations");
 }

@@ -14,10 +14,12 @@ pub const IR_GRID_MAP: usize = 19;
 
 pub const ALL_GRID_ADDRESSES: usize = 20;
 
+pub const TRANSFORM_ROTATIONS: usize = 21;
+
 const LISTED: usize = 432;
 
 // The place after the slice that starts at place `at`; the end of n where there is none.
-fn after(n: &[i64], at: usize) -> usize
+pub fn after(n: &[i64], at: usize) -> usize
     requires { ⌜ at < length (now n) ⌝ }
     ensures { λ r. ⌜ (at < r) × (r ≤ length (now (n .entry))) ⌝ }
 {
@@ -62,7 +64,7 @@ fn sum(written: &[i64]) -> u64 {
     sum
 }
 
-fn same(a: &[i64], b: &[i64]) -> bool {
+pub fn same(a: &[i64], b: &[i64]) -> bool {
     if a.len() != b.len() {
         return false;
     }
@@ -115,7 +117,7 @@ fn verdict(answer: i64, out: &[i64], told: &[i64], n: &[i64], at: usize) -> Verd
 }
 
 // The place after the first `count` slices of a line.
-fn after_slices(n: &[i64], count: usize) -> usize
+pub fn after_slices(n: &[i64], count: usize) -> usize
     ensures { λ r. ⌜ r ≤ length (now (n .entry)) ⌝ }
 {
     let mut at = 0;
@@ -130,21 +132,38 @@ fn after_slices(n: &[i64], count: usize) -> usize
     at
 }
 
-fn ir_grid_map(n: &[i64], out: &mut [i64], told: &mut [i64]) -> Verdict {
+// The function of a list of rotations, d, and ps or Q.
+fn of_three_slices(function: usize, n: &[i64], out: &mut [i64], told: &mut [i64]) -> Verdict {
     let d = after_slices(n, 1);
-    let ps = after_slices(n, 2);
+    let third = after_slices(n, 2);
     let at = after_slices(n, 3);
-    if d >= ps {
+    if d >= third {
         return Verdict::Unread;
     }
-    if ps >= at {
+    if third >= at {
         return Verdict::Unread;
     }
     if d < 1 {
         return Verdict::Unread;
     }
-    let answer = zone_c::zone_ir_grid_map(&n[1..d], &n[d + 1..ps], &n[ps + 1..at], out, told);
-    verdict(answer, out, told, n, at)
+    if function == IR_GRID_MAP {
+        let answer = zone_c::zone_ir_grid_map(
+            &n[1..d],
+            &n[d + 1..third],
+            &n[third + 1..at],
+            out,
+            told,
+        );
+        return verdict(answer, out, told, n, at);
+    }
+    let answer = zone_c::zone_transform_rotations(
+        &n[1..d],
+        &n[d + 1..third],
+        &n[third + 1..at],
+        out,
+    );
+    let none = [0i64; 0];
+    verdict(answer, out, &none, n, at)
 }
 
 fn all_grid_addresses(n: &[i64], out: &mut [i64]) -> Verdict {
@@ -191,7 +210,7 @@ fn call(function: usize, n: &[i64], out: &mut [i64], told: &mut [i64]) -> Verdic
     match function {
         RECIPROCAL_POINT_GROUP => reciprocal_point_group(n, out, told),
         RECIPROCAL_ROTATIONS => reciprocal_rotations(n, out, told),
-        IR_GRID_MAP => ir_grid_map(n, out, told),
+        IR_GRID_MAP | TRANSFORM_ROTATIONS => of_three_slices(function, n, out, told),
         _ => all_grid_addresses(n, out),
     }
 }
@@ -201,7 +220,7 @@ fn answer_at(function: usize, n: &[i64]) -> usize {
     match function {
         RECIPROCAL_POINT_GROUP => after_slices(n, 1) + 2,
         RECIPROCAL_ROTATIONS => after_slices(n, 1) + 1,
-        IR_GRID_MAP => after_slices(n, 3),
+        IR_GRID_MAP | TRANSFORM_ROTATIONS => after_slices(n, 3),
         _ => after_slices(n, 1),
     }
 }

@@ -10,11 +10,12 @@ use borrow.Author.Tests.{ne-eqb}
 use mir.Syntax.{w64}
 use mir.Val.{toZ, ofZ}
 use mir.Facts.{toZ-ofZ}
+use Rattle.integer.specs.Checked.{pick}
 use Rattle.integer.specs.declared.Checked.{Checked}
 use Rattle.integer.specs.declared.Checked.the-variants.{Value, Overflow, ZeroDivisor}
 use Rattle.common.specs.declared.Refusal.the-variants as refusal
 use Rattle.common.specs.Refusal.{numberOf}
-use Rattle.zone_c.specs.Told.{checkedAnswer, pick, toldAnswer, told, Told}
+use Rattle.zone_c.specs.Told.{checkedAnswer, toldAnswer, told, Told}
 
 -- an output of one place
 pub stored : (b : List ℤ) → length b ≡ 1 → (z : ℤ) → set b 0 z ≡ z ∷ []

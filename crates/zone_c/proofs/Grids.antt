@@ -1,13 +1,11 @@
 -- What the exports of grgrid answer and leave, by their branches.
-use mathlib.Core.Path.{_≡_, sym, _∙_, ap, ap₂}
-use mathlib.Core.Bool.{Bool, true, false, _&&_}
+use mathlib.Core.Path.{_≡_, _∙_, ap, ap₂}
+use mathlib.Core.Bool.{true, false}
 use mathlib.Core.List.{List}
 use Prim.Native.Nat.{ℕ}
-use lib.Dec.{eqb}
 use lib.IntN.{ℤ, pos, negsuc}
 use lib.ListN.{length, replicate}
-use borrow.Author.Tests.{eqb-true, eq-eqb, ne-eqb}
-use Rattle.integer.proofs.Test.{holds, is-true, and-l, and-r}
+use borrow.Author.Tests.{eq-eqb, ne-eqb}
 use Rattle.common.specs.declared.Refusal.the-variants.{WrongLength}
 use Rattle.common.specs.Refusal.{numberOf}
 use Rattle.common.specs.Array.{rowAt}
@@ -15,24 +13,8 @@ use Rattle.grgrid.specs.declared.IrGridMap.{IrGridMap}
 use Rattle.grgrid.specs.declared.Addresses.{Addresses}
 use Rattle.grgrid.specs.IrGridMap.{irGridMapAnswer, irGridMapWritten}
 use Rattle.grgrid.specs.Addresses.{addressesAnswer, addressesWritten}
-use Rattle.zone_c.specs.Told.{pick}
 use Rattle.zone_c.specs.Grids.{classesNumber, classesTold, addressesNumber, classLengths, IrGridMapTold, AddressesTold}
-
--- the branch of a test that is known
-taken : {A : Type 0} {t : Bool} (x y : A) → t ≡ true → x ≡ pick t x y
-taken x y e = ap (λ t. pick t x y) (sym e)
-
-left : {A : Type 0} {t : Bool} (x y : A) → t ≡ false → y ≡ pick t x y
-left x y e = ap (λ t. pick t x y) (sym e)
-
--- three places that hold
-pub lengths-hold : (d ps told : ℕ) → classLengths d ps told ≡ true → (d ≡ 3) × (ps ≡ 3) × (told ≡ 1)
-lengths-hold d ps told e =
-    let r = and-r (eqb d 3) (eqb ps 3 && eqb told 1) (holds e) in (
-      eqb-true d 3 (is-true (eqb d 3) (and-l (eqb d 3) (eqb ps 3 && eqb told 1) (holds e))),
-      eqb-true ps 3 (is-true (eqb ps 3) (and-l (eqb ps 3) (eqb told 1) r)),
-      eqb-true told 1 (is-true (eqb told 1) (and-r (eqb ps 3) (eqb told 1) r)),
-    )
+use Rattle.zone_c.proofs.Lengths.{taken, left}
 
 module _ (rotations d ps : List ℤ) (n m : ℕ) where
   abbrev answer : IrGridMap

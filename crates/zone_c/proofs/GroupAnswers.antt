@@ -10,6 +10,7 @@ use lib.Signed.{mag}
 use mir.Syntax.{w64}
 use mir.Val.{SFits}
 use borrow.Author.Tests.{ne-eqb}
+use Rattle.integer.specs.Checked.{pick}
 use Rattle.integer.proofs.Fits.{held, held-is}
 use Rattle.common.specs.declared.Refusal.{Refusal}
 use Rattle.common.specs.declared.Refusal.the-variants.{WrongLength}
@@ -17,7 +18,6 @@ use Rattle.common.specs.Refusal.{numberOf}
 use Rattle.recip_rotations.specs.PointGroup.{countOf}
 use Rattle.recip_rotations.specs.declared.PointGroup.{PointGroup}
 use Rattle.recip_rotations.specs.declared.PointGroup.the-variants.{Rotations, Refused}
-use Rattle.zone_c.specs.Told.{pick}
 use Rattle.zone_c.specs.PointGroupTold.{groupNumber, groupTold, PointGroupTold}
 use Rattle.zone_c.proofs.Answers.{stored}
 

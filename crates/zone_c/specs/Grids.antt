@@ -6,6 +6,7 @@ use Prim.Native.Nat.{ℕ}
 use lib.Dec.{eqb}
 use lib.IntN.{ℤ, pos, negsuc}
 use lib.ListN.{length, replicate}
+use Rattle.integer.specs.Checked.{pick}
 use Rattle.common.specs.declared.Refusal.the-variants.{WrongLength}
 use Rattle.common.specs.Refusal.{numberOf}
 use Rattle.grgrid.specs.declared.IrGridMap.{IrGridMap}
@@ -14,7 +15,6 @@ use Rattle.grgrid.specs.declared.Addresses.{Addresses}
 use Rattle.grgrid.specs.declared.Addresses.the-variants as addresses
 use Rattle.grgrid.specs.IrGridMap.{irGridMapAnswer, irGridMapWritten}
 use Rattle.grgrid.specs.Addresses.{addressesAnswer, addressesWritten}
-use Rattle.zone_c.specs.Told.{pick}
 
 abbrev pub classesNumber : IrGridMap → ℤ
 classesNumber (classes.Classes n) = pos 0

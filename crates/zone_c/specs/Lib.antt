@@ -1,3 +1,5 @@
 pub mod Told
 pub mod Grids
 pub mod PointGroupTold
+pub mod Diagonals
+pub mod Transforms

@@ -5,11 +5,11 @@ use Prim.Native.Nat.{ℕ}
 use lib.Dec.{eqb}
 use lib.IntN.{ℤ, pos, negsuc}
 use lib.ListN.{replicate}
+use Rattle.integer.specs.Checked.{pick}
 use Rattle.common.specs.declared.Refusal.the-variants.{WrongLength}
 use Rattle.common.specs.Refusal.{numberOf}
 use Rattle.recip_rotations.specs.declared.PointGroup.{PointGroup}
 use Rattle.recip_rotations.specs.declared.PointGroup.the-variants.{Rotations, Refused}
-use Rattle.zone_c.specs.Told.{pick}
 
 abbrev pub groupNumber : PointGroup → ℤ
 groupNumber (Rotations n) = pos 0

@@ -1,11 +1,11 @@
 -- What an export of a checked operation answers, and what it leaves in its output, which has one place.
 use mathlib.Core.Path.{_≡_}
-use mathlib.Core.Bool.{Bool, true, false}
 use mathlib.Core.List.{List, [], _∷_}
 use Prim.Native.Nat.{ℕ}
 use lib.Dec.{eqb}
 use lib.IntN.{ℤ, pos, negsuc}
 use lib.ListN.{length, replicate}
+use Rattle.integer.specs.Checked.{pick}
 use Rattle.integer.specs.declared.Checked.{Checked}
 use Rattle.integer.specs.declared.Checked.the-variants.{Value, Overflow, ZeroDivisor}
 use Rattle.common.specs.declared.Refusal.the-variants as refusal
@@ -16,10 +16,6 @@ abbrev pub checkedAnswer : Checked → ℤ
 checkedAnswer (Value z) = pos 0
 checkedAnswer Overflow = pos (numberOf refusal.Overflow)
 checkedAnswer ZeroDivisor = pos (numberOf refusal.Overflow)
-
-abbrev pub pick : {A : Type 0} → Bool → A → A → A
-pick true a b = a
-pick false a b = b
 
 -- n is the output's length
 abbrev pub toldAnswer : ℕ → Checked → ℤ

@@ -1,9 +1,13 @@
 // The exports for C and Rust. Each answers 0, or document 01's number of the refusal.
+mod diagonal;
 mod floats;
 mod grid;
 mod recip;
+mod transform;
 
 use common::Refusal;
+pub use diagonal::zone_same_grid;
+pub use diagonal::zone_snf3x3;
 pub use floats::zone_abs;
 pub use floats::zone_ceil;
 pub use floats::zone_floor;
@@ -18,6 +22,7 @@ pub use grid::zone_ir_grid_map;
 use integer::Checked;
 pub use recip::zone_reciprocal_point_group;
 pub use recip::zone_reciprocal_rotations;
+pub use transform::zone_transform_rotations;
 ghost use lib.IntN.{negℤ, _+ℤ_, _-ℤ_, _*ℤ_};
 ghost use lib.Signed.{quotZ, remZ};
 ghost use Rattle.integer.specs.Checked.{checked, divided};

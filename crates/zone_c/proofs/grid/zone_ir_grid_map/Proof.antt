@@ -3,7 +3,8 @@ use native.Mathlib.Omega.{arith}
 use lib.ListN.{length}
 use Rattle.integer.proofs.Fits.{held-is}
 use Rattle.common.proofs.Tests.{yes, no}
-use Rattle.zone_c.proofs.Grids.{lengths-hold, classes-unsized, classes-passed}
+use Rattle.zone_c.proofs.Grids.{classes-unsized, classes-passed}
+use Rattle.zone_c.proofs.Lengths.{three-lengths}
 use borrow.Author.Needs.{needs}
 use Rattle.zone_c.proofs.grid.zone_ir_grid_map.Statement.{statement}
 use Rattle.zone_c.proofs.grid.zone_ir_grid_map.Tie as tie
@@ -35,12 +36,12 @@ returns c =
 row-at-requires : tie.Need-row-at-requires
 row-at-requires c κs =
     let s = c .before .before in
-    omega (arith, lengths-hold (length (s .args .d .now)) (length (s .args .ps .now)) (length (s .args .told .now)) (yes (c .before .class-lengths .ensures) (c .if1 .left)) .0)
+    omega (arith, three-lengths (length (s .args .d .now)) 3 (length (s .args .ps .now)) 3 (length (s .args .told .now)) 1 (yes (c .before .class-lengths .ensures) (c .if1 .left)) .0)
 
 row-at-requires-2 : tie.Need-row-at-requires-2
 row-at-requires-2 c κs =
     let s = c .before .before .before in
-    omega (arith, lengths-hold (length (s .args .d .now)) (length (s .args .ps .now)) (length (s .args .told .now)) (yes (c .before .before .class-lengths .ensures) (c .before .if1 .left)) .1)
+    omega (arith, three-lengths (length (s .args .d .now)) 3 (length (s .args .ps .now)) 3 (length (s .args .told .now)) 1 (yes (c .before .before .class-lengths .ensures) (c .before .if1 .left)) .1)
 
 ir-grid-map-requires : tie.Need-ir-grid-map-requires
 ir-grid-map-requires c κs = search needs
@@ -48,7 +49,7 @@ ir-grid-map-requires c κs = search needs
 tell-classes-requires : tie.Need-tell-classes-requires
 tell-classes-requires c κs =
     let s = c .before .before .before .before .before .before .before .before in
-    lengths-hold (length (s .args .d .now)) (length (s .args .ps .now)) (length (s .args .told .now)) (yes (c .before .before .before .before .before .before .before .class-lengths .ensures) (c .before .before .before .before .before .before .if1 .left)) .2
+    three-lengths (length (s .args .d .now)) 3 (length (s .args .ps .now)) 3 (length (s .args .told .now)) 1 (yes (c .before .before .before .before .before .before .before .class-lengths .ensures) (c .before .before .before .before .before .before .if1 .left)) .2
 
 same-length-3 : tie.Need-same-length-3
 same-length-3 c = search needs

@@ -1,0 +1,64 @@
+-- What the exports of snf3x3 answer and leave in their outputs.
+use mathlib.Core.Path.{_≡_}
+use mathlib.Core.Bool.{Bool, _&&_}
+use mathlib.Core.List.{List, [], _∷_}
+use Prim.Native.Nat.{ℕ}
+use lib.Dec.{eqb}
+use lib.IntN.{ℤ, pos, negsuc}
+use lib.ListN.{length, replicate}
+use Rattle.integer.specs.Checked.{pick}
+use Rattle.common.specs.declared.Refusal.the-variants.{WrongLength}
+use Rattle.common.specs.Refusal.{numberOf}
+use Rattle.common.specs.Tested.{answerOf}
+use Rattle.common.specs.Array.{matrixAt}
+use Rattle.snf3x3.specs.declared.Snf.{Snf}
+use Rattle.snf3x3.specs.declared.SameGrid.{SameGrid}
+use Rattle.snf3x3.specs.declared.SameGrid.the-variants.{Same, Different, Refused}
+use Rattle.snf3x3.specs.Snf3x3.{snf3x3}
+use Rattle.snf3x3.specs.Written.{written}
+use Rattle.snf3x3.specs.SameGrid.{sameGrid}
+
+-- of d, P and Q
+abbrev pub resultLengths : ℕ → ℕ → ℕ → Bool
+resultLengths d p q = eqb d 3 && (eqb p 9 && eqb q 9)
+
+-- of the matrix, d, P, Q and `told`
+abbrev pub diagonalLengths : ℕ → ℕ → ℕ → ℕ → ℕ → Bool
+diagonalLengths a d p q told = eqb a 9 && (resultLengths d p q && eqb told 1)
+
+-- of the matrix that stands in a list
+abbrev pub diagonalisation : List ℤ → Snf
+diagonalisation a = written (snf3x3 (matrixAt a 0))
+
+-- the answer r and the outputs, which had nd, np, nq and nt places
+pub record Snf3x3Told (a : List ℤ) (nd np nq nt : ℕ) (r : ℤ) (d p q told : List ℤ) : Type 0 where
+  pub answer : r ≡ pick (diagonalLengths (length a) nd np nq nt) (answerOf (diagonalisation a .tested)) (pos (numberOf WrongLength))
+  pub diagonal : d ≡ pick (diagonalLengths (length a) nd np nq nt) (diagonalisation a .«d_diag») (replicate nd (negsuc 0))
+  pub left : p ≡ pick (diagonalLengths (length a) nd np nq nt) (diagonalisation a .p) (replicate np (negsuc 0))
+  pub right : q ≡ pick (diagonalLengths (length a) nd np nq nt) (diagonalisation a .q) (replicate nq (negsuc 0))
+  pub rounds : told ≡ pick (diagonalLengths (length a) nd np nq nt) (diagonalisation a .rounds ∷ []) (replicate nt (negsuc 0))
+
+-- ---- two matrices
+abbrev pub sameNumber : SameGrid → ℤ
+sameNumber Same = pos 0
+sameNumber Different = pos 0
+sameNumber (Refused r) = pos (numberOf r)
+
+-- in the one place of `told`
+abbrev pub sameTold : SameGrid → List ℤ
+sameTold Same = pos 1 ∷ []
+sameTold Different = pos 0 ∷ []
+sameTold (Refused r) = negsuc 0 ∷ []
+
+-- of the two matrices and `told`
+abbrev pub sameLengths : ℕ → ℕ → ℕ → Bool
+sameLengths a b told = eqb a 9 && (eqb b 9 && eqb told 1)
+
+-- of the matrices that stand in two lists
+abbrev pub comparison : List ℤ → List ℤ → SameGrid
+comparison a b = sameGrid (snf3x3 (matrixAt a 0)) (snf3x3 (matrixAt b 0))
+
+-- the answer r and `told`, which had n places
+pub record SameGridTold (a b : List ℤ) (n : ℕ) (r : ℤ) (told : List ℤ) : Type 0 where
+  pub answer : r ≡ pick (sameLengths (length a) (length b) n) (sameNumber (comparison a b)) (pos (numberOf WrongLength))
+  pub value : told ≡ pick (sameLengths (length a) (length b) n) (sameTold (comparison a b)) (replicate n (negsuc 0))

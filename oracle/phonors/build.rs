@@ -1,5 +1,6 @@
 //! Lists the modules of phonors for src/lib.rs, each by its path in the folder
-//! PHONORS_SRC (by default ../shared/docs/src/src, seen from the repository).
+//! PHONORS_SRC (by default ../shared/docs/src/src, seen from the repository), and
+//! writes the edited versions of them.
 
 use std::path::{Path, PathBuf};
 use std::{env, fs, process};
@@ -16,32 +17,106 @@ const MODULES: [&str; 7] = [
 
 const DEFAULT_SOURCES: &str = "../../../shared/docs/src/src";
 
+/// A module's text but for a few edits, so that it tells more than its answer.
+struct Version {
+    name: &'static str,
+    module: &'static str,
+    /// What stands in the module, and what takes its place.
+    edits: &'static [[&'static str; 2]],
+}
+
+const VERSIONS: [Version; 2] = [
+    Version {
+        name: "snf3x3_counted",
+        module: "snf3x3",
+        edits: &[
+            [
+                "pub fn snf3x3(a: MatI)",
+                "pub fn snf3x3(a: MatI, rounds: &mut i64)",
+            ],
+            [
+                "for _ in 0..100 {",
+                "for _ in 0..100 {\n        *rounds += 1;",
+            ],
+        ],
+    },
+    Version {
+        name: "snf3x3_measured",
+        module: "snf3x3",
+        edits: &[[
+            "use crate::common::{det_i, matmul_i, ",
+            "use crate::measured::{det_i, matmul_i};\nuse crate::common::{",
+        ]],
+    },
+];
+
 fn main() {
     println!("cargo:rerun-if-changed=build.rs");
     println!("cargo:rerun-if-env-changed=PHONORS_SRC");
     let folder = env::var_os("PHONORS_SRC").unwrap_or(DEFAULT_SOURCES.into());
     let folder = fs::canonicalize(&folder).unwrap_or_else(|_| missing(Path::new(&folder)));
-    let list: String = MODULES.map(|name| module(&folder, name)).concat();
     let out_dir = PathBuf::from(env::var_os("OUT_DIR").expect("cargo sets OUT_DIR"));
-    fs::write(out_dir.join("modules.rs"), list).expect("OUT_DIR takes files");
+    let mut list = String::new();
+    for name in MODULES {
+        let file = source(&folder, name);
+        println!("cargo:rerun-if-changed={}", file.display());
+        list += &item(name, &file);
+    }
+    for version in VERSIONS {
+        let file = out_dir.join(version.name).with_extension("rs");
+        write(&file, &version.text(&source(&folder, version.module)));
+        list += &item(version.name, &file);
+    }
+    write(&out_dir.join("modules.rs"), &list);
 }
 
-/// The item that makes the file of one module a module of the crate. Warnings
-/// about its code are not ours to mend.
-fn module(folder: &Path, name: &str) -> String {
+/// The file of a module.
+fn source(folder: &Path, name: &str) -> PathBuf {
     let file = folder.join(name).with_extension("rs");
     if !file.is_file() {
         missing(&file);
     }
-    println!("cargo:rerun-if-changed={}", file.display());
+    file
+}
+
+/// The item that makes a file a module of the crate. Warnings about its code are
+/// not ours to mend.
+fn item(name: &str, file: &Path) -> String {
     format!("#[allow(warnings, clippy::all)]\n#[path = {file:?}]\npub mod {name};\n")
 }
 
-/// Ends the build with one line.
+impl Version {
+    /// An edit whose place is not there once ends the build: it would make
+    /// another program.
+    fn text(&self, file: &Path) -> String {
+        let mut text = fs::read_to_string(file).unwrap_or_else(|_| missing(file));
+        for [old, new] in self.edits {
+            let found = text.matches(old).count();
+            if found != 1 {
+                fail(&format!(
+                    "{} has {found} times {old:?}, not once",
+                    file.display()
+                ));
+            }
+            text = text.replace(old, new);
+        }
+        text
+    }
+}
+
+fn write(file: &Path, text: &str) {
+    fs::write(file, text).expect("OUT_DIR takes files");
+}
+
 fn missing(path: &Path) -> ! {
-    println!(
-        "cargo::error={} is missing (PHONORS_SRC names the folder of phonors)",
+    fail(&format!(
+        "{} is missing (PHONORS_SRC names the folder of phonors)",
         path.display()
-    );
+    ))
+}
+
+/// Ends the build with one line.
+fn fail(line: &str) -> ! {
+    println!("cargo::error={line}");
     process::exit(0);
 }

@@ -19,10 +19,15 @@ pub struct Times {
     pub oracle: f64,
 }
 
-/// The sides take turns, so that a disturbance meets both.
+/// The times on typical inputs.
 pub fn run<F: Function>() -> Times {
+    run_on::<F>(F::Input::typical)
+}
+
+/// The sides take turns, so that a disturbance meets both.
+pub fn run_on<F: Function>(input: fn(&mut Random) -> F::Input) -> Times {
     let mut random = Random::new(1);
-    let inputs = (0..INPUTS).map(|_| F::Input::typical(&mut random));
+    let inputs = (0..INPUTS).map(|_| input(&mut random));
     let mut cases: Vec<_> = inputs.map(|input| (F::outputs(&input), input)).collect();
     let mut rounds = 1;
     while time(F::port, &mut cases, rounds) < REPETITION {
@@ -35,7 +40,7 @@ pub fn run<F: Function>() -> Times {
     };
     for _ in 0..REPETITIONS {
         let port = time(F::port, &mut cases, rounds).as_nanos() as f64 / calls;
-        let oracle = time(F::oracle, &mut cases, rounds).as_nanos() as f64 / calls;
+        let oracle = time(F::timed, &mut cases, rounds).as_nanos() as f64 / calls;
         best.port = best.port.min(port);
         best.oracle = best.oracle.min(oracle);
     }

@@ -28,6 +28,10 @@ pub trait Function {
     /// Whether its outputs are lent, so that their lengths may be wrong.
     const LENT: bool = true;
 
+    /// Cases of its vectors: those at the limits, filled up with random ones as
+    /// far as the file has room.
+    const VECTORS: usize = 64;
+
     type Input: Input;
 
     /// Outputs of the lengths that the call wants.
@@ -38,6 +42,11 @@ pub trait Function {
 
     /// The Rust's answer, likewise.
     fn oracle(input: &Self::Input, outputs: &mut Outputs) -> i64;
+
+    /// What the bench takes the time of on the Rust's side.
+    fn timed(input: &Self::Input, outputs: &mut Outputs) -> i64 {
+        Self::oracle(input, outputs)
+    }
 }
 
 /// The lent output slices of one call.

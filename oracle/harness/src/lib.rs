@@ -21,5 +21,8 @@ pub mod random;
 pub mod recip_rotations;
 pub mod refusals;
 pub mod rows;
+pub mod same_grid;
+pub mod snf3x3;
 pub mod tests;
+pub mod transform_rotations;
 pub mod vectors;

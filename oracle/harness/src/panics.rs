@@ -74,7 +74,7 @@ mod tests {
         assert_eq!(snf.unwrap().unwrap().d_diag, [1, 1, 3]);
     }
 
-    /// The smallest matrix known on which the Rust leaves 64 bits.
+    /// A matrix of small entries on which the Rust leaves 64 bits.
     #[test]
     fn overflow() {
         let a = [[56, 36, 47], [68, 66, -36], [14, -42, -37]];

@@ -52,6 +52,36 @@ extern "C" {
         told_len: usize,
     ) -> i64;
     fn zone_all_grid_addresses(d: *const i64, d_len: usize, out: *mut i64, out_len: usize) -> i64;
+    fn zone_snf3x3(
+        a: *const i64,
+        a_len: usize,
+        d: *mut i64,
+        d_len: usize,
+        p: *mut i64,
+        p_len: usize,
+        q: *mut i64,
+        q_len: usize,
+        told: *mut i64,
+        told_len: usize,
+    ) -> i64;
+    fn zone_same_grid(
+        a: *const i64,
+        a_len: usize,
+        b: *const i64,
+        b_len: usize,
+        told: *mut i64,
+        told_len: usize,
+    ) -> i64;
+    fn zone_transform_rotations(
+        rotations: *const i64,
+        rotations_len: usize,
+        d: *const i64,
+        d_len: usize,
+        q: *const i64,
+        q_len: usize,
+        out: *mut i64,
+        out_len: usize,
+    ) -> i64;
 }
 
 pub fn checked_add(a: i64, b: i64, told: &mut [i64]) -> i64 {
@@ -187,4 +217,49 @@ pub fn ir_grid_map(
 
 pub fn all_grid_addresses(d: &[i64], out: &mut [i64]) -> i64 {
     unsafe { zone_all_grid_addresses(d.as_ptr(), d.len(), out.as_mut_ptr(), out.len()) }
+}
+
+pub fn snf3x3(a: &[i64], d: &mut [i64], p: &mut [i64], q: &mut [i64], told: &mut [i64]) -> i64 {
+    unsafe {
+        zone_snf3x3(
+            a.as_ptr(),
+            a.len(),
+            d.as_mut_ptr(),
+            d.len(),
+            p.as_mut_ptr(),
+            p.len(),
+            q.as_mut_ptr(),
+            q.len(),
+            told.as_mut_ptr(),
+            told.len(),
+        )
+    }
+}
+
+pub fn same_grid(a: &[i64], b: &[i64], told: &mut [i64]) -> i64 {
+    unsafe {
+        zone_same_grid(
+            a.as_ptr(),
+            a.len(),
+            b.as_ptr(),
+            b.len(),
+            told.as_mut_ptr(),
+            told.len(),
+        )
+    }
+}
+
+pub fn transform_rotations(rotations: &[i64], d: &[i64], q: &[i64], out: &mut [i64]) -> i64 {
+    unsafe {
+        zone_transform_rotations(
+            rotations.as_ptr(),
+            rotations.len(),
+            d.as_ptr(),
+            d.len(),
+            q.as_ptr(),
+            q.len(),
+            out.as_mut_ptr(),
+            out.len(),
+        )
+    }
 }

@@ -6,6 +6,9 @@ use crate::function::Function;
 use crate::grgrid::*;
 use crate::integers::*;
 use crate::recip_rotations::*;
+use crate::same_grid::*;
+use crate::snf3x3::*;
+use crate::transform_rotations::*;
 use crate::{compare, vectors};
 
 /// What the commands do with one function.
@@ -51,4 +54,18 @@ pub static ROWS: &[Row] = &[
     Row::of::<ReciprocalRotations>(),
     Row::of::<IrGridMap>(),
     Row::of::<AllGridAddresses>(),
+    Row::of::<Snf3x3>(),
+    Row::of::<SameGrid>(),
+    Row::of::<TransformRotations>(),
+];
+
+/// A line of the bench for a function on other inputs: FUNCTION:INPUTS. It is
+/// left out of the mean.
+pub type Variant = (&'static str, fn() -> Times);
+
+pub static VARIANTS: &[Variant] = &[
+    ("snf3x3:to_10", || {
+        bench::run_on::<Snf3x3>(MatrixInput::small)
+    }),
+    ("snf3x3:any", || bench::run_on::<Snf3x3>(MatrixInput::any)),
 ];

@@ -25,8 +25,17 @@ pub fn fixed<const N: usize>(slice: &[i64]) -> Result<[i64; N], i64> {
 /// A lent list of matrices, by rows.
 pub fn matrices(list: &[i64]) -> Result<Vec<MatI>, i64> {
     length(list.len() % 9 == 0)?;
-    let matrix = |m: &[i64]| [0, 3, 6].map(|row| [m[row], m[row + 1], m[row + 2]]);
-    Ok(list.chunks_exact(9).map(matrix).collect())
+    Ok(list.chunks_exact(9).map(rows).collect())
+}
+
+/// A lent matrix, by rows.
+pub fn matrix(slice: &[i64]) -> Result<MatI, i64> {
+    length(slice.len() == 9)?;
+    Ok(rows(slice))
+}
+
+fn rows(m: &[i64]) -> MatI {
+    [0, 3, 6].map(|row| [m[row], m[row + 1], m[row + 2]])
 }
 
 pub fn rotations_fit(list: &[MatI], size: i64) -> bool {
@@ -56,6 +65,8 @@ mod tests {
         let two: Vec<i64> = (1..=18).collect();
         let last = [[10, 11, 12], [13, 14, 15], [16, 17, 18]];
         assert_eq!(matrices(&two).unwrap()[1], last);
+        assert_eq!(matrix(&two[9..]), Ok(last));
+        assert_eq!(matrix(&two), Err(13));
         assert!(rotations_fit(&[[[-5; 3]; 3]; 192], 5));
         assert!(!rotations_fit(&[[[0; 3]; 3]; 193], 5));
         assert!(!rotations_fit(&[[[6; 3]; 3]], 5));

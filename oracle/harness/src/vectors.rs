@@ -4,10 +4,6 @@
 use crate::function::{Function, Input, Line};
 use crate::random::Random;
 
-/// Cases of each function: those at the limits, filled up with random ones as
-/// far as the file has room.
-const CASES: usize = 64;
-
 /// What the replaying program holds: a line, so that it has under 4,096 numbers;
 /// the places of an output; a file, which is shorter than this.
 const LINE_BYTES: usize = 8_000;
@@ -33,7 +29,7 @@ pub fn lines<F: Function>(seed: u64) -> Vec<String> {
     let mut lines: Vec<String> = at_limits.iter().filter_map(line::<F>).collect();
     let mut room = FILE_BYTES - HEAD_BYTES;
     lines.iter().for_each(|line| room -= line.len() + 1);
-    for _ in lines.len()..CASES {
+    for _ in lines.len()..F::VECTORS {
         let line = loop {
             let line = line::<F>(&F::Input::random(&mut random));
             if let Some(line) = line.filter(|line| !lines.contains(line)) {
@@ -91,7 +87,7 @@ mod tests {
         let lines = lines::<CheckedMul>(1);
         let text = text(1, &lines);
         assert_eq!(text.lines().next(), Some("# oracle/vectors 1"));
-        assert_eq!(text.lines().count(), 1 + CASES);
+        assert_eq!(text.lines().count(), 1 + CheckedMul::VECTORS);
         assert!(text.ends_with('\n') && !text.ends_with("\n\n"));
         assert!(lines.contains(&"-1 -9223372036854775807 0 9223372036854775807".into()));
     }

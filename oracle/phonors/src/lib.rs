@@ -1,4 +1,6 @@
 //! The seven modules of phonors that are ported, compiled where they stand and
-//! never copied; build.rs writes the list.
+//! never copied, and the edited versions of them; build.rs writes the list.
+
+pub mod measured;
 
 include!(concat!(env!("OUT_DIR"), "/modules.rs"));

@@ -1,11 +1,12 @@
-//! bench: for each function a line with its name and the nanoseconds per call
-//! of the port and of the Rust.
+//! bench: for each function, and then for each variant, a line with its name and
+//! the nanoseconds per call of the port and of the Rust.
 
-use harness::rows::ROWS;
+use harness::rows::{ROWS, VARIANTS};
 
 fn main() {
-    for row in ROWS {
-        let times = (row.bench)();
-        println!("{} {} {}", row.name, times.port, times.oracle);
+    let rows = ROWS.iter().map(|row| (row.name, row.bench));
+    for (name, bench) in rows.chain(VARIANTS.iter().copied()) {
+        let times = bench();
+        println!("{name} {} {}", times.port, times.oracle);
     }
 }

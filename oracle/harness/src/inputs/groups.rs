@@ -64,7 +64,8 @@ pub fn group(random: &mut Random, size: i64) -> Vec<MatI> {
     group
 }
 
-fn conjugate(group: &[MatI], basis: &Elementary) -> Vec<MatI> {
+/// The rotations in another basis: E·R·E⁻¹.
+pub fn conjugate(group: &[MatI], basis: &Elementary) -> Vec<MatI> {
     let change = |rotation| matmul_i(&matmul_i(&basis.matrix, rotation), &basis.inverse);
     group.iter().map(change).collect()
 }

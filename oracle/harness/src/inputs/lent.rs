@@ -9,10 +9,21 @@ const WRONG: usize = 100;
 pub fn fixed(random: &mut Random, numbers: &[i64]) -> Vec<i64> {
     let mut slice = numbers.to_vec();
     if random.one_in(WRONG) {
-        let wrong = [0, slice.len() - 1, slice.len() + 1];
-        slice.resize(random.pick(&wrong), 1);
+        damage(random, &mut slice);
     }
     slice
+}
+
+/// Gives a slice another length, as a rule.
+pub fn damage(random: &mut Random, slice: &mut Vec<i64>) {
+    let length = slice.len();
+    let wrong = [0, length.saturating_sub(1), length + 1];
+    slice.resize(random.pick(&wrong), 1);
+}
+
+/// The items over and over, up to a length.
+pub fn repeated<T: Copy>(items: &[T], length: usize) -> Vec<T> {
+    items.iter().copied().cycle().take(length).collect()
 }
 
 #[cfg(test)]
@@ -27,5 +38,12 @@ mod tests {
             .collect();
         assert!([0, 2, 3, 4].iter().all(|length| lengths.contains(length)));
         assert!(lengths.iter().filter(|&&length| length == 3).count() > 1900);
+    }
+
+    #[test]
+    fn repeating() {
+        assert_eq!(repeated(&[1, 2, 3], 5), [1, 2, 3, 1, 2]);
+        assert_eq!(repeated(&[1, 2, 3], 2), [1, 2]);
+        assert!(repeated::<i64>(&[], 5).is_empty());
     }
 }

@@ -1,6 +1,6 @@
 //! Integer matrices: A for diagonalising, and unimodular ones.
 
-use phonors::common::{matmul_i, transpose_i, MatI, IDENTITY};
+use phonors::common::{matmul_i, transpose_i, MatI, Vec3I, IDENTITY};
 
 use crate::inputs::numbers;
 use crate::limits::MATRIX_ENTRY;
@@ -10,17 +10,30 @@ use crate::random::Random;
 /// diagonalising need large ones, most of its branches small ones.
 pub const SIZES: [i64; 7] = [3, 10, 100, 1_000, 10_000, 100_000, MATRIX_ENTRY];
 
-/// Elementary steps that a unimodular matrix is made of, at most.
+/// Elementary steps that a matrix is folded by, at most.
 const STEPS: usize = 12;
 
-/// A matrix A within the limits.
+/// A matrix A within the limits. Of those with large entries only the special
+/// ones are diagonalised without an overflow.
 pub fn matrix(random: &mut Random) -> MatI {
     let size = random.pick(&SIZES);
-    match random.below(10) {
+    of_size(random, size)
+}
+
+/// A matrix of any kind, with entries of size at most `size`.
+pub fn of_size(random: &mut Random, size: i64) -> MatI {
+    match random.below(14) {
         0 => singular(random, size),
         1 => nearly_singular(random, size),
         2 => unimodular(random, size),
         3 => extreme(random, size),
+        4 => diagonal(random, size),
+        5 => {
+            let diagonal = diagonal(random, size);
+            folded(random, diagonal, size)
+        }
+        6 => sparse(random, size),
+        7 => chained(random, size),
         _ => entries(random, size),
     }
 }
@@ -48,7 +61,7 @@ fn extreme(random: &mut Random, size: i64) -> MatI {
 }
 
 /// A row, or a column, that the others make.
-fn singular(random: &mut Random, size: i64) -> MatI {
+pub fn singular(random: &mut Random, size: i64) -> MatI {
     let mut a = entries(random, size / 2);
     if random.one_in(4) {
         a[1] = a[0].map(|entry| -entry);
@@ -65,23 +78,85 @@ fn singular(random: &mut Random, size: i64) -> MatI {
 
 /// A singular matrix but for one entry, which is moved by 1.
 fn nearly_singular(random: &mut Random, size: i64) -> MatI {
-    let mut a = singular(random, size);
+    let a = singular(random, size);
+    nudged(random, a)
+}
+
+/// The matrix with one entry moved by 1.
+pub fn nudged(random: &mut Random, mut a: MatI) -> MatI {
     let entry = &mut a[random.below(3)][random.below(3)];
     // Not away from zero, where the limit may be; a zero becomes 1.
     *entry += if *entry > 0 { -1 } else { 1 };
     a
 }
 
-/// A product of elementary matrices, with entries of size at most `size`.
-pub fn unimodular(random: &mut Random, size: i64) -> MatI {
-    let mut product = IDENTITY;
-    for _ in 0..random.below(STEPS + 1) {
-        let next = matmul_i(&elementary(random).matrix, &product);
-        if is_within(&next, size) {
-            product = next;
+/// Zeros among the entries.
+fn sparse(random: &mut Random, size: i64) -> MatI {
+    [[(); 3]; 3].map(|row| row.map(|()| random.within(size) * random.pick(&[0, 1, 1])))
+}
+
+/// The form that takes the most rounds: each number has divisors in common with
+/// the next, which stands in its row or its column.
+fn chained(random: &mut Random, size: i64) -> MatI {
+    let [x, y, z, u, v] = [(); 5].map(|()| smooth_number(random, size));
+    let mut a = [[x, y, 0], [0, z, u], [0, 0, v]];
+    random.shuffle(&mut a);
+    a
+}
+
+/// A number of prime factors up to 5, and of size at most `size`.
+fn smooth_number(random: &mut Random, size: i64) -> i64 {
+    let mut number = random.pick(&[1, -1]);
+    for _ in 0..random.below(20) {
+        let next: i64 = number * random.pick(&[2, 2, 2, 3, 3, 5]);
+        if next.abs() <= size {
+            number = next;
         }
     }
-    product
+    number
+}
+
+/// Any numbers on the diagonal, or such that have common divisors.
+fn diagonal(random: &mut Random, size: i64) -> MatI {
+    let number = if random.coin() {
+        smooth_number
+    } else {
+        Random::within
+    };
+    diag([(); 3].map(|()| number(random, size)))
+}
+
+pub fn diag([x, y, z]: Vec3I) -> MatI {
+    [[x, 0, 0], [0, y, 0], [0, 0, z]]
+}
+
+/// The inverse times the determinant.
+pub fn adjugate(a: &MatI) -> MatI {
+    let minor = |[i, j]: [usize; 2], [k, l]: [usize; 2]| a[i][k] * a[j][l] - a[i][l] * a[j][k];
+    let others = [[1, 2], [2, 0], [0, 1]];
+    others.map(|columns| others.map(|rows| minor(rows, columns)))
+}
+
+/// A product of elementary matrices, with entries of size at most `size`.
+pub fn unimodular(random: &mut Random, size: i64) -> MatI {
+    folded(random, IDENTITY, size)
+}
+
+/// The matrix with elementary ones multiplied to both sides, which leaves its
+/// Smith form, as far as entries stay of size at most `size`.
+pub fn folded(random: &mut Random, mut a: MatI, size: i64) -> MatI {
+    for _ in 0..random.below(STEPS + 1) {
+        let step = elementary(random).matrix;
+        let next = if random.coin() {
+            matmul_i(&step, &a)
+        } else {
+            matmul_i(&a, &step)
+        };
+        if is_within(&next, size) {
+            a = next;
+        }
+    }
+    a
 }
 
 /// An elementary matrix of determinant 1 or -1, and its inverse.
@@ -149,6 +224,29 @@ mod tests {
     }
 
     #[test]
+    fn every_kind_keeps_to_its_size() {
+        let mut random = Random::new(1);
+        for size in SIZES {
+            for _ in 0..1000 {
+                assert!(is_within(&of_size(&mut random, size), size));
+            }
+        }
+    }
+
+    #[test]
+    fn folding_keeps_the_size_of_the_determinant() {
+        let mut random = Random::new(1);
+        let mut moved = 0;
+        for _ in 0..1000 {
+            let a = matrix(&mut random);
+            let b = folded(&mut random, a, MATRIX_ENTRY);
+            assert!(det_i(&a).abs() == det_i(&b).abs() && is_within(&b, MATRIX_ENTRY));
+            moved += usize::from(a != b);
+        }
+        assert!(moved > 700);
+    }
+
+    #[test]
     fn unimodular_matrices() {
         let mut random = Random::new(1);
         for size in [1, 100, 1_000] {
@@ -165,6 +263,17 @@ mod tests {
         for _ in 0..1000 {
             let Elementary { matrix, inverse } = elementary(&mut random);
             assert_eq!(matmul_i(&matrix, &inverse), IDENTITY);
+        }
+    }
+
+    #[test]
+    fn adjugates() {
+        let mut random = Random::new(1);
+        for _ in 0..1000 {
+            let a = of_size(&mut random, 1_000);
+            let scaled = diag([det_i(&a); 3]);
+            assert_eq!(matmul_i(&a, &adjugate(&a)), scaled);
+            assert_eq!(matmul_i(&adjugate(&a), &a), scaled);
         }
     }
 

@@ -57,8 +57,12 @@ module _ (a b r : ℤ) (t : T (setZeroFits a b r)) where
   pub set-zero-negative : T (negQuotientFits b r)
   set-zero-negative = and-l (negQuotientFits b r) (quotientFits a r) t
 
-  pub set-zero-divisible : Divisible a r
-  set-zero-divisible = divisible a r (and-r (negQuotientFits b r) (quotientFits a r) t)
+  pub set-zero-divides : T (quotientFits a r)
+  set-zero-divides = and-r (negQuotientFits b r) (quotientFits a r) t
+
+  -- what a local holds of the quotient
+  pub set-zero-quotient : {q : ℤ} → q ≡ quotZ a r → held q ≡ quotZ a r
+  set-zero-quotient e = ap held e ∙ toZ-ofZ (divisible a r set-zero-divides .fits)
 
 module _ (x q y : ℤ) (t : T (lessFits x q y)) where
   pub product-fits : SFits w64 (q *ℤ y)

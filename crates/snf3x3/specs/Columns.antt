@@ -3,7 +3,8 @@ use mathlib.Core.Bool.{Bool, not, _&&_}
 use mathlib.Core.List.{[], _∷_}
 use Prim.Native.Nat.{ℕ}
 use lib.Dec.{eqb}
-use lib.IntN.{ℤ, pos}
+use lib.IntN.{ℤ, pos, negℤ}
+use lib.Signed.{quotZ}
 use lib.ListN.{getD}
 use Rattle.integer.specs.Checked.{isZero, pick}
 use Rattle.common.specs.Matrix.{Mat, _·_}
@@ -11,7 +12,7 @@ use Rattle.common.specs.Array.{matrixOf}
 use Rattle.common.specs.IntegerMatrix.{productFits}
 use Rattle.snf3x3.specs.Result.{Result, ok, _then_, provided}
 use Rattle.snf3x3.specs.Gcd.{Euclid, extendedGcd}
-use Rattle.snf3x3.specs.Elementary.{elementarySwapRows, elementarySetZero, setZeroFits}
+use Rattle.snf3x3.specs.Elementary.{elementarySwapRows, combining, elementarySetZero, setZeroFits}
 
 pub record Pair : Type 0 where
   pub a : Mat ℤ
@@ -25,12 +26,21 @@ multiply l s = provided (productFits l (s .a) && productFits l (s .p)) (record {
 abbrev pub zeroing : ℕ → ℕ → ℤ → ℤ → Euclid → Result (Mat ℤ)
 zeroing i j a b g = provided (setZeroFits a b (g .r)) (matrixOf (elementarySetZero i j a b (g .r) (g .s) (g .t)))
 
--- a step by a matrix that may have overflowed
-abbrev pub stepped : Result (Mat ℤ) → Pair → Result Pair
-stepped m s = m then λ l. multiply l s
-
 abbrev pub zeroBy : ℕ → ℕ → ℤ → ℤ → Pair → Euclid → Result Pair
-zeroBy i j a b s g = stepped (zeroing i j a b g) s
+zeroBy i j a b s g = zeroing i j a b g then λ l. multiply l s
+
+-- the same in two parts, as the code has it: the four numbers, and the step by them
+pub record Combination : Type 0 where
+  pub s : ℤ
+  pub t : ℤ
+  pub v : ℤ
+  pub u : ℤ
+
+abbrev pub combination : ℤ → ℤ → Euclid → Result Combination
+combination a b g = provided (setZeroFits a b (g .r)) (record { s = g .s; t = g .t; v = quotZ (negℤ b) (g .r); u = quotZ a (g .r) })
+
+abbrev pub combineBy : ℕ → ℕ → Result Combination → Pair → Result Pair
+combineBy i j c s = c then λ c. multiply (matrixOf (combining i j (c .s) (c .t) (c .v) (c .u))) s
 
 unfoldable pub makeZero : ℕ → ℕ → ℤ → ℤ → Pair → Result Pair
 makeZero i j a b s = pick (isZero b) (ok s) (extendedGcd a b then zeroBy i j a b s)

@@ -7,7 +7,7 @@ ghost use Prim.Native.Nat.{_<_};
 ghost use Rattle.common.specs.Array.{matrixOf};
 ghost use Rattle.snf3x3.specs.Result.{overflow, _then_};
 ghost use Rattle.snf3x3.specs.Columns as columns;
-ghost use Rattle.snf3x3.specs.ColumnsView.{pairOf, pivotOf, stepOf};
+ghost use Rattle.snf3x3.specs.ColumnsView.{pairOf, pivotOf, combinationOf};
 ghost use Rattle.snf3x3.specs.Gcd.{extendedGcd};
 
 // `fits` is false once a number left 64 bits; the matrices then say nothing.
@@ -55,41 +55,54 @@ pub fn multiply(l: [[i64; 3]; 3], s: Pair) -> Pair
     }
 }
 
-// The matrix of a step; `fits` is false where a number on the way to it left 64 bits.
-pub struct Step {
-    pub l: [i64; 9],
+// How two rows are combined; `fits` is false where a number on the way left 64 bits.
+pub struct Combination {
+    pub s: i64,
+    pub t: i64,
+    pub v: i64,
+    pub u: i64,
     pub fits: bool,
 }
 
-// Of the step that makes b in row j 0 by a in row i.
-fn zeroing(i: usize, j: usize, a: i64, b: i64) -> Step
-    requires { ⌜ (i < 3) × (j < 3) ⌝ }
-    ensures { λ r. ⌜ stepOf r ≡ (extendedGcd a b then columns.zeroing i j a b) ⌝ }
+fn no_combination() -> Combination
+    ensures { λ r. ⌜ combinationOf r ≡ overflow ⌝ }
 {
-    let Division::Done(g) = gcd::extended_gcd(a, b) else {
-        return Step {
-            l: [0; 9],
-            fits: false,
-        };
-    };
-    if !elementary::set_zero_fits(a, b, g.r) {
-        return Step {
-            l: [0; 9],
-            fits: false,
-        };
+    Combination {
+        s: 0,
+        t: 0,
+        v: 0,
+        u: 0,
+        fits: false,
     }
-    let l = common::flat(elementary::elementary_set_zero(i, j, a, b, g.r, g.s, g.t));
-    Step { l: l, fits: true }
 }
 
-fn apply(z: Step, s: Pair) -> Pair
-    ensures { λ r. ⌜ pairOf r ≡ (pairOf s then columns.stepped (stepOf z)) ⌝ }
+// So that b becomes 0 by a, and a their gcd.
+fn combined(a: i64, b: i64) -> Combination
+    ensures { λ r. ⌜ combinationOf r ≡ (extendedGcd a b then columns.combination a b) ⌝ }
 {
-    if !z.fits {
+    let Division::Done(g) = gcd::extended_gcd(a, b) else {
+        return no_combination();
+    };
+    if !elementary::set_zero_fits(a, b, g.r) {
+        return no_combination();
+    }
+    Combination {
+        s: g.s,
+        t: g.t,
+        v: elementary::neg_quotient(b, g.r),
+        u: elementary::quotient(a, g.r),
+        fits: true,
+    }
+}
+
+fn combine(i: usize, j: usize, c: Combination, s: Pair) -> Pair
+    requires { ⌜ (i < 3) × (j < 3) ⌝ }
+    ensures { λ r. ⌜ pairOf r ≡ (pairOf s then columns.combineBy i j (combinationOf c)) ⌝ }
+{
+    if !c.fits {
         return overflowed();
     }
-    let l = z.l;
-    multiply(common::nested(l), s)
+    multiply(elementary::elementary_set_zero(i, j, c.s, c.t, c.v, c.u), s)
 }
 
 // ---- the first column
@@ -127,7 +140,7 @@ fn zero_first_column(j: usize, s: Pair) -> Pair
     if b == 0 {
         return s;
     }
-    apply(zeroing(0, j, m[0], b), s)
+    combine(0, j, combined(m[0], b), s)
 }
 
 pub fn first_column(s: Pair) -> Pair
@@ -165,7 +178,7 @@ fn zero_second_column(s: Pair) -> Pair
     if b == 0 {
         return s;
     }
-    apply(zeroing(1, 2, m[4], b), s)
+    combine(1, 2, combined(m[4], b), s)
 }
 
 pub fn second_column(s: Pair) -> Pair

@@ -4,7 +4,7 @@ ghost use Prim.Native.Nat.{_<_};
 ghost use lib.Dec.{T};
 ghost use lib.IntN.{negℤ};
 ghost use lib.Signed.{quotZ};
-ghost use Rattle.snf3x3.specs.Elementary.{elementarySwapRows, elementarySetZero, elementaryFlipSignRow, elementaryDisturbRows, belowFirst, belowSecond, quotientFits, negQuotientFits, setZeroFits};
+ghost use Rattle.snf3x3.specs.Elementary.{elementarySwapRows, combining, elementaryFlipSignRow, elementaryDisturbRows, belowFirst, belowSecond, quotientFits, negQuotientFits, setZeroFits};
 
 const IDENTITY: [[i64; 3]; 3] = [[1, 0, 0], [0, 1, 0], [0, 0, 1]];
 
@@ -20,23 +20,16 @@ pub fn elementary_swap_rows(r1: usize, r2: usize) -> [[i64; 3]; 3]
     l
 }
 
-pub fn elementary_set_zero(
-    i: usize,
-    j: usize,
-    a: i64,
-    b: i64,
-    r: i64,
-    s: i64,
-    t: i64,
-) -> [[i64; 3]; 3]
-    requires { ⌜ (i < 3) × (j < 3) ⌝ ∗ ⌜ T (setZeroFits a b r) ⌝ }
-    ensures { λ l. ⌜ l ≡ elementarySetZero i j a b r s t ⌝ }
+// With v = -b/r and u = a/r, which the Rust works out here.
+pub fn elementary_set_zero(i: usize, j: usize, s: i64, t: i64, v: i64, u: i64) -> [[i64; 3]; 3]
+    requires { ⌜ (i < 3) × (j < 3) ⌝ }
+    ensures { λ l. ⌜ l ≡ combining i j s t v u ⌝ }
 {
     let mut l = IDENTITY;
     l[i][i] = s;
     l[i][j] = t;
-    l[j][i] = neg_quotient(b, r);
-    l[j][j] = a / r;
+    l[j][i] = v;
+    l[j][j] = u;
     l
 }
 
@@ -84,6 +77,13 @@ pub fn quotient_fits(a: i64, d: i64) -> bool
         return false;
     }
     integer::quot_fits(a, d)
+}
+
+pub fn quotient(a: i64, d: i64) -> i64
+    requires { ⌜ T (quotientFits a d) ⌝ }
+    ensures { λ r. ⌜ r ≡ quotZ a d ⌝ }
+{
+    a / d
 }
 
 pub fn neg_quotient_fits(z: i64, d: i64) -> bool

@@ -10,8 +10,8 @@ use Rattle.integer.proofs.Quotient.{zero-bits}
 use Rattle.integer.proofs.Fits.{held, held-is}
 use Rattle.snf3x3.specs.Result.{_then_}
 use Rattle.snf3x3.specs.Gcd.{extendedGcd}
-use Rattle.snf3x3.specs.Columns.{zeroing, stepped, zeroFirstColumn}
-use Rattle.snf3x3.specs.ColumnsView.{matricesOf, stepOf}
+use Rattle.snf3x3.specs.Columns.{combination, combineBy, zeroFirstColumn}
+use Rattle.snf3x3.specs.ColumnsView.{matricesOf, combinationOf}
 use Rattle.snf3x3.proofs.Binding.{kept, same-step}
 use Rattle.snf3x3.proofs.Settled.{zero-kept, zero-made}
 use Rattle.snf3x3.proofs.Fitting.{not-zero}
@@ -46,14 +46,14 @@ returns c =
     let x = matricesOf s in
     kept (s .fits) x (zeroFirstColumn (z .args .j)) (zero-kept 0 (z .args .j) (x .a .a) x (sym (head (s .a) (z .args .j) (z .pre)) ∙ zero-bits (getD (s .a) (3 * z .args .j) (pos 0)) (record { sfits = r .b .given }) (c .if1 .taken)))
 
-array-copy-out-zeroing : tie.Need-array-copy-out-zeroing
-array-copy-out-zeroing c = search needs
+array-copy-out-combined : tie.Need-array-copy-out-combined
+array-copy-out-combined c = search needs
 
-zeroing-requires : tie.Need-zeroing-requires
-zeroing-requires c κs = search needs
+combined-requires : tie.Need-combined-requires
+combined-requires c κs = search needs
 
-apply-requires : tie.Need-apply-requires
-apply-requires c κs = search needs
+combine-requires : tie.Need-combine-requires
+combine-requires c κs = search needs
 
 returns-2 : tie.Need-returns-2
 returns-2 c =
@@ -65,12 +65,12 @@ returns-2 c =
     let j = z .args .j in
     let x = matricesOf s in
     let h = head (s .a) j (z .pre) in
-    let e0 = held-is (getD (s .a) 0 (pos 0)) (t .before .zeroing-arg .given) in
+    let e0 = held-is (getD (s .a) 0 (pos 0)) (t .before .combined-arg .given) in
     let ej = held-is (getD (s .a) (3 * j) (pos 0)) (r .b .given) ∙ h in
     let b = getD (x .a .a ∷ x .a .d ∷ x .a .g ∷ []) j (pos 0) in
-    c .apply .ensures
-    ∙ same-step (s .fits) x (stepped (stepOf (t .zeroing .result))) (zeroFirstColumn j)
-    (zero-made 0 j (x .a .a) b x (subst (λ z. isZero z ≡ false) h (not-zero (getD (s .a) (3 * j) (pos 0)) (e .if1 .left))) (t .zeroing .ensures ∙ (λ i. extendedGcd (e0 i) (ej i) then zeroing 0 j (e0 i) (ej i))))
+    c .combine .ensures
+    ∙ same-step (s .fits) x (combineBy 0 j (combinationOf (t .combined .result))) (zeroFirstColumn j)
+    (zero-made 0 j (x .a .a) b x (subst (λ z. isZero z ≡ false) h (not-zero (getD (s .a) (3 * j) (pos 0)) (e .if1 .left))) (t .combined .ensures ∙ (λ i. extendedGcd (e0 i) (ej i) then combination (e0 i) (ej i))))
 
 pub zero-first-column-spec : {M : Type 1} → statement M
 zero-first-column-spec =
@@ -80,7 +80,7 @@ zero-first-column-spec =
     mul-b-2
     array-copy-out-b
     returns
-    array-copy-out-zeroing
-    zeroing-requires
-    apply-requires
+    array-copy-out-combined
+    combined-requires
+    combine-requires
     returns-2)

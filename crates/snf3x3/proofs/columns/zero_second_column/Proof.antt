@@ -5,8 +5,8 @@ use Rattle.integer.proofs.Quotient.{zero-bits}
 use Rattle.integer.proofs.Fits.{held, held-is}
 use Rattle.snf3x3.specs.Result.{_then_}
 use Rattle.snf3x3.specs.Gcd.{extendedGcd}
-use Rattle.snf3x3.specs.Columns.{zeroing, stepped, zeroSecondColumn}
-use Rattle.snf3x3.specs.ColumnsView.{matricesOf, stepOf}
+use Rattle.snf3x3.specs.Columns.{combination, combineBy, zeroSecondColumn}
+use Rattle.snf3x3.specs.ColumnsView.{matricesOf, combinationOf}
 use Rattle.snf3x3.proofs.Binding.{kept, same-step}
 use Rattle.snf3x3.proofs.Settled.{zero-kept, zero-made}
 use Rattle.snf3x3.proofs.Fitting.{not-zero}
@@ -24,14 +24,14 @@ returns c =
     let x = matricesOf s in
     kept (s .fits) x zeroSecondColumn (zero-kept 1 2 (x .a .e) x (zero-bits (getD (s .a) 7 (pos 0)) (record { sfits = r .b .given }) (c .if1 .taken)))
 
-array-copy-out-zeroing : tie.Need-array-copy-out-zeroing
-array-copy-out-zeroing c = search needs
+array-copy-out-combined : tie.Need-array-copy-out-combined
+array-copy-out-combined c = search needs
 
-zeroing-requires : tie.Need-zeroing-requires
-zeroing-requires c κs = search needs
+combined-requires : tie.Need-combined-requires
+combined-requires c κs = search needs
 
-apply-requires : tie.Need-apply-requires
-apply-requires c κs = search needs
+combine-requires : tie.Need-combine-requires
+combine-requires c κs = search needs
 
 returns-2 : tie.Need-returns-2
 returns-2 c =
@@ -40,11 +40,11 @@ returns-2 c =
     let r = e .before in
     let s = r .before .before .args .s in
     let x = matricesOf s in
-    let e4 = held-is (getD (s .a) 4 (pos 0)) (z .before .zeroing-arg .given) in
+    let e4 = held-is (getD (s .a) 4 (pos 0)) (z .before .combined-arg .given) in
     let e7 = held-is (getD (s .a) 7 (pos 0)) (r .b .given) in
-    c .apply .ensures
-    ∙ same-step (s .fits) x (stepped (stepOf (z .zeroing .result))) zeroSecondColumn
-    (zero-made 1 2 (x .a .e) (x .a .h) x (not-zero (getD (s .a) 7 (pos 0)) (e .if1 .left)) (z .zeroing .ensures ∙ (λ i. extendedGcd (e4 i) (e7 i) then zeroing 1 2 (e4 i) (e7 i))))
+    c .combine .ensures
+    ∙ same-step (s .fits) x (combineBy 1 2 (combinationOf (z .combined .result))) zeroSecondColumn
+    (zero-made 1 2 (x .a .e) (x .a .h) x (not-zero (getD (s .a) 7 (pos 0)) (e .if1 .left)) (z .combined .ensures ∙ (λ i. extendedGcd (e4 i) (e7 i) then combination (e4 i) (e7 i))))
 
 pub zero-second-column-spec : {M : Type 1} → statement M
 zero-second-column-spec =
@@ -52,7 +52,7 @@ zero-second-column-spec =
     (tie.spec
     array-copy-out-b
     returns
-    array-copy-out-zeroing
-    zeroing-requires
-    apply-requires
+    array-copy-out-combined
+    combined-requires
+    combine-requires
     returns-2)

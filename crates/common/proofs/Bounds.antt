@@ -2,24 +2,36 @@
 use mathlib.Core.Path.{_≡_, sym, _∙_, ap, ap₂}
 use mathlib.Core.Bool.{Bool, true, false, _&&_}
 use mathlib.Core.List.{List, [], _∷_}
-use Prim.Native.Nat.{ℕ, zero, suc, _+_, _<_, _≤_, zero-le}
+use Prim.Native.Nat.{ℕ, zero, suc, _+_, _*_, _<_, _≤_, zero-le}
 use native.Mathlib.Nat.{lt-of-le-of-lt}
 use native.Mathlib.Numerals.{add-one}
-use lib.Dec.{T, ltb, leb→le, le→leb, ltb→lt, lit≤}
-use lib.IntN.{ℤ, pos, negsuc, natAbs}
-use lib.Signed.{leZ, mag}
+use native.Mathlib.Omega.{arith}
+use lib.Dec.{T, ltb, leb, leb→le, le→leb, ltb→lt, lit≤}
+use lib.IntN.{ℤ, pos, negsuc, natAbs, _-ℤ_}
+use lib.Signed.{leZ, leZ-yes, mag}
 use lib.ListN.{length, getD, drop, drop-of-length-le}
 use lib.Seq.{drop-cons}
 use mir.Facts.{toZ-ofZ}
-use Rattle.integer.proofs.Test.{and-l, and-r}
+use Rattle.integer.proofs.Test.{and-l, and-r, and-in, is-true, same-test}
+use Rattle.integer.proofs.Parts.{ints, le-parts, parts-le, difference}
 use Rattle.integer.proofs.Size.{sfits-abs}
 use Rattle.integer.proofs.Fits.{held, held-is}
 use Rattle.integer.proofs.Plain.{Plain, plain, p-atom, plain-within}
-use Rattle.common.proofs.Matrix.{axes-of, all-axes}
+use Rattle.common.proofs.Matrix.{axes-of, all-axes, side-vector, entry-matrix}
+use Rattle.common.proofs.Whole.{sized-dot}
 use Rattle.common.proofs.Tests.{first-holds, first-fails}
-use Rattle.common.specs.Matrix.{Axis, Mat, entry, allAxes, _▹_}
-use Rattle.common.specs.Array.{vectorOf, items, matrixOf, dotOf, Sized, SizedRows}
+use Rattle.common.specs.Matrix.{Axis, Mat, side, entry, allAxes, _▹_}
+use Rattle.common.specs.Array.{number, along, vectorOf, items, matrixOf, dotOf, Sized, SizedRows}
+use Rattle.common.specs.IntegerMatrix.{dotFits, applyFits}
 use Rattle.common.specs.Limits.{within, allWithin, matrixWithin, sideFits}
+
+-- a size by the two ends -k and k
+pub within-ends : (k : ℕ) (z : ℤ) → leZ (pos 0 -ℤ pos k) z && leZ z (pos k) ≡ within k z
+within-ends k (pos n) = sym (first-holds (leb n k) (is-true (leZ (pos 0 -ℤ pos k) (pos n)) (parts-le {x = pos 0 -ℤ pos k} {y = pos n} (omega (arith, ints, difference (pos 0) (pos k))) .le)))
+within-ends k (negsuc n) =
+    same-test (leZ (pos 0 -ℤ pos k) (negsuc n) && true) (leb (suc n) k)
+    (λ t. le→leb (suc n) k (omega (arith, ints, difference (pos 0) (pos k), le-parts {x = pos 0 -ℤ pos k} {y = negsuc n} (leZ-yes (and-l (leZ (pos 0 -ℤ pos k) (negsuc n)) true t)))))
+    (λ t. and-in (leZ (pos 0 -ℤ pos k) (negsuc n)) true (parts-le {x = pos 0 -ℤ pos k} {y = negsuc n} (omega (arith, ints, difference (pos 0) (pos k), leb→le (suc n) k t)) .le) tt)
 
 module _ (k : ℕ) (l : List ℤ) (i : ℕ) (h : i < length l) where
   at-place : allWithin k (drop i l) ≡ within k (getD l i (pos 0)) && allWithin k (drop (suc i) l)
@@ -70,6 +82,16 @@ module _ {k : ℕ} {l : List ℤ} (h : Sized k l) (n : ℕ) (t : T (ltb k 0x8000
 pub entry-result : {j k : ℕ} {a b : List ℤ} → Sized j a → Sized k b → T (ltb j 0x8000000000000000) → T (ltb k 0x8000000000000000) → (n : ℕ) (g : ℤ → ℤ → ℤ) {r : ℤ}
     → mag r < 0x8000000000000000 → r ≡ g (held (getD a n (pos 0))) (held (getD b n (pos 0))) → held r ≡ g (getD a n (pos 0)) (getD b n (pos 0))
 entry-result f h s t n g {r} ok e = held-is r ok ∙ e ∙ ap₂ g (entry-held f n s) (entry-held h n t)
+
+-- no step of a matrix times a column leaves 64 bits, by the sizes of their entries
+pub apply-fits : (x y : ℕ) {m : List (List ℤ)} {v : List ℤ} → SizedRows x m → Sized y v → x * y ≤ 3074457345618258602 → T (applyFits (matrixOf m) (vectorOf v))
+apply-fits x y {m} {v} f g h = all-axes (λ j. dotFits (entry (matrixOf m) j) (side (vectorOf v))) (λ j. sized-dot (entry (matrixOf m) j) (side (vectorOf v)) x y (row j) column h)
+  where
+    row : (j k : Axis) → natAbs (entry (matrixOf m) j k) ≤ x
+    row j k = rw (entry-matrix (λ j k. getD (getD m (number j) []) (number k) (pos 0)) j k) (f .each (number j) .each (number k))
+
+    column : (k : Axis) → natAbs (side (vectorOf v) k) ≤ y
+    column k = rw (side-vector (along v) k) (g .each (number k))
 
 -- the size of a rotated address
 dot-size : {a b : List ℤ} → Sized 100000 a → Sized 20000000000001 b → natAbs (dotOf a b) ≤ 6000000000000300000

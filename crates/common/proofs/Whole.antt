@@ -166,17 +166,18 @@ entry-size m j k = le-trans (largest-of (entry m j) k) (of j)
     of Y = le-trans (larger-right (largestOf (entry m X)) (largestOf (entry m Y))) (larger-left (larger (largestOf (entry m X)) (largestOf (entry m Y))) (largestOf (entry m Z)))
     of Z = larger-right (larger (largestOf (entry m X)) (largestOf (entry m Y))) (largestOf (entry m Z))
 
-sized-product : (l m : Mat ℤ) → largest l * largest m ≤ 3074457345618258602 → T (productFits l m)
+-- of entries up to x and y
+pub sized-product : (l m : Mat ℤ) (x y : ℕ) → ((j k : Axis) → natAbs (entry l j k) ≤ x) → ((j k : Axis) → natAbs (entry m j k) ≤ y) → x * y ≤ 3074457345618258602 → T (productFits l m)
 unfolding productFits
-sized-product l m h =
+sized-product l m x y f g h =
     all-axes (λ j. allAxes (λ k. dotFits (entry l j) (λ n. entry m n k))) (λ j. all-axes (λ k. dotFits (entry l j) (λ n. entry m n k)) (λ k.
-    sized-dot (entry l j) (λ n. entry m n k) (largest l) (largest m) (entry-size l j) (λ n. entry-size m n k) h))
+    sized-dot (entry l j) (λ n. entry m n k) x y (f j) (λ n. g n k) h))
 
 pub sized-products : (l a b : Mat ℤ) → largest l * larger (largest a) (largest b) ≤ 3074457345618258602 → T (productFits l a && productFits l b)
 sized-products l a b h =
     and-in (productFits l a) (productFits l b)
-    (sized-product l a (le-trans (mul-le-mul (le-refl (largest l)) (larger-left (largest a) (largest b))) h))
-    (sized-product l b (le-trans (mul-le-mul (le-refl (largest l)) (larger-right (largest a) (largest b))) h))
+    (sized-product l a (largest l) (larger (largest a) (largest b)) (entry-size l) (λ j k. le-trans (entry-size a j k) (larger-left (largest a) (largest b))) h)
+    (sized-product l b (largest l) (larger (largest a) (largest b)) (entry-size l) (λ j k. le-trans (entry-size b j k) (larger-right (largest a) (largest b))) h)
 
 -- ---- each row with each column
 pub row-fits : (l m : Mat ℤ) → T (productFits l m) → (j : Axis) → T (allAxes (λ k. dotFits (entry l j) (λ n. entry m n k)))

@@ -4,7 +4,7 @@ use Prim.Native.Nat.{ℕ}
 use lib.Dec.{ltb}
 use lib.IntN.{ℤ, natAbs, negℤ, _+ℤ_, _*ℤ_, _-ℤ_}
 use Rattle.integer.specs.Checked.{fits64, pick}
-use Rattle.common.specs.Matrix.{Axis, X, Y, Z, allAxes, Mat, entry, cross, dot, expand, minors, integers}
+use Rattle.common.specs.Matrix.{Axis, X, Y, Z, allAxes, Vec, Mat, side, entry, cross, dot, expand, minors, integers}
 
 abbrev pub productsFit : (u v : Axis → ℤ) → Bool
 productsFit u v = allAxes (λ k. fits64 (u k *ℤ v k))
@@ -14,6 +14,10 @@ dotFits u v = productsFit u v && (fits64 (u X *ℤ v X +ℤ u Y *ℤ v Y) && fit
 
 unfoldable pub productFits : Mat ℤ → Mat ℤ → Bool
 productFits l m = allAxes (λ j. allAxes (λ k. dotFits (entry l j) (λ n. entry m n k)))
+
+-- a matrix times a column
+abbrev pub applyFits : Mat ℤ → Vec ℤ → Bool
+applyFits m v = allAxes (λ j. dotFits (entry m j) (side v))
 
 abbrev pub crossFits : ℤ → ℤ → ℤ → ℤ → Bool
 crossFits j k m n = fits64 (j *ℤ n) && (fits64 (k *ℤ m) && fits64 (cross integers j k m n))

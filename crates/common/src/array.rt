@@ -2,9 +2,11 @@
 use crate::integer_matrix::dot_i;
 ghost use mathlib.Core.Path.{_≡_};
 ghost use Prim.Native.Nat.{_+_, _*_, _≤_};
+ghost use lib.Dec.{T};
 ghost use lib.ListN.{length};
 ghost use Rattle.common.specs.Matrix.{_▹_};
-ghost use Rattle.common.specs.Array.{vectorOf, items, matrixOf, rows, rowAt, matrixAt, Sized, SizedRows};
+ghost use Rattle.common.specs.Array.{vectorOf, items, matrixOf, rows, rowAt, matrixAt};
+ghost use Rattle.common.specs.IntegerMatrix.{applyFits};
 
 // Three numbers of a lent list.
 pub fn row_at(list: &[i64], at: usize) -> [i64; 3]
@@ -23,9 +25,9 @@ pub fn matrix_at(list: &[i64], n: usize) -> [[i64; 3]; 3]
     [row_at(list, at), row_at(list, at + 3), row_at(list, at + 6)]
 }
 
-// With entries of a rotation and of an address that was doubled, no step leaves 64 bits.
+// Where every number on the way fits.
 pub fn matvec_ii(a: [[i64; 3]; 3], b: [i64; 3]) -> [i64; 3]
-    requires { ⌜ SizedRows 100000 a ⌝ ∗ ⌜ Sized 20000000000001 b ⌝ }
+    requires { ⌜ T (applyFits (matrixOf a) (vectorOf b)) ⌝ }
     ensures { λ r. ⌜ r ≡ items (matrixOf a ▹ vectorOf b) ⌝ }
 {
     let x = a[0];

@@ -8,10 +8,15 @@ ghost use Rattle.common.specs.Matrix.{allAxes};
 ghost use Rattle.common.specs.Array.{along, matrixOf};
 ghost use Rattle.common.specs.Limits.{within, allWithin, matrixWithin, rotationsFit, wholeMatrices, sideFits, diagonalFits, halfFits, shiftFits, pointFits};
 
+// By its two ends, which for a known k is one comparison.
 pub fn within(z: i64, k: u64) -> bool
     ensures { λ r. ⌜ r ≡ within k z ⌝ }
 {
-    integer::unsigned_abs(z) <= k
+    if k > 0x7fff_ffff_ffff_ffff {
+        return true;
+    }
+    let n = k as i64;
+    -n <= z && z <= n
 }
 
 pub fn all_within(list: &[i64], k: u64) -> bool

@@ -3,6 +3,7 @@ use mathlib.Core.Path.{_≡_}
 use mathlib.Core.Bool.{_&&_}
 use mathlib.Core.List.{List}
 use Prim.Native.Nat.{ℕ, zero, suc, _*_, _<_, _≤_}
+use native.Mathlib.Nat.{le-trans}
 use native.Mathlib.Omega.{arith}
 use lib.Dec.{T, leb, eqb, leb→le, lit≤}
 use lib.IntN.{ℤ, pos, negsuc, natAbs}
@@ -39,18 +40,22 @@ module _ (d : List ℤ) (t : T (diagonalFits d)) where
   pub side-2 : T (sideFits (at 2))
   side-2 = and-r (sideFits (at 1)) (sideFits (at 2)) (and-r (sideFits (at 0)) (sideFits (at 1) && sideFits (at 2)) three)
 
+  -- at most 256 along each axis, and at most 65,536 points
+  pub side-small : (k : Axis) → side (sidesOf d) k ≤ 256
+  side-small X = side-size (at 0) side-0
+  side-small Y = side-size (at 1) side-1
+  side-small Z = side-size (at 2) side-2
+
+  pub few-points : size (sidesOf d) ≤ 65536
+  few-points = leb→le (size (sidesOf d)) 65536 (and-r (sideFits (at 0) && (sideFits (at 1) && sideFits (at 2))) (leb (size (sidesOf d)) 65536) t)
+
   pub grid-fits : GridFits (sidesOf d)
-  grid-fits = record { positive = above; small = below; few = leb→le (size (sidesOf d)) 65536 (and-r (sideFits (at 0) && (sideFits (at 1) && sideFits (at 2))) (leb (size (sidesOf d)) 65536) t) }
+  grid-fits = record { positive = above; small = λ k. le-trans (side-small k) (lit≤ tt); few = le-trans few-points (lit≤ tt) }
     where
       above : (k : Axis) → 0 < side (sidesOf d) k
       above X = side-positive (at 0) side-0
       above Y = side-positive (at 1) side-1
       above Z = side-positive (at 2) side-2
-
-      below : (k : Axis) → side (sidesOf d) k ≤ 256
-      below X = side-size (at 0) side-0
-      below Y = side-size (at 1) side-1
-      below Z = side-size (at 2) side-2
 
 -- ---- the shift
 half-size : (z : ℤ) → T (halfFits z) → natAbs z ≤ 1

@@ -14,7 +14,7 @@ use Rattle.common.specs.Matrix.{Vec, Mat}
 use Rattle.grgrid.specs.Grid.{size, rotate}
 use Rattle.grgrid.specs.ClassMap.{firstLower, number, pass, kept, classMap, classes}
 use Rattle.grgrid.specs.Own.{isPlace, ownPlaces}
-use Rattle.grgrid.proofs.Built.{length-build, written, written-step, written-read}
+use Rattle.grgrid.proofs.Built.{length-build, written, written-more, written-read}
 
 -- the number of p, which is carried to q
 abbrev numberBy : List ℕ → ℕ → ℕ → ℕ
@@ -42,7 +42,7 @@ module _ (gs : List (ℕ → ℕ)) (p : ℕ) (done : List ℕ) {q : ℕ} (e : q 
 -- ---- a turn of the pass: place p of the output, where the points below p have their numbers
 module _ (gs : List (ℕ → ℕ)) (p : ℕ) {q : ℕ} (e : q ≡ firstLower gs p) (before out : List ℤ) (inv : out ≡ written (number gs) pos p before) (h : p < length before) where
   store : {z : ℤ} → z ≡ pos (number gs p (pass gs p)) → set out p z ≡ written (number gs) pos (p + 1) before
-  store {z} r = ap₂ (λ l v. set l p v) inv r ∙ written-step (number gs) pos p before (pos 0) h ∙ ap (λ n. written (number gs) pos n before) (sym (add-one p))
+  store r = written-more (number gs) pos p before inv h r
 
   pub lower-stored : q < p → set out p (getD out q (pos 0)) ≡ written (number gs) pos (p + 1) before
   lower-stored l = store (ap (λ o. getD o q (pos 0)) inv ∙ written-read (number gs) pos p q before 0 l ∙ ap pos (sym (number-lower gs p (pass gs p) e l)))

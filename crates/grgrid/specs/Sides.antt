@@ -11,7 +11,8 @@ sides g = record { x = g .x; y = g .y; z = g .z }
 abbrev pub remainders : Remainders → Vec ℕ
 remainders r = record { x = r .x; y = r .y; z = r .z }
 
+-- also those of the doubled mesh
 pub record GridFits (d : Vec ℕ) : Type 0 where
   pub positive : (k : Axis) → 0 < side d k
-  pub small : (k : Axis) → side d k ≤ 256
-  pub few : size d ≤ 65536
+  pub small : (k : Axis) → side d k ≤ 512
+  pub few : size d ≤ 524288

@@ -25,7 +25,7 @@ pub struct Grid {
     pub z: usize,
 }
 
-fn grid_of(d: [i64; 3]) -> Grid
+pub fn grid_of(d: [i64; 3]) -> Grid
     requires { ⌜ T (diagonalFits d) ⌝ }
     ensures { λ r. ⌜ sides r ≡ sidesOf d ⌝ }
 {
@@ -37,7 +37,7 @@ fn grid_of(d: [i64; 3]) -> Grid
 }
 
 // How many points there are.
-fn points(g: Grid) -> usize
+pub fn points(g: Grid) -> usize
     requires { ⌜ GridFits (sides g) ⌝ }
     ensures { λ r. ⌜ r ≡ size (sides g) ⌝ }
 {
@@ -45,7 +45,7 @@ fn points(g: Grid) -> usize
 }
 
 fn fold(a: i64, n: usize) -> usize
-    requires { ⌜ (0 < n) × (n ≤ 256) ⌝ }
+    requires { ⌜ (0 < n) × (n ≤ 512) ⌝ }
     ensures { λ r. ⌜ r ≡ fold a n ⌝ }
     ensures { λ r. ⌜ r < n ⌝ }
 {
@@ -53,7 +53,7 @@ fn fold(a: i64, n: usize) -> usize
 }
 
 fn place(r0: usize, r1: usize, r2: usize, a: usize, b: usize, c: usize) -> usize
-    requires { ⌜ (r0 < a) × (r1 < b) × (r2 < c) × (a * b * c ≤ 65536) ⌝ }
+    requires { ⌜ (r0 < a) × (r1 < b) × (r2 < c) × (a * b * c ≤ 524288) ⌝ }
     ensures { λ r. ⌜ r ≡ r2 * a * b + r1 * a + r0 ⌝ }
     ensures { λ r. ⌜ r < a * b * c ⌝ }
 {
@@ -79,9 +79,9 @@ pub fn grid_index_from_address(address: [i64; 3], g: Grid) -> usize
     )
 }
 
-// The remainders of point p, where a·b·c is at most 65,536.
+// The remainders of point p, where a·b·c is at most 524,288.
 fn split(p: usize, a: usize, b: usize, c: usize) -> [i64; 3]
-    requires { ⌜ (0 < a) × (0 < b) × (0 < c) × (p < a * b * c) × (a * b * c ≤ 65536) ⌝ }
+    requires { ⌜ (0 < a) × (0 < b) × (0 < c) × (p < a * b * c) × (a * b * c ≤ 524288) ⌝ }
     ensures { λ r. ⌜ r ≡ items (mapVec pos (digits (record { x = a; y = b; z = c }) p)) ⌝ }
 {
     let nn = a * b;
@@ -126,18 +126,25 @@ fn halved(a: i64, s: i64) -> i64
     (a - s) / 2
 }
 
+// `(address - PS) / 2`, of a double-grid address.
+pub fn halve_address(a: [i64; 3], ps: [i64; 3]) -> [i64; 3]
+    requires { ⌜ Sized 6000000000000300000 a ⌝ ∗ ⌜ Sized 1 ps ⌝ }
+    ensures { λ r. ⌜ r ≡ items (halve (vectorOf a) (vectorOf ps)) ⌝ }
+{
+    [
+        halved(a[0], ps[0]),
+        halved(a[1], ps[1]),
+        halved(a[2], ps[2]),
+    ]
+}
+
 // Map a double-grid address to its single-grid index.
 fn double_grid_index(a: [i64; 3], g: Grid, ps: [i64; 3]) -> usize
     requires { ⌜ Sized 6000000000000300000 a ⌝ ∗ ⌜ Sized 1 ps ⌝ ∗ ⌜ GridFits (sides g) ⌝ }
     ensures { λ r. ⌜ r ≡ index (sides g) (halve (vectorOf a) (vectorOf ps)) ⌝ }
     ensures { λ r. ⌜ r < size (sides g) ⌝ }
 {
-    let address = [
-        halved(a[0], ps[0]),
-        halved(a[1], ps[1]),
-        halved(a[2], ps[2]),
-    ];
-    grid_index_from_address(address, g)
+    grid_index_from_address(halve_address(a, ps), g)
 }
 
 // The index of a doubled address after a rotation.
@@ -184,7 +191,7 @@ fn first_lower(rotations: &[i64], p: usize, g: Grid, ps: [i64; 3]) -> usize
 }
 
 // Point by point upwards, a point that is carried lower gets the number found there.
-fn number_points(rotations: &[i64], g: Grid, ps: [i64; 3], out: &mut [i64])
+pub fn number_points(rotations: &[i64], g: Grid, ps: [i64; 3], out: &mut [i64])
     requires { ⌜ T (allWithin 100000 (now rotations)) ⌝ ∗ ⌜ Sized 1 ps ⌝ ∗ ⌜ GridFits (sides g) ⌝ ∗ ⌜ length (now out) ≡ size (sides g) ⌝ }
     ensures { λ _. ⌜ now (out .exit) ≡ map pos (classMap (sides g) (vectorOf ps) (matrices (now (rotations .entry)))) ⌝ }
 {
@@ -291,7 +298,7 @@ fn next(r: Remainders, g: Grid) -> Remainders
 }
 
 fn store(out: &mut [i64], at: usize, r: Remainders)
-    requires { ⌜ at + 3 ≤ length (now out) ⌝ ∗ ⌜ (r .x < 256) × (r .y < 256) × (r .z < 256) ⌝ }
+    requires { ⌜ at + 3 ≤ length (now out) ⌝ ∗ ⌜ (r .x < 512) × (r .y < 512) × (r .z < 512) ⌝ }
     ensures { λ _. ⌜ now (out .exit) ≡ sets (now (out .entry)) at (items (mapVec pos (remainders r))) ⌝ }
 {
     out[at] = r.x as i64;

@@ -1,62 +1,21 @@
-use mathlib.Core.Path.{_∙_}
-use lib.IntN.{_-ℤ_}
-use Rattle.common.proofs.Bounds.{held-size, entry-result}
-use Rattle.grgrid.specs.Grid.{index, half}
+use mathlib.Core.Path.{_∙_, ap}
+use Rattle.common.specs.Array.{vectorOf}
+use Rattle.grgrid.specs.Grid.{index}
 use Rattle.grgrid.specs.Sides.{sides}
 use borrow.Author.Needs.{needs}
 use Rattle.grgrid.proofs.double_grid_index.Statement.{statement}
 use Rattle.grgrid.proofs.double_grid_index.Tie as tie
 
-array-copy-out-halved : tie.Need-array-copy-out-halved
-array-copy-out-halved c = search needs
-
-array-copy-out-halved-2 : tie.Need-array-copy-out-halved-2
-array-copy-out-halved-2 c = search needs
-
-halved-requires : tie.Need-halved-requires
-halved-requires c κs = let p = c .before .before .pre in (held-size (p .0) 0 tt, held-size (p .1 .0) 0 tt)
-
-array-copy-out-halved-3 : tie.Need-array-copy-out-halved-3
-array-copy-out-halved-3 c = search needs
-
-array-copy-out-halved-4 : tie.Need-array-copy-out-halved-4
-array-copy-out-halved-4 c = search needs
-
-halved-requires-2 : tie.Need-halved-requires-2
-halved-requires-2 c κs = let p = c .before .before .before .before .before .pre in (held-size (p .0) 1 tt, held-size (p .1 .0) 1 tt)
-
-array-copy-out-halved-5 : tie.Need-array-copy-out-halved-5
-array-copy-out-halved-5 c = search needs
-
-array-copy-out-halved-6 : tie.Need-array-copy-out-halved-6
-array-copy-out-halved-6 c = search needs
-
-halved-requires-3 : tie.Need-halved-requires-3
-halved-requires-3 c κs = let p = c .before .before .before .before .before .before .before .before .pre in (held-size (p .0) 2 tt, held-size (p .1 .0) 2 tt)
+halve-address-requires : tie.Need-halve-address-requires
+halve-address-requires c κs = search needs
 
 grid-index-from-address-requires : tie.Need-grid-index-from-address-requires
 grid-index-from-address-requires c κs = search needs
 
 returns : tie.Need-returns
 returns c =
-    let s = c .before .before .before .before .before .before .before .before .before .before in
-    let x = entry-result (s .pre .0) (s .pre .1 .0) tt tt 0 (λ u v. half (u -ℤ v)) (c .before .before .before .before .before .before .before .halved .ok) (c .before .before .before .before .before .before .before .halved .ensures) in
-    let y = entry-result (s .pre .0) (s .pre .1 .0) tt tt 1 (λ u v. half (u -ℤ v)) (c .before .before .before .before .halved2 .ok) (c .before .before .before .before .halved2 .ensures) in
-    let z = entry-result (s .pre .0) (s .pre .1 .0) tt tt 2 (λ u v. half (u -ℤ v)) (c .before .halved3 .ok) (c .before .halved3 .ensures) in
-    (c .grid-index-from-address .ensures .0 ∙ (λ i. index (sides (s .args .g)) (record { x = x i; y = y i; z = z i })), c .grid-index-from-address .ensures .1)
+    let s = c .before .before in
+    (c .grid-index-from-address .ensures .0 ∙ ap (λ l. index (sides (s .args .g)) (vectorOf l)) (c .before .halve-address .ensures), c .grid-index-from-address .ensures .1)
 
 pub double-grid-index-spec : {M : Type 1} → statement M
-double-grid-index-spec =
-    tie.close
-    (tie.spec
-    array-copy-out-halved
-    array-copy-out-halved-2
-    halved-requires
-    array-copy-out-halved-3
-    array-copy-out-halved-4
-    halved-requires-2
-    array-copy-out-halved-5
-    array-copy-out-halved-6
-    halved-requires-3
-    grid-index-from-address-requires
-    returns)
+double-grid-index-spec = tie.close (tie.spec halve-address-requires grid-index-from-address-requires returns)

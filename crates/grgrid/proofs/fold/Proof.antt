@@ -12,7 +12,7 @@ use Rattle.integer.proofs.Quotient.{quot-sfits, rem-sfits}
 use Rattle.grgrid.proofs.fold.Statement.{statement}
 use Rattle.grgrid.proofs.fold.Tie as tie
 
-module _ (n : ℕ) (h : (0 < n) × (n ≤ 256)) where
+module _ (n : ℕ) (h : (0 < n) × (n ≤ 512)) where
   divisor : toZ w64 n ≡ pos n
   divisor = toZ-pos w64 (omega arith)
 

@@ -5,7 +5,7 @@ use native.Mathlib.Omega.{arith}
 use Rattle.grgrid.proofs.place.Statement.{statement}
 use Rattle.grgrid.proofs.place.Tie as tie
 
-module _ (x y z a b c : ℕ) (h : (x < a) × (y < b) × (z < c) × (a * b * c ≤ 65536)) where
+module _ (x y z a b c : ℕ) (h : (x < a) × (y < b) × (z < c) × (a * b * c ≤ 524288)) where
   inside : z * a * b + y * a + x < a * b * c
   inside = omega (arith, mul-le-mul-right a (h .1), mul-le-mul-right (a * b) (h .2))
 

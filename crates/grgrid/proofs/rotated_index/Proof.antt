@@ -1,6 +1,7 @@
 use mathlib.Core.Path.{_∙_, ap}
+use lib.Dec.{lit≤}
 use Rattle.common.specs.Array.{vectorOf}
-use Rattle.common.proofs.Bounds.{apply-sized}
+use Rattle.common.proofs.Bounds.{apply-fits, apply-sized}
 use Rattle.grgrid.specs.Grid.{index, halve}
 use Rattle.grgrid.specs.Sides.{sides}
 use borrow.Author.Needs.{needs}
@@ -8,7 +9,7 @@ use Rattle.grgrid.proofs.rotated_index.Statement.{statement}
 use Rattle.grgrid.proofs.rotated_index.Tie as tie
 
 matvec-ii-requires : tie.Need-matvec-ii-requires
-matvec-ii-requires c κs = search needs
+matvec-ii-requires c κs = let p = c .pre in apply-fits 100000 20000000000001 (p .1 .0) (p .0) (lit≤ tt)
 
 double-grid-index-requires : tie.Need-double-grid-index-requires
 double-grid-index-requires c κs =

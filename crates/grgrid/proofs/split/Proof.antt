@@ -15,17 +15,17 @@ use Rattle.grgrid.proofs.split.Tie as tie
 layer : (a b c : ℕ) → 0 < c → a * b ≤ a * b * c
 layer a b c h = omega (arith, mul-le-mul-left {m = 1} {n = c} (a * b) h)
 
-module _ (p a b c : ℕ) (h : (0 < a) × (0 < b) × (0 < c) × (p < a * b * c) × (a * b * c ≤ 65536)) where
-  low : p % a ≤ 65536
+module _ (p a b c : ℕ) (h : (0 < a) × (0 < b) × (0 < c) × (p < a * b * c) × (a * b * c ≤ 524288)) where
+  low : p % a ≤ 524288
   low = omega (arith, mod-le p a)
 
-  middle : (p - p / (a * b) * (a * b)) / a ≤ 65536
+  middle : (p - p / (a * b) * (a * b)) / a ≤ 524288
   middle = omega (arith, div-le-self (p - p / (a * b) * (a * b)) a)
 
-  high : p / (a * b) ≤ 65536
+  high : p / (a * b) ≤ 524288
   high = omega (arith, div-le-self p (a * b))
 
-small : {n : ℕ} → n ≤ 65536 → toZ w64 n ≡ pos n
+small : {n : ℕ} → n ≤ 524288 → toZ w64 n ≡ pos n
 small {n} h = toZ-pos w64 {n = n} (omega arith)
 
 mul-nn : tie.Need-mul-nn

@@ -1,12 +1,20 @@
--- A step f on a state x that the code holds with a flag, which is false once a number left 64 bits.
+-- A step f on a state x that the code holds with a flag, which is 0 once a number left 64 bits.
 use mathlib.Core.Path.{_≡_, refl, sym, _∙_, ap, subst}
 use mathlib.Core.Bool.{Bool, true, false, not}
+use Prim.Native.Nat.{ℕ}
 use lib.Dec.{T}
-use Rattle.snf3x3.specs.Result.{Result, ok, overflow, _then_, provided}
+use borrow.Author.Tests.{ne-eqb}
+use Rattle.snf3x3.specs.Result.{Result, ok, overflow, _then_, provided, fitting}
+
+pub flag-off : (n : ℕ) → n ≡ 0 → fitting n ≡ false
+flag-off n e = ap fitting e
+
+pub flag-on : (n : ℕ) → (n ≡ 0 → ⊥) → fitting n ≡ true
+flag-on n h = ap not (ne-eqb n 0 h)
 
 -- the code returns the state: it was refused before, or the step leaves it
-pub passed : {X : Type 0} (t : Bool) (x : X) (f : X → Result X) → not t ≡ true → provided t x ≡ (provided t x then f)
-passed true x f e = absurd (subst T (sym e) tt)
+pub passed : {X : Type 0} (t : Bool) (x : X) (f : X → Result X) → t ≡ false → provided t x ≡ (provided t x then f)
+passed true x f e = absurd (subst T e tt)
 passed false x f e = refl
 
 pub kept : {X Y : Type 0} (t : Bool) (x : X) {y : Y} (f : X → Result Y) → f x ≡ ok y → provided t y ≡ (provided t x then f)
@@ -14,9 +22,9 @@ kept true x f e = sym e
 kept false x f e = refl
 
 -- the code makes the step, or refuses it
-pub made : {X Y : Type 0} (t : Bool) (x : X) (f : X → Result Y) {y : Result Y} → not t ≡ false → y ≡ f x → y ≡ (provided t x then f)
+pub made : {X Y : Type 0} (t : Bool) (x : X) (f : X → Result Y) {y : Result Y} → t ≡ true → y ≡ f x → y ≡ (provided t x then f)
 made true x f e p = p
-made false x f e p = absurd (subst T e tt)
+made false x f e p = absurd (subst T (sym e) tt)
 
 pub refused : {X Y : Type 0} (t : Bool) (x : X) (f : X → Result Y) → overflow ≡ f x → overflow ≡ (provided t x then f)
 refused true x f p = p

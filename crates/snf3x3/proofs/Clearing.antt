@@ -67,7 +67,7 @@ zero-second-row : (s t : Pair) → Pivoted s t → Accepted (HalfCleared s) (zer
 zero-second-row s t p =
     accepted-map (make-zero-does 0 1 (t .a .a) (t .a .d) t refl (p .nonzero) (entry-size (p .fits) Y X) (p .fits)) (λ u q.
     let z = q .by in
-    let rows = combine-01 (z .s) (z .t) (z .u) (z .v) (t .a) in
+    let rows = combine-01 (z .s) (z .t) (negℤ (z .v)) (z .u) (t .a) in
     record {
       pivoted = record {
         moves = moves-then (p .moves) (record { by = combiningBy 0 1 z; unimodular = unimodular-01 z; is = q .is });
@@ -82,7 +82,7 @@ zero-third-row s t h =
     let p = h .pivoted in
     accepted-map (make-zero-does 0 2 (t .a .a) (t .a .g) t refl (p .nonzero) (entry-size (p .fits) Z X) (p .fits)) (λ u q.
     let z = q .by in
-    let rows = combine-02 (z .s) (z .t) (z .u) (z .v) (t .a) in
+    let rows = combine-02 (z .s) (z .t) (negℤ (z .v)) (z .u) (t .a) in
     record {
       moves = moves-then (p .moves) (record { by = combiningBy 0 2 z; unimodular = unimodular-02 z; is = q .is });
       fits = q .fits;
@@ -145,7 +145,7 @@ zero-below-second s t p =
     accepted-map (make-zero-does 1 2 (t .a .e) (t .a .h) t refl (p .nonzero) (entry-size (p .fits) Z Y) (p .fits)) (λ u q.
     let z = q .by in
     let k = p .block in
-    let rows = combine-12 (z .s) (z .t) (z .u) (z .v) (t .a) in
+    let rows = combine-12 (z .s) (z .t) (negℤ (z .v)) (z .u) (t .a) in
     record {
       moves = moves-then (p .moves) (record { by = combiningBy 1 2 z; unimodular = unimodular-12 z; is = q .is });
       fits = q .fits;

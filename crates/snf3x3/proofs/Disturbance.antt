@@ -71,7 +71,7 @@ first-sweeps x y z w p f h =
     subst (λ v. Accepted (FirstSwept x y z w) (clearFrom v s)) (sym (second-picked (isZero x) (pick (isZero y) (pick (isZero (pos 0)) none (row 2)) (row 1)) (row 0) (test-nonzero x h)))
     (accepted-bind (zeroFirstColumn 2) (make-zero-does 0 1 x y s refl h (entry-size f Y X) f) (λ u c.
     let b = c .by in
-    let rows = ap (λ (v : Pair). v .a) (c .is) ∙ combine-01 (b .s) (b .t) (b .u) (b .v) m in
+    let rows = ap (λ (v : Pair). v .a) (c .is) ∙ combine-01 (b .s) (b .t) (negℤ (b .v)) (b .u) m in
     subst (λ v. Accepted (FirstSwept x y z w) v) (sym (make-zero-still 0 2 (u .a .a) (u .a .g) u (ap (λ (k : Mat ℤ). k .g) rows)))
     (accepted (record {
       by = b;
@@ -104,7 +104,7 @@ second-sweeps x y z w p f h =
     subst (λ v. Accepted (SecondSwept x y z w) (v then zeroSecondColumn)) (sym (no-swap (isZero y) (not (isZero z)) (multiply (matrixOf (elementarySwapRows 1 2)) s) (ok s) (test-nonzero y h)))
     (accepted-map (make-zero-does 1 2 y z s refl h (entry-size f Z Y) f) (λ u c.
     let b = c .by in
-    let rows = ap (λ (v : Pair). v .a) (c .is) ∙ combine-12 (b .s) (b .t) (b .u) (b .v) m in
+    let rows = ap (λ (v : Pair). v .a) (c .is) ∙ combine-12 (b .s) (b .t) (negℤ (b .v)) (b .u) m in
     record {
       by = b;
       still = c .still;

@@ -8,6 +8,7 @@ pub mod Accepted
 pub mod Bezout
 pub mod FittingEntries
 pub mod RowOperations
+pub mod SmallRows
 pub mod Zeroing
 pub mod Clearing
 pub mod Keeping

@@ -3,18 +3,19 @@ use mathlib.Core.Path.{_≡_, _∙_, ap}
 use mathlib.Core.List.{[], _∷_}
 use Prim.Native.Nat.{ℕ}
 use lib.IntN.{ℤ, pos, negℤ, natAbs, _+ℤ_, _*ℤ_}
-use Rattle.integer.proofs.Polynomial.{Expr, var, con, neg}
+use Rattle.integer.proofs.Polynomial.{Expr, var, con}
 use Rattle.integer.proofs.Reify.{ring, reify}
 use Rattle.common.specs.Matrix.{Axis, X, Y, Z, Mat, entry, entries, mapMat, Ops, integers, _·_, det}
 use Rattle.common.specs.Array.{matrixOf}
 use Rattle.common.proofs.Matrix.{expressions, atoms, 𝔸, _⊡_, solveMat}
 use Rattle.common.proofs.Unimodular.{Unimodular}
-use Rattle.snf3x3.specs.Elementary.{put, unit, elementarySwapRows, belowFirst, belowSecond}
+use Rattle.snf3x3.specs.Elementary as elementary
+use Rattle.snf3x3.specs.Elementary.{elementarySwapRows, belowFirst, belowSecond}
 use Rattle.snf3x3.proofs.Bezout.{Bezout}
 
 -- rows i and j become s·i + t·j and u·j - v·i
 abbrev pub combining : ℕ → ℕ → (s t u v : ℤ) → Mat ℤ
-combining i j s t u v = matrixOf (put j j u (put j i (negℤ v) (put i j t (put i i s unit))))
+combining i j s t u v = matrixOf (elementary.combining i j s t (negℤ v) u)
 
 abbrev pub combiningBy : ℕ → ℕ → {a b : ℤ} → Bezout a b → Mat ℤ
 combiningBy i j z = combining i j (z .s) (z .t) (z .u) (z .v)
@@ -39,27 +40,27 @@ abbrev oneE : Expr
 oneE = con (pos 1)
 
 -- ---- the rows
-module _ (s t u v : ℤ) (m : Mat ℤ) where
-  pub combine-01 : combining 0 1 s t u v · m ≡ stack (mix integers s t (entry m X) (entry m Y)) (mix integers (negℤ v) u (entry m X) (entry m Y)) (entry m Z)
+module _ (s t v u : ℤ) (m : Mat ℤ) where
+  pub combine-01 : matrixOf (elementary.combining 0 1 s t v u) · m ≡ stack (mix integers s t (entry m X) (entry m Y)) (mix integers v u (entry m X) (entry m Y)) (entry m Z)
   combine-01 =
       let M = atoms 4 in
-      solveMat (s ∷ t ∷ u ∷ v ∷ entries m [])
-      (record { a = var 0; b = var 1; c = zeroE; d = neg (var 3); e = var 2; f = zeroE; g = zeroE; h = zeroE; i = oneE } ⊡ M)
-      (stack (mix expressions (var 0) (var 1) (entry M X) (entry M Y)) (mix expressions (neg (var 3)) (var 2) (entry M X) (entry M Y)) (entry M Z)) tt
+      solveMat (s ∷ t ∷ v ∷ u ∷ entries m [])
+      (record { a = var 0; b = var 1; c = zeroE; d = var 2; e = var 3; f = zeroE; g = zeroE; h = zeroE; i = oneE } ⊡ M)
+      (stack (mix expressions (var 0) (var 1) (entry M X) (entry M Y)) (mix expressions (var 2) (var 3) (entry M X) (entry M Y)) (entry M Z)) tt
 
-  pub combine-02 : combining 0 2 s t u v · m ≡ stack (mix integers s t (entry m X) (entry m Z)) (entry m Y) (mix integers (negℤ v) u (entry m X) (entry m Z))
+  pub combine-02 : matrixOf (elementary.combining 0 2 s t v u) · m ≡ stack (mix integers s t (entry m X) (entry m Z)) (entry m Y) (mix integers v u (entry m X) (entry m Z))
   combine-02 =
       let M = atoms 4 in
-      solveMat (s ∷ t ∷ u ∷ v ∷ entries m [])
-      (record { a = var 0; b = zeroE; c = var 1; d = zeroE; e = oneE; f = zeroE; g = neg (var 3); h = zeroE; i = var 2 } ⊡ M)
-      (stack (mix expressions (var 0) (var 1) (entry M X) (entry M Z)) (entry M Y) (mix expressions (neg (var 3)) (var 2) (entry M X) (entry M Z))) tt
+      solveMat (s ∷ t ∷ v ∷ u ∷ entries m [])
+      (record { a = var 0; b = zeroE; c = var 1; d = zeroE; e = oneE; f = zeroE; g = var 2; h = zeroE; i = var 3 } ⊡ M)
+      (stack (mix expressions (var 0) (var 1) (entry M X) (entry M Z)) (entry M Y) (mix expressions (var 2) (var 3) (entry M X) (entry M Z))) tt
 
-  pub combine-12 : combining 1 2 s t u v · m ≡ stack (entry m X) (mix integers s t (entry m Y) (entry m Z)) (mix integers (negℤ v) u (entry m Y) (entry m Z))
+  pub combine-12 : matrixOf (elementary.combining 1 2 s t v u) · m ≡ stack (entry m X) (mix integers s t (entry m Y) (entry m Z)) (mix integers v u (entry m Y) (entry m Z))
   combine-12 =
       let M = atoms 4 in
-      solveMat (s ∷ t ∷ u ∷ v ∷ entries m [])
-      (record { a = oneE; b = zeroE; c = zeroE; d = zeroE; e = var 0; f = var 1; g = zeroE; h = neg (var 3); i = var 2 } ⊡ M)
-      (stack (entry M X) (mix expressions (var 0) (var 1) (entry M Y) (entry M Z)) (mix expressions (neg (var 3)) (var 2) (entry M Y) (entry M Z))) tt
+      solveMat (s ∷ t ∷ v ∷ u ∷ entries m [])
+      (record { a = oneE; b = zeroE; c = zeroE; d = zeroE; e = var 0; f = var 1; g = zeroE; h = var 2; i = var 3 } ⊡ M)
+      (stack (entry M X) (mix expressions (var 0) (var 1) (entry M Y) (entry M Z)) (mix expressions (var 2) (var 3) (entry M Y) (entry M Z))) tt
 
 -- a matrix of numbers as expressions
 abbrev pub constant : Mat ℤ → Mat Expr

@@ -3,17 +3,17 @@ use mathlib.Core.Path.{_≡_, refl, sym, _∙_, ap, ap₂}
 use mathlib.Core.Bool.{Bool, true, false, not, _&&_}
 use Prim.Native.Nat.{ℕ}
 use lib.Dec.{T, leb→le}
-use lib.IntN.{ℤ, pos, negsuc, negℤ}
+use lib.IntN.{ℤ, pos, negsuc}
 use borrow.Author.Tests.{le-ltb}
-use lib.Signed.{ltZ, leZ, quotZ, remZ}
+use lib.Signed.{ltZ, leZ, remZ}
 use Rattle.integer.proofs.Test.{is-true, and-l, and-r}
 use Rattle.integer.proofs.Size.{zero-test}
 use Rattle.integer.specs.Checked.{isZero, pick}
 use Rattle.common.specs.Array.{matrixOf}
-use Rattle.snf3x3.specs.Result.{Result, ok, overflow, _then_, provided, when}
-use Rattle.snf3x3.specs.Gcd.{Euclid, extendedGcd}
-use Rattle.snf3x3.specs.Elementary.{elementarySwapRows, combining, elementarySetZero, elementaryDisturbRows, quotientFits, setZeroFits}
-use Rattle.snf3x3.specs.Columns.{Pair, row, none, multiply, zeroBy, Combination, combination, combineBy, makeZero, clearFrom, firstColumn, secondColumn, zeroSecondColumn}
+use Rattle.snf3x3.specs.Result.{Result, ok, _then_, provided, when}
+use Rattle.snf3x3.specs.Gcd.{extendedGcd}
+use Rattle.snf3x3.specs.Elementary.{elementarySwapRows, elementaryDisturbRows, quotientFits}
+use Rattle.snf3x3.specs.Columns.{Pair, row, none, multiply, Combination, combination, combineBy, makeZero, clearFrom, firstColumn, secondColumn, zeroSecondColumn}
 use Rattle.snf3x3.specs.Stages.{Triple, rowsOf, columnsOf, withRows, withColumns, onColumns, oneLoop, through, firstTests, firstEnd, first, secondTests, secondEnd, second}
 use Rattle.snf3x3.specs.Finalize.{swapDiagElems, order01, order12, finalizeSort, finalizeDisturb, disturb01, disturb12, leaving, putInOrder}
 use Rattle.snf3x3.specs.Settled.{divides, inOrder, offDiagonalZero, settled}
@@ -31,17 +31,7 @@ zero-kept i j a s e = ap (λ b. makeZero i j a b s) e
 -- and where b is not 0, the step is that of the gcd
 pub zero-made : (i j : ℕ) (a b : ℤ) (s : Pair) {c : Result Combination} → isZero b ≡ false → c ≡ (extendedGcd a b then combination a b) → combineBy i j c s ≡ makeZero i j a b s
 unfolding makeZero
-zero-made i j a b s n e = ap (λ c. combineBy i j c s) e ∙ parts (extendedGcd a b) ∙ (λ k. pick (sym n k) (ok s) (extendedGcd a b then zeroBy i j a b s))
-  where
-    one : (t : Bool) (g : Euclid)
-        → (provided t (record { s = g .s; t = g .t; v = quotZ (negℤ b) (g .r); u = quotZ a (g .r) }) then λ (c : Combination). multiply (matrixOf (combining i j (c .s) (c .t) (c .v) (c .u))) s)
-        ≡ (provided t (matrixOf (elementarySetZero i j a b (g .r) (g .s) (g .t))) then λ l. multiply l s)
-    one true g = refl
-    one false g = refl
-
-    parts : (g : Result Euclid) → combineBy i j (g then combination a b) s ≡ (g then zeroBy i j a b s)
-    parts (ok g) = one (setZeroFits a b (g .r)) g
-    parts overflow = refl
+zero-made i j a b s n e = λ k. pick (sym n k) (ok s) (combineBy i j (e k) s)
 
 first-column-kept : (s : Pair) → s .a .d ≡ pos 0 → s .a .g ≡ pos 0 → firstColumn s ≡ ok s
 unfolding firstColumn

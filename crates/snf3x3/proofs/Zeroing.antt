@@ -14,14 +14,15 @@ use Rattle.common.specs.Array.{matrixOf}
 use Rattle.common.specs.IntegerMatrix.{productFits}
 use Rattle.common.proofs.Matrix.{product-assoc, identity-product}
 use Rattle.common.proofs.Unimodular.{Unimodular, unimodular-product}
-use Rattle.snf3x3.specs.Result.{ok}
-use Rattle.snf3x3.specs.Gcd.{Euclid}
-use Rattle.snf3x3.specs.Elementary.{put, unit, elementarySetZero, setZeroFits}
-use Rattle.snf3x3.specs.Columns.{Pair, multiply, makeZero}
+use Rattle.snf3x3.specs.Result.{ok, _then_}
+use Rattle.snf3x3.specs.Gcd.{extendedGcd}
+use Rattle.snf3x3.specs.Elementary.{combining, setZeroFits}
+use Rattle.snf3x3.specs.Columns.{Pair, multiply, Combination, combination, combinationMatrix, makeZero}
 use Rattle.snf3x3.proofs.Accepted.{Accepted, accepted, accepted-bind, accepted-map, accepted-provided, accepted-pick}
 use Rattle.snf3x3.proofs.FittingEntries.{Fits, product-fits}
-use Rattle.snf3x3.proofs.Bezout.{ExtendedGcd, extended-gcd, Bezout, bezout, bezout-zero}
-use Rattle.snf3x3.proofs.RowOperations.{combining, combiningBy}
+use Rattle.snf3x3.proofs.Bezout.{extended-gcd, Bezout, bezout, bezout-zero}
+use Rattle.snf3x3.proofs.RowOperations as rows
+use Rattle.snf3x3.proofs.RowOperations.{combiningBy}
 
 -- ---- from the left
 abbrev pub multiplied : Mat ℤ → Pair → Pair
@@ -57,14 +58,20 @@ moves-then {s} m n = record {
 }
 
 -- ---- the matrix that makes b 0 is that of the gcd and the exact quotients
-set-zero-is : (i j : ℕ) (a b : ℤ) (e : Euclid) (h : zero < natAbs b) (g : ExtendedGcd a b e)
-    → matrixOf (elementarySetZero i j a b (e .r) (e .s) (e .t)) ≡ combiningBy i j (bezout a b e h g)
+record Combines (i j : ℕ) (a b : ℤ) (c : Combination) : Type 0 where
+  by : Bezout a b
+  is : combinationMatrix i j c ≡ combiningBy i j by
+
+combination-does : (i j : ℕ) (a b : ℤ) → zero < natAbs b → natAbs b ≤ 2 ^ 63 → Accepted (Combines i j a b) (extendedGcd a b then combination a b)
 unfolding bezout
-set-zero-is i j a b e h g =
+combination-does i j a b h hb =
+    accepted-bind _ (extended-gcd a b hb) (λ e g.
     let z = bezout a b e h g in
-    ap₂ (λ x y. matrixOf (put j j x (put j i y (put i j (e .t) (put i i (e .s) unit)))))
-    (divides-quot (z .nonzero) (g .gcd .left))
-    (divides-quot (z .nonzero) (record { times = negℤ (z .v); is = ap negℤ (z .second) ∙ sym (neg-*ℤ (z .v) (e .r)) }))
+    accepted-provided (setZeroFits a b (e .r)) _ (λ _. record {
+      by = z;
+      is = ap₂ (λ u v. matrixOf (combining i j (e .s) (e .t) v u)) (divides-quot (z .nonzero) (g .gcd .left))
+          (divides-quot (z .nonzero) (record { times = negℤ (z .v); is = ap negℤ (z .second) ∙ sym (neg-*ℤ (z .v) (e .r)) }));
+    }))
 
 -- t is s with rows i and j combined
 pub record Zeroed (i j : ℕ) (a b : ℤ) (s t : Pair) : Type 0 where
@@ -73,18 +80,16 @@ pub record Zeroed (i j : ℕ) (a b : ℤ) (s t : Pair) : Type 0 where
   pub fits : Fits (t .a)
   pub still : b ≡ pos 0 → by .t ≡ pos 0
 
-pub make-zero-does : (i j : ℕ) (a b : ℤ) (s : Pair) → combining i j (pos 1) (pos 0) (pos 1) (pos 0) ≡ identity → zero < natAbs a → natAbs b ≤ 2 ^ 63 → Fits (s .a)
+pub make-zero-does : (i j : ℕ) (a b : ℤ) (s : Pair) → rows.combining i j (pos 1) (pos 0) (pos 1) (pos 0) ≡ identity → zero < natAbs a → natAbs b ≤ 2 ^ 63 → Fits (s .a)
     → Accepted (Zeroed i j a b s) (makeZero i j a b s)
 unfolding makeZero bezout-zero
 make-zero-does i j a b s same ha hb w =
     accepted-pick (isZero b) (ok s) _
     (λ t. accepted (record { by = bezout-zero a b ha (zero-test b t); is = sym (ap (λ l. multiplied l s) same ∙ identity-multiplied s); fits = w; still = λ _. refl }))
-    (λ n. accepted-bind _ (extended-gcd a b hb) (λ e g.
-    let z = bezout a b e (nonzero-test b n) g in
-    accepted-bind _ (accepted-provided {P = λ l. l ≡ combiningBy i j z} (setZeroFits a b (e .r)) _ (λ _. set-zero-is i j a b e (nonzero-test b n) g)) (λ l p.
-    accepted-map (multiply-does l s) (λ t q. record {
-      by = z;
-      is = q .is ∙ ap (λ l. multiplied l s) p;
+    (λ n. accepted-bind _ (combination-does i j a b (nonzero-test b n) hb) (λ c z.
+    accepted-map (multiply-does (combinationMatrix i j c) s) (λ t q. record {
+      by = z .by;
+      is = q .is ∙ ap (λ l. multiplied l s) (z .is);
       fits = q .fits;
       still = λ e. absurd (subst (λ z. T (not (isZero z))) e n);
-    }))))
+    })))

@@ -7,12 +7,13 @@ use lib.IntN.{ℤ, pos, negℤ}
 use lib.Signed.{quotZ}
 use lib.ListN.{getD}
 use Rattle.integer.specs.Checked.{isZero, pick}
-use Rattle.common.specs.Matrix.{Mat, _·_}
+use Rattle.common.specs.Matrix.{Axis, allAxes, Mat, _·_}
 use Rattle.common.specs.Array.{matrixOf}
+use Rattle.common.specs.Limits.{within, matrixWithin}
 use Rattle.common.specs.IntegerMatrix.{productFits}
 use Rattle.snf3x3.specs.Result.{Result, ok, _then_, provided}
 use Rattle.snf3x3.specs.Gcd.{Euclid, extendedGcd}
-use Rattle.snf3x3.specs.Elementary.{elementarySwapRows, combining, elementarySetZero, setZeroFits}
+use Rattle.snf3x3.specs.Elementary.{elementarySwapRows, combining, setZeroFits}
 
 pub record Pair : Type 0 where
   pub a : Mat ℤ
@@ -22,14 +23,7 @@ pub record Pair : Type 0 where
 unfoldable pub multiply : Mat ℤ → Pair → Result Pair
 multiply l s = provided (productFits l (s .a) && productFits l (s .p)) (record { a = l · s .a; p = l · s .p })
 
--- the matrix that makes b in row j 0 by a in row i
-abbrev pub zeroing : ℕ → ℕ → ℤ → ℤ → Euclid → Result (Mat ℤ)
-zeroing i j a b g = provided (setZeroFits a b (g .r)) (matrixOf (elementarySetZero i j a b (g .r) (g .s) (g .t)))
-
-abbrev pub zeroBy : ℕ → ℕ → ℤ → ℤ → Pair → Euclid → Result Pair
-zeroBy i j a b s g = zeroing i j a b g then λ l. multiply l s
-
--- the same in two parts, as the code has it: the four numbers, and the step by them
+-- the four numbers by which b in row j becomes 0 by a in row i, and the step by them
 pub record Combination : Type 0 where
   pub s : ℤ
   pub t : ℤ
@@ -39,11 +33,27 @@ pub record Combination : Type 0 where
 abbrev pub combination : ℤ → ℤ → Euclid → Result Combination
 combination a b g = provided (setZeroFits a b (g .r)) (record { s = g .s; t = g .t; v = quotZ (negℤ b) (g .r); u = quotZ a (g .r) })
 
+abbrev pub combinationMatrix : ℕ → ℕ → Combination → Mat ℤ
+combinationMatrix i j c = matrixOf (combining i j (c .s) (c .t) (c .v) (c .u))
+
 abbrev pub combineBy : ℕ → ℕ → Result Combination → Pair → Result Pair
-combineBy i j c s = c then λ c. multiply (matrixOf (combining i j (c .s) (c .t) (c .v) (c .u))) s
+combineBy i j c s = c then λ c. multiply (combinationMatrix i j c) s
+
+-- numbers of which three products of two and their sums fit
+abbrev pub small : ℤ → Bool
+small z = within 0x3fffffff z
+
+abbrev pub smallRow : (Axis → ℤ) → Bool
+smallRow u = allAxes (λ k. small (u k))
+
+abbrev pub smallMatrix : Mat ℤ → Bool
+smallMatrix m = matrixWithin 0x3fffffff m
+
+abbrev pub smallCombination : Combination → Bool
+smallCombination c = (small (c .s) && small (c .t)) && (small (c .v) && small (c .u))
 
 unfoldable pub makeZero : ℕ → ℕ → ℤ → ℤ → Pair → Result Pair
-makeZero i j a b s = pick (isZero b) (ok s) (extendedGcd a b then zeroBy i j a b s)
+makeZero i j a b s = pick (isZero b) (ok s) (combineBy i j (extendedGcd a b then combination a b) s)
 
 -- ---- the first column
 -- the first row whose entry is not 0

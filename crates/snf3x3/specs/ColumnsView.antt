@@ -4,18 +4,21 @@ use Rattle.snf3x3.specs.declared.columns.Pair as code
 use Rattle.snf3x3.specs.declared.columns.Pivot as found
 use Rattle.snf3x3.specs.declared.columns.Combination as step
 use Rattle.snf3x3.specs.declared.columns.Pivot.the-variants.{Row, Nothing}
-use Rattle.snf3x3.specs.Result.{Result, provided}
+use Rattle.snf3x3.specs.Result.{Result, provided, fitting}
 use Rattle.snf3x3.specs.Columns.{Pair, Pivot, row, none, Combination}
 
 abbrev pub matricesOf : code.Pair → Pair
 matricesOf s = record { a = matrixAt (s .a) 0; p = matrixAt (s .p) 0 }
 
 abbrev pub pairOf : code.Pair → Result Pair
-pairOf s = provided (s .fits) (matricesOf s)
+pairOf s = provided (fitting (s .fits)) (matricesOf s)
 
 abbrev pub pivotOf : found.Pivot → Pivot
 pivotOf (Row i) = row i
 pivotOf Nothing = none
 
+abbrev pub numbersOf : step.Combination → Combination
+numbersOf c = record { s = c .s; t = c .t; v = c .v; u = c .u }
+
 abbrev pub combinationOf : step.Combination → Result Combination
-combinationOf c = provided (c .fits) (record { s = c .s; t = c .t; v = c .v; u = c .u })
+combinationOf c = provided (c .fits) (numbersOf c)

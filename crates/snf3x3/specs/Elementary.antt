@@ -23,9 +23,6 @@ elementarySwapRows i j = put j i (pos 1) (put i j (pos 1) (put j j (pos 0) (put 
 abbrev pub combining : ℕ → ℕ → (s t v u : ℤ) → List (List ℤ)
 combining i j s t v u = put j j u (put j i v (put i j t (put i i s unit)))
 
-abbrev pub elementarySetZero : ℕ → ℕ → (a b r s t : ℤ) → List (List ℤ)
-elementarySetZero i j a b r s t = combining i j s t (quotZ (negℤ b) r) (quotZ a r)
-
 abbrev pub elementaryFlipSignRow : ℕ → List (List ℤ)
 elementaryFlipSignRow i = put i i (negsuc 0) unit
 

@@ -2,6 +2,7 @@
 use crate::elementary;
 use crate::gcd;
 use crate::gcd::Division;
+use crate::mixing;
 ghost use mathlib.Core.Path.{_≡_};
 ghost use Prim.Native.Nat.{_<_};
 ghost use Rattle.common.specs.Array.{matrixOf};
@@ -10,11 +11,11 @@ ghost use Rattle.snf3x3.specs.Columns as columns;
 ghost use Rattle.snf3x3.specs.ColumnsView.{pairOf, pivotOf, combinationOf};
 ghost use Rattle.snf3x3.specs.Gcd.{extendedGcd};
 
-// `fits` is false once a number left 64 bits; the matrices then say nothing.
+// `fits` is 1, or 0 once a number left 64 bits; the matrices then say nothing. Beside arrays a bool is slow to copy.
 pub struct Pair {
     pub a: [i64; 9],
     pub p: [i64; 9],
-    pub fits: bool,
+    pub fits: u64,
 }
 
 pub enum Pivot {
@@ -28,7 +29,7 @@ pub fn overflowed() -> Pair
     Pair {
         a: [0; 9],
         p: [0; 9],
-        fits: false,
+        fits: 0,
     }
 }
 
@@ -36,7 +37,7 @@ pub fn overflowed() -> Pair
 pub fn multiply(l: [[i64; 3]; 3], s: Pair) -> Pair
     ensures { λ r. ⌜ pairOf r ≡ (pairOf s then columns.multiply (matrixOf l)) ⌝ }
 {
-    if !s.fits {
+    if s.fits == 0 {
         return s;
     }
     let fa = s.a;
@@ -51,7 +52,7 @@ pub fn multiply(l: [[i64; 3]; 3], s: Pair) -> Pair
     Pair {
         a: la,
         p: lp,
-        fits: true,
+        fits: 1,
     }
 }
 
@@ -95,6 +96,7 @@ fn combined(a: i64, b: i64) -> Combination
     }
 }
 
+// Only where the sizes leave it open are the matrices multiplied; handed on as it is, the pair would be copied on every way.
 fn combine(i: usize, j: usize, c: Combination, s: Pair) -> Pair
     requires { ⌜ (i < 3) × (j < 3) ⌝ }
     ensures { λ r. ⌜ pairOf r ≡ (pairOf s then columns.combineBy i j (combinationOf c)) ⌝ }
@@ -102,7 +104,30 @@ fn combine(i: usize, j: usize, c: Combination, s: Pair) -> Pair
     if !c.fits {
         return overflowed();
     }
-    multiply(elementary::elementary_set_zero(i, j, c.s, c.t, c.v, c.u), s)
+    let fa = s.a;
+    let fp = s.p;
+    let a = common::nested(fa);
+    let p = common::nested(fp);
+    if i < j {
+        if mixing::all_small(c, a, p) {
+            let ma = common::flat(mixing::mixed(i, j, c, a));
+            let mp = common::flat(mixing::mixed(i, j, c, p));
+            return Pair {
+                a: ma,
+                p: mp,
+                fits: s.fits,
+            };
+        }
+    }
+    let l = elementary::elementary_set_zero(i, j, c.s, c.t, c.v, c.u);
+    multiply(
+        l,
+        Pair {
+            a: fa,
+            p: fp,
+            fits: s.fits,
+        },
+    )
 }
 
 // ---- the first column
@@ -146,7 +171,7 @@ fn zero_first_column(j: usize, s: Pair) -> Pair
 pub fn first_column(s: Pair) -> Pair
     ensures { λ r. ⌜ pairOf r ≡ (pairOf s then columns.firstColumn) ⌝ }
 {
-    if !s.fits {
+    if s.fits == 0 {
         return s;
     }
     let m = s.a;

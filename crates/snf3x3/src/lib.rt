@@ -3,6 +3,7 @@ mod columns;
 mod elementary;
 mod finalize;
 mod gcd;
+mod mixing;
 mod stages;
 
 use common::Refusal;
@@ -13,7 +14,7 @@ ghost use mathlib.Core.Path.{_≡_};
 ghost use mathlib.Core.Bool.{true};
 ghost use Prim.Native.Nat.{_≤_};
 ghost use Rattle.common.specs.Array.{vectorOf, matrixOf};
-ghost use Rattle.snf3x3.specs.Result.{_then_};
+ghost use Rattle.snf3x3.specs.Result.{_then_, fitting};
 ghost use Rattle.snf3x3.specs.StagesView.{threeOf, tripleOf, outcomeOf};
 ghost use Rattle.snf3x3.specs.Snf3x3 as walk;
 ghost use Rattle.snf3x3.specs.Written.{written};
@@ -57,7 +58,7 @@ fn answer(s: Triple, n: usize) -> Snf
     requires { ⌜ n ≤ 100 ⌝ }
     ensures { λ r. ⌜ r ≡ written (walk.answer n (tripleOf s)) ⌝ }
 {
-    if !s.fits {
+    if s.fits == 0 {
         return refuse(Refusal::Overflow);
     }
     let a = s.a;
@@ -74,7 +75,7 @@ fn answer(s: Triple, n: usize) -> Snf
 }
 
 fn rounds(s: Triple) -> Snf
-    requires { ⌜ s .fits ≡ true ⌝ }
+    requires { ⌜ fitting (s .fits) ≡ true ⌝ }
     ensures { λ r. ⌜ r ≡ written (walk.rounds 100 0 (threeOf s)) ⌝ }
 {
     let mut t = s;
@@ -82,7 +83,7 @@ fn rounds(s: Triple) -> Snf
     while n < 100 {
         let o = round(t);
         let u = o.left;
-        if !u.fits {
+        if u.fits == 0 {
             return refuse(Refusal::Overflow);
         }
         if o.done {
@@ -108,7 +109,7 @@ pub fn snf3x3(a: [[i64; 3]; 3]) -> Snf
         a: m,
         p: [1, 0, 0, 0, 1, 0, 0, 0, 1],
         q: [1, 0, 0, 0, 1, 0, 0, 0, 1],
-        fits: true,
+        fits: 1,
     })
 }
 

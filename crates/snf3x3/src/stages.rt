@@ -16,19 +16,19 @@ ghost use Rattle.integer.specs.Checked.{isZero};
 ghost use mathlib.Core.List.{[]};
 ghost use Rattle.common.specs.Matrix.{entries, transpose};
 ghost use Rattle.common.specs.Array.{matrixOf, matrixAt};
-ghost use Rattle.snf3x3.specs.Result.{provided, overflow, _then_};
+ghost use Rattle.snf3x3.specs.Result.{provided, fitting, overflow, _then_};
 ghost use Rattle.snf3x3.specs.Elementary.{quotientFits};
 ghost use Rattle.snf3x3.specs.Columns as columns;
 ghost use Rattle.snf3x3.specs.ColumnsView.{matricesOf, pairOf};
 ghost use Rattle.snf3x3.specs.Stages as stages;
 ghost use Rattle.snf3x3.specs.StagesView.{threeOf, tripleOf, outcomeOf};
 
-// a, P and the transpose of Q. `fits` is false once a number left 64 bits.
+// a, P and the transpose of Q. `fits` is 0 once a number left 64 bits.
 pub struct Triple {
     pub a: [i64; 9],
     pub p: [i64; 9],
     pub q: [i64; 9],
-    pub fits: bool,
+    pub fits: u64,
 }
 
 // What a stage leaves, and whether it is through.
@@ -44,7 +44,7 @@ pub fn transposed(m: [i64; 9]) -> [i64; 9]
 }
 
 fn rows_of(s: Triple) -> Pair
-    ensures { λ r. ⌜ pairOf r ≡ provided (s .fits) (stages.rowsOf (threeOf s)) ⌝ }
+    ensures { λ r. ⌜ pairOf r ≡ provided (fitting (s .fits)) (stages.rowsOf (threeOf s)) ⌝ }
 {
     let a = s.a;
     let p = s.p;
@@ -56,7 +56,7 @@ fn rows_of(s: Triple) -> Pair
 }
 
 fn columns_of(s: Triple) -> Pair
-    ensures { λ r. ⌜ pairOf r ≡ provided (s .fits) (stages.columnsOf (threeOf s)) ⌝ }
+    ensures { λ r. ⌜ pairOf r ≡ provided (fitting (s .fits)) (stages.columnsOf (threeOf s)) ⌝ }
 {
     let a = s.a;
     let q = s.q;
@@ -69,7 +69,7 @@ fn columns_of(s: Triple) -> Pair
 }
 
 fn with_rows(s: Triple, u: Pair) -> Triple
-    ensures { λ r. ⌜ tripleOf r ≡ provided (u .fits) (stages.withRows (threeOf s) (matricesOf u)) ⌝ }
+    ensures { λ r. ⌜ tripleOf r ≡ provided (fitting (u .fits)) (stages.withRows (threeOf s) (matricesOf u)) ⌝ }
 {
     let a = u.a;
     let p = u.p;
@@ -83,7 +83,7 @@ fn with_rows(s: Triple, u: Pair) -> Triple
 }
 
 fn with_columns(s: Triple, u: Pair) -> Triple
-    ensures { λ r. ⌜ tripleOf r ≡ provided (u .fits) (stages.withColumns (threeOf s) (matricesOf u)) ⌝ }
+    ensures { λ r. ⌜ tripleOf r ≡ provided (fitting (u .fits)) (stages.withColumns (threeOf s) (matricesOf u)) ⌝ }
 {
     let a = u.a;
     let p = s.p;
@@ -116,7 +116,7 @@ pub fn overflowed() -> Triple
         a: [0; 9],
         p: [0; 9],
         q: [0; 9],
-        fits: false,
+        fits: 0,
     }
 }
 
@@ -128,7 +128,7 @@ fn stopped() -> Outcome
             a: [0; 9],
             p: [0; 9],
             q: [0; 9],
-            fits: false,
+            fits: 0,
         },
         done: false,
     }

@@ -8,13 +8,13 @@ use mir.Syntax.{w64}
 use Rattle.common.specs.Matrix.{entries}
 use Rattle.common.proofs.Nine.{nine-entries}
 use mir.Facts.{toZ-pos}
-use borrow.Author.Tests.{not-true, not-false}
 use Rattle.integer.proofs.Fits.{held, held-is}
 use Rattle.common.specs.declared.Tested.the-variants.{Accepted}
 use Rattle.snf3x3.specs.Result.{provided}
 use Rattle.snf3x3.specs.StagesView.{threeOf}
 use Rattle.snf3x3.specs.Snf3x3.{answer}
 use Rattle.snf3x3.specs.Written.{written}
+use Rattle.snf3x3.proofs.Binding.{flag-off, flag-on}
 use borrow.Author.Needs.{needs}
 use Rattle.snf3x3.proofs.answer.Statement.{statement}
 use Rattle.snf3x3.proofs.answer.Tie as tie
@@ -25,7 +25,7 @@ refuse-requires c κs = search needs
 returns : tie.Need-returns
 returns c =
     let a = c .before .before .before .args in
-    c .refuse .ensures ∙ ap (λ (t : Bool). written (answer (a .n) (provided t (threeOf (a .s))))) (sym (not-true (a .s .fits) (c .before .if1 .taken)))
+    c .refuse .ensures ∙ ap (λ (t : Bool). written (answer (a .n) (provided t (threeOf (a .s))))) (sym (flag-off (a .s .fits) (c .before .if1 .taken)))
 
 transposed-requires : tie.Need-transposed-requires
 transposed-requires c κs = search needs
@@ -54,7 +54,7 @@ returns-2 c =
     let p : a .s .p ≡ entries (x .p) [] = nine-entries (a .s .p) (search needs) in
     let n = toZ-pos w64 {n = a .n} (omega (arith, e .before .before .pre)) in
     (λ i. record { tested = Accepted; «d_diag» = d0 i ∷ d4 i ∷ d8 i ∷ []; p = p i; q = d .transposed .ensures i; rounds = n i })
-    ∙ ap (λ (t : Bool). written (answer (a .n) (provided t x))) (sym (not-false (a .s .fits) (e .if1 .left)))
+    ∙ ap (λ (t : Bool). written (answer (a .n) (provided t x))) (sym (flag-on (a .s .fits) (e .if1 .left)))
 
 pub answer-spec : {M : Type 1} → statement M
 answer-spec =

@@ -2,7 +2,7 @@ use mathlib.Core.Path.{_≡_, refl, sym, _∙_, ap}
 use mathlib.Core.Bool.{Bool, true, false}
 use borrow.Author.Tests.{not-true, not-false}
 use Rattle.integer.specs.Checked.{pick}
-use Rattle.snf3x3.specs.Result.{Result, ok, _then_, provided}
+use Rattle.snf3x3.specs.Result.{Result, ok, _then_, provided, fitting}
 use Rattle.snf3x3.specs.Stages.{Triple, Outcome, first, second}
 use Rattle.snf3x3.specs.Snf3x3.{round}
 use Rattle.snf3x3.specs.StagesView.{threeOf, tripleOf}
@@ -26,7 +26,7 @@ unfolding round
 returns c =
     let f = c .before .before in
     let o = f .first .result in
-    kept (o .left .fits) (record { done = o .done; left = threeOf (o .left) }) through-or-left (ap (λ (d : Bool). pick d (second (threeOf (o .left))) (ok (record { done = o .done; left = threeOf (o .left) }))) (not-true (o .done) (c .if1 .taken)))
+    kept (fitting (o .left .fits)) (record { done = o .done; left = threeOf (o .left) }) through-or-left (ap (λ (d : Bool). pick d (second (threeOf (o .left))) (ok (record { done = o .done; left = threeOf (o .left) }))) (not-true (o .done) (c .if1 .taken)))
     ∙ ap (λ r. r then through-or-left) (f .first .ensures) ∙ two-steps (tripleOf (f .before .args .s)) first through-or-left
 
 second-requires : tie.Need-second-requires
@@ -38,7 +38,7 @@ returns-2 c =
     let f = c .before .before .before in
     let o = f .first .result in
     c .second .ensures
-    ∙ on (o .left .fits) (o .done) (threeOf (o .left)) (not-false (o .done) (c .before .if1 .left))
+    ∙ on (fitting (o .left .fits)) (o .done) (threeOf (o .left)) (not-false (o .done) (c .before .if1 .left))
     ∙ ap (λ r. r then through-or-left) (f .first .ensures) ∙ two-steps (tripleOf (f .before .args .s)) first through-or-left
 
 pub round-spec : {M : Type 1} → statement M

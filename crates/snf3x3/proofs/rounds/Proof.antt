@@ -4,19 +4,19 @@ use mathlib.Core.Bool.{Bool, true}
 use Prim.Native.Nat.{ℕ, suc, _+_, _≤_, _-_}
 use native.Mathlib.Omega.{arith}
 use native.Mathlib.Numerals.{add-one}
-use borrow.Author.Tests.{not-true, not-false}
-use Rattle.snf3x3.specs.Result.{Result, _then_, provided}
+use Rattle.snf3x3.specs.Result.{Result, _then_, provided, fitting}
 use Rattle.snf3x3.specs.Stages.{Outcome}
 use Rattle.snf3x3.specs.StagesView.{threeOf, outcomeOf}
 use Rattle.snf3x3.specs.Finalize.{finalize}
 use Rattle.snf3x3.specs.Snf3x3.{answer, round, rounds}
 use Rattle.snf3x3.specs.Written.{written}
+use Rattle.snf3x3.proofs.Binding.{flag-off, flag-on}
 use Rattle.snf3x3.proofs.Passes.{none-left, left-range, through, another}
 use Rattle.snf3x3.proofs.rounds.Statement.{statement}
 use Rattle.snf3x3.proofs.rounds.Tie as tie
 
 abbrev Inv-loop : tie.InvT-loop
-Inv-loop t₀ n₀ t n = (n ≤ 100) × (t .fits ≡ true) × (rounds 100 0 (threeOf t₀) ≡ rounds (100 - n) n (threeOf t))
+Inv-loop t₀ n₀ t n = (n ≤ 100) × (fitting (t .fits) ≡ true) × (rounds 100 0 (threeOf t₀) ≡ rounds (100 - n) n (threeOf t))
 
 abbrev μ-loop : tie.MeasureT-loop
 μ-loop t₀ n₀ t n = 100 - n
@@ -45,7 +45,7 @@ returns c =
     let r = c .before .before .before .before in
     let l = r .before .before .loop in
     let o = r .round .result in
-    c .refuse .ensures ∙ sym (ap written (l .inv .2 ∙ left-range (99 - l .n) (l .n) (left r) (threeOf (l .t)) (o .left .fits) (o .done) (threeOf (o .left)) (made r) (not-true (o .left .fits) (c .before .if1 .taken))))
+    c .refuse .ensures ∙ sym (ap written (l .inv .2 ∙ left-range (99 - l .n) (l .n) (left r) (threeOf (l .t)) (fitting (o .left .fits)) (o .done) (threeOf (o .left)) (made r) (flag-off (o .left .fits) (c .before .if1 .taken))))
 
 finalize-requires : tie.Need-finalize-requires Inv-loop μ-loop
 finalize-requires c κs = search needs
@@ -61,9 +61,9 @@ returns-2 c =
     let r = c .before .before .before .before .before .before in
     let l = r .before .before .loop in
     let o = r .round .result in
-    let e = not-false (o .left .fits) (c .before .before .before .if1 .left) in
+    let e = flag-on (o .left .fits) (c .before .before .before .if1 .left) in
     c .answer .ensures ∙ (λ i. written (answer (add-one (l .n) i) ((c .before .finalize .ensures ∙ ap (λ (b : Bool). provided b (threeOf (o .left)) then finalize) e) i)))
-    ∙ sym (ap written (l .inv .2 ∙ through (99 - l .n) (l .n) (left r) (threeOf (l .t)) (o .left .fits) (o .done) (threeOf (o .left)) (made r) e (c .before .before .if2 .taken)))
+    ∙ sym (ap written (l .inv .2 ∙ through (99 - l .n) (l .n) (left r) (threeOf (l .t)) (fitting (o .left .fits)) (o .done) (threeOf (o .left)) (made r) e (c .before .before .if2 .taken)))
 
 add-n : tie.Need-add-n Inv-loop μ-loop
 add-n c = search needs
@@ -76,10 +76,10 @@ loop-again c =
     let r = c .before .before .before .before in
     let l = r .before .before .loop in
     let o = r .round .result in
-    let e = not-false (o .left .fits) (c .before .if1 .left) in (
+    let e = flag-on (o .left .fits) (c .before .if1 .left) in (
       search needs,
       e,
-      l .inv .2 ∙ another (99 - l .n) (l .n) (left r) (threeOf (l .t)) (o .left .fits) (o .done) (threeOf (o .left)) (made r) e (c .if2 .left)
+      l .inv .2 ∙ another (99 - l .n) (l .n) (left r) (threeOf (l .t)) (fitting (o .left .fits)) (o .done) (threeOf (o .left)) (made r) e (c .if2 .left)
           ∙ (λ i. rounds (later (l .n) i) (sym (add-one (l .n)) i) (threeOf (o .left))),
     )
 

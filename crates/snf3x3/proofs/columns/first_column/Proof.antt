@@ -2,13 +2,12 @@ use mathlib.Core.Path.{_≡_, sym, _∙_, ap}
 use mathlib.Core.Bool.{Bool, true, false}
 use Prim.Native.Nat.{ℕ, _<_}
 use native.Mathlib.Omega.{arith}
-use borrow.Author.Tests.{not-false}
 use Rattle.integer.specs.Checked.{isZero, pick}
 use Rattle.common.specs.Array.{matrixOf, matrixAt}
-use Rattle.snf3x3.specs.Result.{_then_, provided}
+use Rattle.snf3x3.specs.Result.{_then_, provided, fitting}
 use Rattle.snf3x3.specs.Columns.{row, none, searchFirstPivot, toTop, zeroFirstColumn, clearFrom, firstColumn}
 use Rattle.snf3x3.specs.ColumnsView.{matricesOf, pivotOf}
-use Rattle.snf3x3.proofs.Binding.{passed, kept, made}
+use Rattle.snf3x3.proofs.Binding.{flag-off, flag-on, passed, kept, made}
 use borrow.Author.Needs.{needs}
 use Rattle.snf3x3.proofs.columns.first_column.Statement.{statement}
 use Rattle.snf3x3.proofs.columns.first_column.Tie as tie
@@ -25,7 +24,7 @@ pivot-is c = c .search-first-pivot .ensures ∙ ap (λ m. searchFirstPivot (matr
 returns : tie.Need-returns
 returns c =
     let s = c .before .before .args .s in
-    passed (s .fits) (matricesOf s) firstColumn (c .if1 .taken)
+    passed (fitting (s .fits)) (matricesOf s) firstColumn (flag-off (s .fits) (c .if1 .taken))
 
 nested-requires : tie.Need-nested-requires
 nested-requires c κs = search needs
@@ -44,7 +43,7 @@ unfolding firstColumn
 returns-2 c =
     let s = c .before .before .before .before .before .before .before .args .s in
     let p = ap pivotOf (sym (c .enum-told .given .1)) ∙ pivot-is (c .before .before) in
-    kept (s .fits) (matricesOf s) firstColumn (ap (λ v. clearFrom v (matricesOf s)) (sym p))
+    kept (fitting (s .fits)) (matricesOf s) firstColumn (ap (λ v. clearFrom v (matricesOf s)) (sym p))
 
 to-top-requires : tie.Need-to-top-requires
 to-top-requires c κs =
@@ -66,10 +65,10 @@ returns-3 c =
     let x = matricesOf s in
     let i = d .i .given .0 .0 in
     let p = ap pivotOf (sym (d .i .given .1)) ∙ pivot-is (d .before .before) in
-    let n = d .before .before .before .before .before .if1 .left in
-    made (s .fits) x firstColumn n
+    let n = flag-on (s .fits) (d .before .before .before .before .before .if1 .left) in
+    made (fitting (s .fits)) x firstColumn n
     (c .zero-first-column2 .ensures ∙ ap (λ r. r then zeroFirstColumn 2) (c .before .zero-first-column .ensures ∙ ap (λ r. r then zeroFirstColumn 1) (c .before .before .to-top .ensures))
-    ∙ ap (λ (t : Bool). provided t x then toTop i then zeroFirstColumn 1 then zeroFirstColumn 2) (not-false (s .fits) n)
+    ∙ ap (λ (t : Bool). provided t x then toTop i then zeroFirstColumn 1 then zeroFirstColumn 2) n
     ∙ ap (λ v. clearFrom v x) p)
 
 pub first-column-spec : {M : Type 1} → statement M

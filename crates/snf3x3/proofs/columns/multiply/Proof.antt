@@ -5,10 +5,10 @@ use Rattle.common.specs.Matrix.{_·_}
 use Rattle.common.specs.Array.{matrixOf, matrixAt}
 use Rattle.common.specs.IntegerMatrix.{productFits}
 use Rattle.common.proofs.Tests.{yes, no}
-use Rattle.snf3x3.specs.Result.{provided}
+use Rattle.snf3x3.specs.Result.{provided, fitting}
 use Rattle.snf3x3.specs.Columns.{multiply}
 use Rattle.snf3x3.specs.ColumnsView.{matricesOf}
-use Rattle.snf3x3.proofs.Binding.{passed, made, refused}
+use Rattle.snf3x3.proofs.Binding.{flag-off, flag-on, passed, made, refused}
 use borrow.Author.Needs.{needs}
 use Rattle.snf3x3.proofs.columns.multiply.Statement.{statement}
 use Rattle.snf3x3.proofs.columns.multiply.Tie as tie
@@ -22,7 +22,7 @@ test c =
 returns : tie.Need-returns
 returns c =
     let s = c .before .before .args .s in
-    passed (s .fits) (matricesOf s) (multiply (matrixOf (c .before .before .args .l))) (c .if1 .taken)
+    passed (fitting (s .fits)) (matricesOf s) (multiply (matrixOf (c .before .before .args .l))) (flag-off (s .fits) (c .if1 .taken))
 
 nested-requires : tie.Need-nested-requires
 nested-requires c κs = search needs
@@ -43,7 +43,7 @@ returns-2 c =
     let z = t .before .before .before .before .before .before .before in
     let l = matrixOf (z .args .l) in
     let x = matricesOf (z .args .s) in
-    c .overflowed .ensures ∙ refused (z .args .s .fits) x (multiply l) (λ k. provided (sym (no (test t) (c .before .if2 .taken)) k) (record { a = l · x .a; p = l · x .p }))
+    c .overflowed .ensures ∙ refused (fitting (z .args .s .fits)) x (multiply l) (λ k. provided (sym (no (test t) (c .before .if2 .taken)) k) (record { a = l · x .a; p = l · x .p }))
 
 matmul-i-requires : tie.Need-matmul-i-requires
 matmul-i-requires c κs =
@@ -77,7 +77,7 @@ returns-3 c =
     let x = matricesOf (z .args .s) in
     let la = ap (λ l. matrixAt l 0) (c .before .before .flat .ensures) ∙ ap matrixOf (c .before .before .before .matmul-i .ensures) ∙ ap (λ m. l · matrixOf m) (t .before .before .nested .ensures) in
     let lp = ap (λ l. matrixAt l 0) (c .flat2 .ensures) ∙ ap matrixOf (c .before .matmul-i2 .ensures) ∙ ap (λ m. l · matrixOf m) (t .before .nested2 .ensures) in
-    made (z .args .s .fits) x (multiply l) (t .before .before .before .before .before .if1 .left) (λ k. provided (sym (yes (test t) (d .if2 .left)) k) (record { a = la k; p = lp k }))
+    made (fitting (z .args .s .fits)) x (multiply l) (flag-on (z .args .s .fits) (t .before .before .before .before .before .if1 .left)) (λ k. provided (sym (yes (test t) (d .if2 .left)) k) (record { a = la k; p = lp k }))
 
 pub multiply-spec : {M : Type 1} → statement M
 multiply-spec =

@@ -4,7 +4,7 @@ use mir.Syntax.{w64}
 use mir.Val.{SFits}
 use Rattle.integer.specs.Checked.{isZero, pick}
 use Rattle.common.specs.Array.{matrixOf}
-use Rattle.snf3x3.specs.Result.{ok}
+use Rattle.snf3x3.specs.Result.{ok, fitting}
 use Rattle.snf3x3.specs.Elementary.{elementarySwapRows}
 use Rattle.snf3x3.specs.Columns.{multiply, secondToTop}
 use Rattle.snf3x3.specs.ColumnsView.{matricesOf}
@@ -21,7 +21,7 @@ returns : tie.Need-returns
 returns c =
     let s = c .before .before .before .args .s in
     let x = matricesOf s in
-    kept (s .fits) x secondToTop (λ k. pick (not-zero (x .a .e) (c .if1 .taken) k && not (isZero (x .a .h))) (multiply (matrixOf (elementarySwapRows 1 2)) x) (ok x))
+    kept (fitting (s .fits)) x secondToTop (λ k. pick (not-zero (x .a .e) (c .if1 .taken) k && not (isZero (x .a .h))) (multiply (matrixOf (elementarySwapRows 1 2)) x) (ok x))
 
 array-copy-out-if2 : tie.Need-array-copy-out-if2
 array-copy-out-if2 c = search needs
@@ -32,7 +32,7 @@ returns-2 c =
     let x = matricesOf s in
     let f4 : SFits w64 (x .a .e) = search needs in
     let f7 : SFits w64 (x .a .h) = search needs in
-    kept (s .fits) x secondToTop
+    kept (fitting (s .fits)) x secondToTop
     (λ k. pick (is-zero (x .a .e) f4 (c .before .before .if1 .left) k && not (is-zero (x .a .h) f7 (c .if2 .taken) k)) (multiply (matrixOf (elementarySwapRows 1 2)) x) (ok x))
 
 elementary-swap-rows-requires : tie.Need-elementary-swap-rows-requires
@@ -48,7 +48,7 @@ returns-3 c =
     let f4 : SFits w64 (x .a .e) = search needs in
     let l = c .before .elementary-swap-rows .ensures in
     c .multiply .ensures
-    ∙ same-step (s .fits) x (multiply (matrixOf (c .before .elementary-swap-rows .result))) secondToTop
+    ∙ same-step (fitting (s .fits)) x (multiply (matrixOf (c .before .elementary-swap-rows .result))) secondToTop
     (λ k. pick (sym (is-zero (x .a .e) f4 (c .before .before .before .before .if1 .left)) k && not (sym (not-zero (x .a .h) (c .before .before .if2 .left)) k)) (multiply (matrixOf (l k)) x) (ok x))
 
 pub second-to-top-spec : {M : Type 1} → statement M

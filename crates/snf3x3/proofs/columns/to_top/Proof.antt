@@ -3,7 +3,7 @@ use Prim.Native.Nat.{ℕ}
 use borrow.Author.Tests.{ne-eqb}
 use Rattle.integer.specs.Checked.{pick}
 use Rattle.common.specs.Array.{matrixOf}
-use Rattle.snf3x3.specs.Result.{ok}
+use Rattle.snf3x3.specs.Result.{ok, fitting}
 use Rattle.snf3x3.specs.Columns.{multiply, toTop}
 use Rattle.snf3x3.specs.ColumnsView.{matricesOf}
 use Rattle.snf3x3.proofs.Binding.{kept, same-step}
@@ -15,7 +15,7 @@ returns : tie.Need-returns
 returns c =
     let a = c .before .args in
     let x = matricesOf (a .s) in
-    kept (a .s .fits) x (toTop (a .i)) (ap (λ (i : ℕ). toTop i x) (c .if1 .taken))
+    kept (fitting (a .s .fits)) x (toTop (a .i)) (ap (λ (i : ℕ). toTop i x) (c .if1 .taken))
 
 elementary-swap-rows-requires : tie.Need-elementary-swap-rows-requires
 elementary-swap-rows-requires c κs = search needs
@@ -28,7 +28,7 @@ returns-2 c =
     let a = c .before .before .before .args in
     let x = matricesOf (a .s) in
     c .multiply .ensures
-    ∙ same-step (a .s .fits) x (multiply (matrixOf (c .before .elementary-swap-rows .result))) (toTop (a .i))
+    ∙ same-step (fitting (a .s .fits)) x (multiply (matrixOf (c .before .elementary-swap-rows .result))) (toTop (a .i))
     (λ k. pick (sym (ne-eqb (a .i) 0 (c .before .before .if1 .left)) k) (ok x) (multiply (matrixOf (c .before .elementary-swap-rows .ensures k)) x))
 
 pub to-top-spec : {M : Type 1} → statement M

@@ -8,7 +8,7 @@ use Rattle.integer.specs.Checked.{isZero}
 use lib.ListN.{getD}
 use Rattle.integer.proofs.Quotient.{zero-bits}
 use Rattle.integer.proofs.Fits.{held, held-is}
-use Rattle.snf3x3.specs.Result.{_then_}
+use Rattle.snf3x3.specs.Result.{_then_, fitting}
 use Rattle.snf3x3.specs.Gcd.{extendedGcd}
 use Rattle.snf3x3.specs.Columns.{combination, combineBy, zeroFirstColumn}
 use Rattle.snf3x3.specs.ColumnsView.{matricesOf, combinationOf}
@@ -44,7 +44,7 @@ returns c =
     let z = r .before .before in
     let s = z .args .s in
     let x = matricesOf s in
-    kept (s .fits) x (zeroFirstColumn (z .args .j)) (zero-kept 0 (z .args .j) (x .a .a) x (sym (head (s .a) (z .args .j) (z .pre)) ∙ zero-bits (getD (s .a) (3 * z .args .j) (pos 0)) (record { sfits = r .b .given }) (c .if1 .taken)))
+    kept (fitting (s .fits)) x (zeroFirstColumn (z .args .j)) (zero-kept 0 (z .args .j) (x .a .a) x (sym (head (s .a) (z .args .j) (z .pre)) ∙ zero-bits (getD (s .a) (3 * z .args .j) (pos 0)) (record { sfits = r .b .given }) (c .if1 .taken)))
 
 array-copy-out-combined : tie.Need-array-copy-out-combined
 array-copy-out-combined c = search needs
@@ -69,7 +69,7 @@ returns-2 c =
     let ej = held-is (getD (s .a) (3 * j) (pos 0)) (r .b .given) ∙ h in
     let b = getD (x .a .a ∷ x .a .d ∷ x .a .g ∷ []) j (pos 0) in
     c .combine .ensures
-    ∙ same-step (s .fits) x (combineBy 0 j (combinationOf (t .combined .result))) (zeroFirstColumn j)
+    ∙ same-step (fitting (s .fits)) x (combineBy 0 j (combinationOf (t .combined .result))) (zeroFirstColumn j)
     (zero-made 0 j (x .a .a) b x (subst (λ z. isZero z ≡ false) h (not-zero (getD (s .a) (3 * j) (pos 0)) (e .if1 .left))) (t .combined .ensures ∙ (λ i. extendedGcd (e0 i) (ej i) then combination (e0 i) (ej i))))
 
 pub zero-first-column-spec : {M : Type 1} → statement M

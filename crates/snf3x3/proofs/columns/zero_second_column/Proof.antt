@@ -3,7 +3,7 @@ use lib.IntN.{pos}
 use lib.ListN.{getD}
 use Rattle.integer.proofs.Quotient.{zero-bits}
 use Rattle.integer.proofs.Fits.{held, held-is}
-use Rattle.snf3x3.specs.Result.{_then_}
+use Rattle.snf3x3.specs.Result.{_then_, fitting}
 use Rattle.snf3x3.specs.Gcd.{extendedGcd}
 use Rattle.snf3x3.specs.Columns.{combination, combineBy, zeroSecondColumn}
 use Rattle.snf3x3.specs.ColumnsView.{matricesOf, combinationOf}
@@ -22,7 +22,7 @@ returns c =
     let r = c .before in
     let s = r .before .before .args .s in
     let x = matricesOf s in
-    kept (s .fits) x zeroSecondColumn (zero-kept 1 2 (x .a .e) x (zero-bits (getD (s .a) 7 (pos 0)) (record { sfits = r .b .given }) (c .if1 .taken)))
+    kept (fitting (s .fits)) x zeroSecondColumn (zero-kept 1 2 (x .a .e) x (zero-bits (getD (s .a) 7 (pos 0)) (record { sfits = r .b .given }) (c .if1 .taken)))
 
 array-copy-out-combined : tie.Need-array-copy-out-combined
 array-copy-out-combined c = search needs
@@ -43,7 +43,7 @@ returns-2 c =
     let e4 = held-is (getD (s .a) 4 (pos 0)) (z .before .combined-arg .given) in
     let e7 = held-is (getD (s .a) 7 (pos 0)) (r .b .given) in
     c .combine .ensures
-    ∙ same-step (s .fits) x (combineBy 1 2 (combinationOf (z .combined .result))) zeroSecondColumn
+    ∙ same-step (fitting (s .fits)) x (combineBy 1 2 (combinationOf (z .combined .result))) zeroSecondColumn
     (zero-made 1 2 (x .a .e) (x .a .h) x (not-zero (getD (s .a) 7 (pos 0)) (e .if1 .left)) (z .combined .ensures ∙ (λ i. extendedGcd (e4 i) (e7 i) then combination (e4 i) (e7 i))))
 
 pub zero-second-column-spec : {M : Type 1} → statement M

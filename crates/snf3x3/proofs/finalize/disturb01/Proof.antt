@@ -1,5 +1,6 @@
 use mathlib.Core.Path.{_≡_, _∙_}
 use Rattle.integer.proofs.Fits.{held}
+use Rattle.snf3x3.specs.Result.{fitting}
 use Rattle.snf3x3.specs.StagesView.{threeOf}
 use Rattle.snf3x3.specs.Finalize.{finalizeDisturb}
 use Rattle.snf3x3.proofs.Binding.{reading-two}
@@ -22,7 +23,7 @@ returns c =
     let x = threeOf s in
     let d : held (x .a .a) ≡ x .a .a = search needs in
     let e : held (x .a .e) ≡ x .a .e = search needs in
-    c .finalize-disturb .ensures ∙ reading-two (s .fits) x (λ s. s .a .a) (λ s. s .a .e) (finalizeDisturb 0 1) d e
+    c .finalize-disturb .ensures ∙ reading-two (fitting (s .fits)) x (λ s. s .a .a) (λ s. s .a .e) (finalizeDisturb 0 1) d e
 
 pub disturb01-spec : {M : Type 1} → statement M
 disturb01-spec =

@@ -1,5 +1,6 @@
 use mathlib.Core.Path.{_≡_, _∙_}
 use Rattle.integer.proofs.Fits.{held}
+use Rattle.snf3x3.specs.Result.{fitting}
 use Rattle.snf3x3.specs.StagesView.{threeOf}
 use Rattle.snf3x3.specs.Finalize.{finalizeDisturb}
 use Rattle.snf3x3.proofs.Binding.{reading-two}
@@ -22,7 +23,7 @@ returns c =
     let x = threeOf s in
     let d : held (x .a .e) ≡ x .a .e = search needs in
     let e : held (x .a .i) ≡ x .a .i = search needs in
-    c .finalize-disturb .ensures ∙ reading-two (s .fits) x (λ s. s .a .e) (λ s. s .a .i) (finalizeDisturb 1 2) d e
+    c .finalize-disturb .ensures ∙ reading-two (fitting (s .fits)) x (λ s. s .a .e) (λ s. s .a .i) (finalizeDisturb 1 2) d e
 
 pub disturb12-spec : {M : Type 1} → statement M
 disturb12-spec =

@@ -7,7 +7,7 @@ use Rattle.integer.specs.Checked.{isZero}
 use Rattle.integer.proofs.Test.{holds}
 use Rattle.common.specs.Array.{matrixOf}
 use Rattle.common.proofs.Tests.{yes, no}
-use Rattle.snf3x3.specs.Result.{_then_, provided, when}
+use Rattle.snf3x3.specs.Result.{_then_, provided, when, fitting}
 use Rattle.snf3x3.specs.Elementary.{quotientFits, elementaryDisturbRows}
 use Rattle.snf3x3.specs.Columns.{multiply}
 use Rattle.snf3x3.specs.Stages.{onColumns}
@@ -36,7 +36,7 @@ returns c =
     let a = c .before .before .before .args in
     let x = threeOf (a .s) in
     c .overflowed .ensures
-    ∙ refused (a .s .fits) x (finalizeDisturb (a .i) (a .j) (a .x) (a .y))
+    ∙ refused (fitting (a .s .fits)) x (finalizeDisturb (a .i) (a .j) (a .x) (a .y))
     (λ k. provided (sym (no (fits-is (c .before .before)) (c .before .if1 .taken)) k) (isZero (remZ (a .y) (a .x))) then λ b. when (not b) (onColumns (multiply (matrixOf (elementaryDisturbRows (a .i) (a .j))))) x)
 
 is-multiple-requires : tie.Need-is-multiple-requires
@@ -49,7 +49,7 @@ returns-2 c =
     let a = d .before .before .args in
     let x = threeOf (a .s) in
     let m = sym (multiple-is (c .before)) ∙ c .if2 .taken in
-    kept (a .s .fits) x (finalizeDisturb (a .i) (a .j) (a .x) (a .y))
+    kept (fitting (a .s .fits)) x (finalizeDisturb (a .i) (a .j) (a .x) (a .y))
     (λ k. provided (yes (fits-is (d .before)) (d .if1 .left) k) (m k) then λ b. when (not b) (onColumns (multiply (matrixOf (elementaryDisturbRows (a .i) (a .j))))) x)
 
 elementary-disturb-rows-requires : tie.Need-elementary-disturb-rows-requires
@@ -67,7 +67,7 @@ returns-3 c =
     let m = sym (multiple-is (c .before .before .before)) ∙ c .before .before .if2 .left in
     let l = c .before .elementary-disturb-rows in
     c .on-columns .ensures
-    ∙ same-step (a .s .fits) x (onColumns (multiply (matrixOf (l .result)))) (finalizeDisturb (a .i) (a .j) (a .x) (a .y))
+    ∙ same-step (fitting (a .s .fits)) x (onColumns (multiply (matrixOf (l .result)))) (finalizeDisturb (a .i) (a .j) (a .x) (a .y))
     (λ k. provided (sym (yes (fits-is (d .before)) (d .if1 .left)) k) (sym m k) then λ b. when (not b) (onColumns (multiply (matrixOf (l .ensures k)))) x)
 
 pub finalize-disturb-spec : {M : Type 1} → statement M

@@ -1,6 +1,6 @@
 use mathlib.Core.Path.{_≡_, refl, _∙_, ap}
 use Rattle.integer.proofs.Fits.{held}
-use Rattle.snf3x3.specs.Result.{_then_}
+use Rattle.snf3x3.specs.Result.{_then_, fitting}
 use Rattle.snf3x3.specs.StagesView.{threeOf, tripleOf}
 use Rattle.snf3x3.specs.Finalize.{order, order01, order12, finalizeSort}
 use Rattle.snf3x3.proofs.Binding.{reading-two, more-steps}
@@ -52,9 +52,9 @@ returns c =
     let y2 : held (y .a .i) ≡ y .a .i = search needs in
     let z0 : held (z .a .a) ≡ z .a .a = search needs in
     let z1 : held (z .a .e) ≡ z .a .e = search needs in
-    c .order3 .ensures ∙ reading-two (u .fits) z (λ s. s .a .a) (λ s. s .a .e) (order 0 1) z0 z1
-    ∙ ap (λ r. r then order01) (d .order2 .ensures ∙ reading-two (t .fits) y (λ s. s .a .e) (λ s. s .a .i) (order 1 2) y1 y2)
-    ∙ ap (λ r. r then order12 then order01) (e .order .ensures ∙ reading-two (s .fits) x (λ s. s .a .a) (λ s. s .a .e) (order 0 1) x0 x1)
+    c .order3 .ensures ∙ reading-two (fitting (u .fits)) z (λ s. s .a .a) (λ s. s .a .e) (order 0 1) z0 z1
+    ∙ ap (λ r. r then order01) (d .order2 .ensures ∙ reading-two (fitting (t .fits)) y (λ s. s .a .e) (λ s. s .a .i) (order 1 2) y1 y2)
+    ∙ ap (λ r. r then order12 then order01) (e .order .ensures ∙ reading-two (fitting (s .fits)) x (λ s. s .a .a) (λ s. s .a .e) (order 0 1) x0 x1)
     ∙ more-steps (tripleOf s) order01 (λ r. r then order12 then order01) refl
 
 pub finalize-sort-spec : {M : Type 1} → statement M

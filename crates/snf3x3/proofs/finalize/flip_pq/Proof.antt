@@ -7,7 +7,7 @@ use Rattle.common.specs.Matrix.{det}
 use Rattle.common.specs.Array.{matrixOf, matrixAt}
 use Rattle.common.specs.IntegerMatrix.{detFits}
 use Rattle.common.proofs.Tests.{yes, no}
-use Rattle.snf3x3.specs.Result.{_then_, provided, when}
+use Rattle.snf3x3.specs.Result.{_then_, provided, when, fitting}
 use Rattle.snf3x3.specs.StagesView.{threeOf}
 use Rattle.snf3x3.specs.Finalize.{negatePQ, flipPQ}
 use Rattle.snf3x3.proofs.Binding.{kept, refused, same-step}
@@ -38,7 +38,7 @@ returns c =
     let s = c .before .before .before .before .before .args .s in
     let x = threeOf s in
     c .overflowed .ensures
-    ∙ refused (s .fits) x flipPQ (λ k. provided (sym (no (fits-is (c .before .before)) (c .before .if1 .taken)) k) (ltZ (det (x .p)) (pos 0)) then λ b. when b negatePQ x)
+    ∙ refused (fitting (s .fits)) x flipPQ (λ k. provided (sym (no (fits-is (c .before .before)) (c .before .if1 .taken)) k) (ltZ (det (x .p)) (pos 0)) then λ b. when b negatePQ x)
 
 det-i-requires : tie.Need-det-i-requires
 det-i-requires c κs = holds (yes (c .before .det-fits .ensures) (c .if1 .left))
@@ -54,7 +54,7 @@ returns-2 c =
     let x = threeOf s in
     let t = sym (sign-is (c .before .before)) ∙ c .before .if2 .taken in
     c .negate-pq .ensures
-    ∙ same-step (s .fits) x negatePQ flipPQ (λ k. provided (sym (yes (fits-is (d .before)) (d .if1 .left)) k) (sym t k) then λ b. when b negatePQ x)
+    ∙ same-step (fitting (s .fits)) x negatePQ flipPQ (λ k. provided (sym (yes (fits-is (d .before)) (d .if1 .left)) k) (sym t k) then λ b. when b negatePQ x)
 
 returns-3 : tie.Need-returns-3
 unfolding flipPQ
@@ -63,7 +63,7 @@ returns-3 c =
     let s = d .before .before .before .before .args .s in
     let x = threeOf s in
     let t = sym (sign-is (c .before)) ∙ c .if2 .left in
-    kept (s .fits) x flipPQ (λ k. provided (yes (fits-is (d .before)) (d .if1 .left) k) (t k) then λ b. when b negatePQ x)
+    kept (fitting (s .fits)) x flipPQ (λ k. provided (yes (fits-is (d .before)) (d .if1 .left) k) (t k) then λ b. when b negatePQ x)
 
 pub flip-pq-spec : {M : Type 1} → statement M
 flip-pq-spec =

@@ -1,6 +1,6 @@
 use mathlib.Core.Path.{_≡_, refl, _∙_, ap}
 use Rattle.integer.proofs.Fits.{held}
-use Rattle.snf3x3.specs.Result.{Result, _then_}
+use Rattle.snf3x3.specs.Result.{Result, _then_, fitting}
 use Rattle.snf3x3.specs.Stages.{Triple}
 use Rattle.snf3x3.specs.StagesView.{threeOf, tripleOf}
 use Rattle.snf3x3.specs.Finalize.{makePositive, makeDiagPositive}
@@ -51,9 +51,9 @@ returns c =
     let x0 : held (x .a .a) ≡ x .a .a = search needs in
     let y1 : held (y .a .e) ≡ y .a .e = search needs in
     let z2 : held (z .a .i) ≡ z .a .i = search needs in
-    c .make-positive3 .ensures ∙ reading (u .fits) z (λ s. s .a .i) (makePositive 2) z2
-    ∙ ap (λ r. r then row2) (d .make-positive2 .ensures ∙ reading (t .fits) y (λ s. s .a .e) (makePositive 1) y1)
-    ∙ ap (λ r. r then row1 then row2) (e .make-positive .ensures ∙ reading (s .fits) x (λ s. s .a .a) (makePositive 0) x0)
+    c .make-positive3 .ensures ∙ reading (fitting (u .fits)) z (λ s. s .a .i) (makePositive 2) z2
+    ∙ ap (λ r. r then row2) (d .make-positive2 .ensures ∙ reading (fitting (t .fits)) y (λ s. s .a .e) (makePositive 1) y1)
+    ∙ ap (λ r. r then row1 then row2) (e .make-positive .ensures ∙ reading (fitting (s .fits)) x (λ s. s .a .a) (makePositive 0) x0)
     ∙ more-steps (tripleOf s) row0 (λ r. r then row1 then row2) refl
 
 pub make-diag-positive-spec : {M : Type 1} → statement M

@@ -4,7 +4,7 @@ use lib.IntN.{pos}
 use lib.Signed.{ltZ}
 use mir.Facts.{toZ-ofZ}
 use Rattle.common.specs.Array.{matrixOf}
-use Rattle.snf3x3.specs.Result.{when}
+use Rattle.snf3x3.specs.Result.{when, fitting}
 use Rattle.snf3x3.specs.Elementary.{elementaryFlipSignRow}
 use Rattle.snf3x3.specs.Columns.{multiply}
 use Rattle.snf3x3.specs.Stages.{onRows}
@@ -29,7 +29,7 @@ returns c =
     let t : ltZ (a .x) (pos 0) ≡ true = rw (toZ-ofZ (z .fits .x)) at (c .before .before .if1 .taken) in
     let l = c .before .elementary-flip-sign-row in
     c .on-rows .ensures
-    ∙ same-step (a .s .fits) x (onRows (multiply (matrixOf (l .result)))) (makePositive (a .i) (a .x)) (λ k. when (sym t k) (onRows (multiply (matrixOf (l .ensures k)))) x)
+    ∙ same-step (fitting (a .s .fits)) x (onRows (multiply (matrixOf (l .result)))) (makePositive (a .i) (a .x)) (λ k. when (sym t k) (onRows (multiply (matrixOf (l .ensures k)))) x)
 
 returns-2 : tie.Need-returns-2
 returns-2 c =
@@ -37,7 +37,7 @@ returns-2 c =
     let a = z .args in
     let x = threeOf (a .s) in
     let t : ltZ (a .x) (pos 0) ≡ false = rw (toZ-ofZ (z .fits .x)) at (c .if1 .left) in
-    kept (a .s .fits) x (makePositive (a .i) (a .x)) (λ k. when (t k) (onRows (multiply (matrixOf (elementaryFlipSignRow (a .i))))) x)
+    kept (fitting (a .s .fits)) x (makePositive (a .i) (a .x)) (λ k. when (t k) (onRows (multiply (matrixOf (elementaryFlipSignRow (a .i))))) x)
 
 pub make-positive-spec : {M : Type 1} → statement M
 make-positive-spec =

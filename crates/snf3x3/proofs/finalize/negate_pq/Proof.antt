@@ -5,7 +5,7 @@ use Rattle.common.specs.Matrix.{negate}
 use Rattle.common.specs.Array.{matrixOf, matrixAt}
 use Rattle.common.specs.IntegerMatrix.{negationFits}
 use Rattle.common.proofs.Tests.{yes, no}
-use Rattle.snf3x3.specs.Result.{provided}
+use Rattle.snf3x3.specs.Result.{provided, fitting}
 use Rattle.snf3x3.specs.StagesView.{threeOf}
 use Rattle.snf3x3.specs.Finalize.{negatePQ}
 use Rattle.snf3x3.proofs.Binding.{kept, refused}
@@ -36,7 +36,7 @@ returns c =
     let s = c .before .before .before .before .before .before .before .before .args .s in
     let x = threeOf s in
     c .overflowed .ensures
-    ∙ refused (s .fits) x negatePQ (λ k. provided (sym (no (p-test (c .before .before)) (c .before .if1 .taken)) k && negationFits (x .q)) (record { a = x .a; p = negate (x .p); q = negate (x .q) }))
+    ∙ refused (fitting (s .fits)) x negatePQ (λ k. provided (sym (no (p-test (c .before .before)) (c .before .if1 .taken)) k && negationFits (x .q)) (record { a = x .a; p = negate (x .p); q = negate (x .q) }))
 
 negation-fits-requires-2 : tie.Need-negation-fits-requires-2
 negation-fits-requires-2 c κs = search needs
@@ -51,7 +51,7 @@ returns-2 c =
     let q = c .before .before in
     let p = q .before in
     c .overflowed2 .ensures
-    ∙ refused (s .fits) x negatePQ
+    ∙ refused (fitting (s .fits)) x negatePQ
     (λ k. provided (sym (yes (p-test (p .before)) (p .if1 .left)) k && sym (no (q-test q) (c .before .if2 .taken)) k) (record { a = x .a; p = negate (x .p); q = negate (x .q) }))
 
 negate-i-requires : tie.Need-negate-i-requires
@@ -74,7 +74,7 @@ returns-3 c =
     let x = threeOf s in
     let np = ap (λ l. matrixAt l 0) (c .before .before .flat .ensures) ∙ ap matrixOf (c .before .before .before .negate-i .ensures) ∙ ap (λ m. negate (matrixOf m)) (p .before .before .before .nested .ensures) in
     let nq = ap (λ l. matrixAt l 0) (c .flat2 .ensures) ∙ ap matrixOf (c .before .negate-i2 .ensures) ∙ ap (λ m. negate (matrixOf m)) (p .before .before .nested2 .ensures) in
-    kept (s .fits) x negatePQ (λ k. provided (yes (p-test (p .before)) (p .if1 .left) k && yes (q-test (d .before)) (d .if2 .left) k) (record { a = x .a; p = sym np k; q = sym nq k }))
+    kept (fitting (s .fits)) x negatePQ (λ k. provided (yes (p-test (p .before)) (p .if1 .left) k && yes (q-test (d .before)) (d .if2 .left) k) (record { a = x .a; p = sym np k; q = sym nq k }))
 
 pub negate-pq-spec : {M : Type 1} → statement M
 negate-pq-spec =

@@ -2,7 +2,7 @@ use mathlib.Core.Path.{_≡_, sym, _∙_}
 use mathlib.Core.Bool.{true, false}
 use lib.Signed.{ltZ}
 use mir.Facts.{toZ-ofZ}
-use Rattle.snf3x3.specs.Result.{when}
+use Rattle.snf3x3.specs.Result.{when, fitting}
 use Rattle.snf3x3.specs.StagesView.{threeOf}
 use Rattle.snf3x3.specs.Finalize.{swapDiagElems, order}
 use Rattle.snf3x3.proofs.Binding.{kept, same-step}
@@ -19,7 +19,7 @@ returns c =
     let a = z .args in
     let x = threeOf (a .s) in
     let t : ltZ (a .y) (a .x) ≡ true = rw (toZ-ofZ (z .fits .y), toZ-ofZ (z .fits .x)) at (c .before .if1 .taken) in
-    c .swap-diag-elems .ensures ∙ same-step (a .s .fits) x (swapDiagElems (a .i) (a .j)) (order (a .i) (a .j) (a .x) (a .y)) (λ k. when (sym t k) (swapDiagElems (a .i) (a .j)) x)
+    c .swap-diag-elems .ensures ∙ same-step (fitting (a .s .fits)) x (swapDiagElems (a .i) (a .j)) (order (a .i) (a .j) (a .x) (a .y)) (λ k. when (sym t k) (swapDiagElems (a .i) (a .j)) x)
 
 returns-2 : tie.Need-returns-2
 returns-2 c =
@@ -27,7 +27,7 @@ returns-2 c =
     let a = z .args in
     let x = threeOf (a .s) in
     let t : ltZ (a .y) (a .x) ≡ false = rw (toZ-ofZ (z .fits .y), toZ-ofZ (z .fits .x)) at (c .if1 .left) in
-    kept (a .s .fits) x (order (a .i) (a .j) (a .x) (a .y)) (λ k. when (t k) (swapDiagElems (a .i) (a .j)) x)
+    kept (fitting (a .s .fits)) x (order (a .i) (a .j) (a .x) (a .y)) (λ k. when (t k) (swapDiagElems (a .i) (a .j)) x)
 
 pub order-spec : {M : Type 1} → statement M
 order-spec = tie.close (tie.spec swap-diag-elems-requires returns returns-2)

@@ -1,5 +1,6 @@
 use mathlib.Core.Path.{sym, _∙_}
 use Rattle.integer.proofs.Test.{holds}
+use Rattle.snf3x3.specs.Result.{fitting}
 use Rattle.snf3x3.specs.StagesView.{threeOf}
 use Rattle.snf3x3.specs.Finalize.{putInOrder}
 use Rattle.snf3x3.proofs.Binding.{kept}
@@ -15,7 +16,7 @@ returns : tie.Need-returns
 returns c =
     let v = c .before in
     let s = v .before .before .args .s in
-    kept (s .fits) (threeOf s) putInOrder (settled-kept (threeOf s) (holds (sym (v .settled .ensures) ∙ c .if1 .taken)))
+    kept (fitting (s .fits)) (threeOf s) putInOrder (settled-kept (threeOf s) (holds (sym (v .settled .ensures) ∙ c .if1 .taken)))
 
 order-steps-requires : tie.Need-order-steps-requires
 order-steps-requires c κs = search needs

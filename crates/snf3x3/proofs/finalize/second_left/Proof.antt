@@ -1,3 +1,4 @@
+use Rattle.snf3x3.specs.Result.{fitting}
 use Rattle.snf3x3.specs.Stages.{Outcome, second}
 use Rattle.snf3x3.specs.StagesView.{threeOf}
 use Rattle.snf3x3.proofs.Binding.{part-left}
@@ -12,7 +13,7 @@ returns : tie.Need-returns
 returns c =
     let s = c .before .before .args .s in
     let o = c .before .second .result in
-    part-left (λ (o : Outcome). o .left) second (s .fits) (o .left .fits) (threeOf s) (record { done = o .done; left = threeOf (o .left) }) (c .before .second .ensures)
+    part-left (λ (o : Outcome). o .left) second (fitting (s .fits)) (fitting (o .left .fits)) (threeOf s) (record { done = o .done; left = threeOf (o .left) }) (c .before .second .ensures)
 
 pub second-left-spec : {M : Type 1} → statement M
 second-left-spec = tie.close (tie.spec second-requires returns)

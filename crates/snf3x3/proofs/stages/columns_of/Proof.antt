@@ -1,6 +1,6 @@
 use mathlib.Core.Path.{ap}
 use Rattle.common.specs.Array.{matrixAt}
-use Rattle.snf3x3.specs.Result.{provided}
+use Rattle.snf3x3.specs.Result.{provided, fitting}
 use Rattle.snf3x3.specs.StagesView.{threeOf}
 use borrow.Author.Needs.{needs}
 use Rattle.snf3x3.proofs.stages.columns_of.Statement.{statement}
@@ -10,7 +10,7 @@ transposed-requires : tie.Need-transposed-requires
 transposed-requires c κs = search needs
 
 returns : tie.Need-returns
-returns c = let s = c .before .before .before .args .s in ap (λ l. provided (s .fits) (record { a = matrixAt l 0; p = threeOf s .q })) (c .transposed .ensures)
+returns c = let s = c .before .before .before .args .s in ap (λ l. provided (fitting (s .fits)) (record { a = matrixAt l 0; p = threeOf s .q })) (c .transposed .ensures)
 
 pub columns-of-spec : {M : Type 1} → statement M
 columns-of-spec = tie.close (tie.spec transposed-requires returns)

@@ -4,6 +4,7 @@ use lib.IntN.{pos}
 use lib.ListN.{getD}
 use Rattle.integer.specs.Checked.{isZero}
 use Rattle.integer.proofs.Fits.{held-is}
+use Rattle.snf3x3.specs.Result.{fitting}
 use Rattle.snf3x3.specs.Stages.{first}
 use Rattle.snf3x3.specs.StagesView.{threeOf}
 use Rattle.snf3x3.proofs.Binding.{kept}
@@ -38,7 +39,7 @@ returns c =
     let s = v .before .before .before .before .args .s in
     let y = two-zeros (v .both-zero .ensures ∙ (λ i. isZero (held-is (getD (s .a) 1 (pos 0)) (v .before .before .both-zero-arg .given) i) && isZero (held-is (getD (s .a) 2 (pos 0)) (v .before .both-zero-arg2 .given) i))) (w .before .before .before .if1 .taken) in
     let z = two-zeros (w .both-zero2 .ensures ∙ (λ i. isZero (held-is (getD (s .a) 3 (pos 0)) (w .before .before .both-zero-arg3 .given) i) && isZero (held-is (getD (s .a) 6 (pos 0)) (w .before .both-zero-arg4 .given) i))) (c .if2 .taken) in
-    kept (s .fits) (threeOf s) first (first-kept (threeOf s) (y .0) (y .1) (z .0) (z .1))
+    kept (fitting (s .fits)) (threeOf s) first (first-kept (threeOf s) (y .0) (y .1) (z .0) (z .1))
 
 first-steps-requires : tie.Need-first-steps-requires
 first-steps-requires c κs = search needs

@@ -6,7 +6,7 @@ use mir.Facts.{toZ-ofZ}
 use Rattle.integer.proofs.Test.{holds}
 use Rattle.common.specs.Array.{matrixOf}
 use Rattle.common.proofs.Tests.{yes, no}
-use Rattle.snf3x3.specs.Result.{Result, overflow, _then_, provided}
+use Rattle.snf3x3.specs.Result.{Result, overflow, _then_, provided, fitting}
 use Rattle.snf3x3.specs.Elementary.{belowFirst, negQuotientFits}
 use Rattle.snf3x3.specs.Columns.{multiply}
 use Rattle.snf3x3.specs.Stages.{Triple, Outcome, onRows, through, firstFinalize}
@@ -38,7 +38,7 @@ returns c =
     let f = c .before .before in
     let s = f .before in
     let a = s .args in
-    c .stopped .ensures ∙ refused (a .s .fits) (threeOf (a .s)) (firstFinalize (a .d) (a .y) (a .z))
+    c .stopped .ensures ∙ refused (fitting (a .s .fits)) (threeOf (a .s)) (firstFinalize (a .d) (a .y) (a .z))
     (λ k. by (threeOf (a .s)) (sym (no (y-test f) (c .before .if1 .taken)) k) (quotZ (negℤ (a .y)) (a .d)) (negQuotientFits (a .z) (a .d)) (quotZ (negℤ (a .z)) (a .d)))
 
 neg-quotient-fits-requires-2 : tie.Need-neg-quotient-fits-requires-2
@@ -53,7 +53,7 @@ returns-2 c =
     let f = g .before .before in
     let s = f .before in
     let a = s .args in
-    c .stopped2 .ensures ∙ refused (a .s .fits) (threeOf (a .s)) (firstFinalize (a .d) (a .y) (a .z))
+    c .stopped2 .ensures ∙ refused (fitting (a .s .fits)) (threeOf (a .s)) (firstFinalize (a .d) (a .y) (a .z))
     (λ k. by (threeOf (a .s)) (sym (yes (y-test f) (g .before .if1 .left)) k) (quotZ (negℤ (a .y)) (a .d)) (sym (no (z-test g) (c .before .if2 .taken)) k) (quotZ (negℤ (a .z)) (a .d)))
 
 neg-quotient-requires : tie.Need-neg-quotient-requires
@@ -83,8 +83,8 @@ returns-3 c =
     let ev = held-quotient (a .z) (a .d) (holds tz) (v .neg-quotient2 .ensures ∙ ap₂ (λ z d. quotZ (negℤ z) d) (toZ-ofZ (s .fits .z)) (toZ-ofZ (s .fits .d))) in
     let l = matrixOf (c .before .below-first .result) in
     let t = c .on-rows .result in
-    built (λ (t : Triple). record { done = true; left = t }) (t .fits) (threeOf t) ∙ ap (λ r. r then through) (c .on-rows .ensures) ∙ two-steps (tripleOf (a .s)) (onRows (multiply l)) through
-    ∙ same-step (a .s .fits) x (λ x. onRows (multiply l) x then through) (firstFinalize (a .d) (a .y) (a .z))
+    built (λ (t : Triple). record { done = true; left = t }) (fitting (t .fits)) (threeOf t) ∙ ap (λ r. r then through) (c .on-rows .ensures) ∙ two-steps (tripleOf (a .s)) (onRows (multiply l)) through
+    ∙ same-step (fitting (a .s .fits)) x (λ x. onRows (multiply l) x then through) (firstFinalize (a .d) (a .y) (a .z))
     (ap (λ m. onRows (multiply (matrixOf m)) x then through) (c .before .below-first .ensures ∙ ap₂ belowFirst eu ev) ∙ (λ k. by x (sym ty k) (quotZ (negℤ (a .y)) (a .d)) (sym tz k) (quotZ (negℤ (a .z)) (a .d))))
 
 pub first-finalize-spec : {M : Type 1} → statement M

@@ -1,5 +1,5 @@
 use mathlib.Core.Path.{_∙_, ap}
-use Rattle.snf3x3.specs.Result.{_then_}
+use Rattle.snf3x3.specs.Result.{_then_, fitting}
 use Rattle.snf3x3.specs.Columns.{firstColumn}
 use Rattle.snf3x3.specs.ColumnsView.{matricesOf}
 use Rattle.snf3x3.specs.Stages.{rowsOf, columnsOf, withRows, withColumns, onRows, onColumns, oneLoop}
@@ -35,8 +35,8 @@ returns c =
     let u = t .before .first-column .result in
     let v = c .before .first-column2 .result in
     let w = t .with-rows .result in
-    let rows = t .with-rows .ensures ∙ part-step rowsOf withRows firstColumn (s .fits) (u .fits) (threeOf s) (matricesOf u) (t .before .first-column .ensures ∙ ap (λ r. r then firstColumn) (t .before .before .rows-of .ensures)) in
-    c .with-columns .ensures ∙ part-step columnsOf withColumns firstColumn (w .fits) (v .fits) (threeOf w) (matricesOf v) (c .before .first-column2 .ensures ∙ ap (λ r. r then firstColumn) (c .before .before .columns-of .ensures))
+    let rows = t .with-rows .ensures ∙ part-step rowsOf withRows firstColumn (fitting (s .fits)) (fitting (u .fits)) (threeOf s) (matricesOf u) (t .before .first-column .ensures ∙ ap (λ r. r then firstColumn) (t .before .before .rows-of .ensures)) in
+    c .with-columns .ensures ∙ part-step columnsOf withColumns firstColumn (fitting (w .fits)) (fitting (v .fits)) (threeOf w) (matricesOf v) (c .before .first-column2 .ensures ∙ ap (λ r. r then firstColumn) (c .before .before .columns-of .ensures))
     ∙ ap (λ r. r then onColumns firstColumn) rows ∙ two-steps (tripleOf s) (onRows firstColumn) (onColumns firstColumn)
 
 pub first-one-loop-spec : {M : Type 1} → statement M

@@ -2,7 +2,7 @@ use mathlib.Core.Path.{_∙_, ap}
 use lib.IntN.{pos}
 use lib.ListN.{getD}
 use Rattle.integer.proofs.Fits.{held, held-is}
-use Rattle.snf3x3.specs.Result.{_then_}
+use Rattle.snf3x3.specs.Result.{_then_, fitting}
 use Rattle.snf3x3.specs.Columns.{firstColumn}
 use Rattle.snf3x3.specs.Stages.{oneLoop, firstTests, firstEnd, first}
 use Rattle.snf3x3.specs.StagesView.{threeOf, tripleOf}
@@ -33,7 +33,7 @@ returns c =
     let s = l .before .args .s in
     let t = l .first-one-loop .result in
     let x = threeOf t in
-    c .first-tests .ensures ∙ same-step (t .fits) x (firstTests (held (getD (t .a) 0 (pos 0))) (held (getD (t .a) 3 (pos 0))) (held (getD (t .a) 6 (pos 0)))) firstEnd (λ i. firstTests (held-is (getD (t .a) 0 (pos 0)) (c .before .before .before .first-tests-arg .given) i) (held-is (getD (t .a) 3 (pos 0)) (c .before .before .first-tests-arg2 .given) i) (held-is (getD (t .a) 6 (pos 0)) (c .before .first-tests-arg3 .given) i) x)
+    c .first-tests .ensures ∙ same-step (fitting (t .fits)) x (firstTests (held (getD (t .a) 0 (pos 0))) (held (getD (t .a) 3 (pos 0))) (held (getD (t .a) 6 (pos 0)))) firstEnd (λ i. firstTests (held-is (getD (t .a) 0 (pos 0)) (c .before .before .before .first-tests-arg .given) i) (held-is (getD (t .a) 3 (pos 0)) (c .before .before .first-tests-arg2 .given) i) (held-is (getD (t .a) 6 (pos 0)) (c .before .first-tests-arg3 .given) i) x)
     ∙ ap (λ r. r then firstEnd) (l .first-one-loop .ensures) ∙ two-steps (tripleOf s) (oneLoop firstColumn) firstEnd
 
 pub first-steps-spec : {M : Type 1} → statement M

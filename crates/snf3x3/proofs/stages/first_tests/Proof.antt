@@ -7,7 +7,7 @@ use Rattle.integer.specs.Checked.{isZero, pick}
 use Rattle.integer.proofs.Test.{holds}
 use Rattle.integer.proofs.Fits.{held}
 use Rattle.common.proofs.Tests.{yes, no}
-use Rattle.snf3x3.specs.Result.{Result, _then_, provided}
+use Rattle.snf3x3.specs.Result.{Result, _then_, provided, fitting}
 use Rattle.snf3x3.specs.Elementary.{quotientFits}
 use Rattle.snf3x3.specs.Stages.{Triple, Outcome, through, again, firstFinalize, firstTests}
 use Rattle.snf3x3.specs.StagesView.{threeOf}
@@ -46,7 +46,7 @@ returns : tie.Need-returns
 returns c =
     let s = c .before .before in
     let a = s .args in
-    kept (a .s .fits) (threeOf (a .s)) (firstTests (a .d) (a .y) (a .z))
+    kept (fitting (a .s .fits)) (threeOf (a .s)) (firstTests (a .d) (a .y) (a .z))
     (λ k. by (a .d) (a .y) (a .z) (threeOf (a .s)) ((sym (zeros (c .before)) ∙ c .if1 .taken) k) (quotientFits (a .y) (a .d)) (isZero (remZ (a .y) (a .d))) (quotientFits (a .z) (a .d)) (isZero (remZ (a .z) (a .d))))
 
 quotient-fits-requires : tie.Need-quotient-fits-requires
@@ -60,7 +60,7 @@ returns-2 c =
     let y = c .before .before in
     let o = y .before .before in
     let a = o .before .args in
-    c .stopped .ensures ∙ refused (a .s .fits) (threeOf (a .s)) (firstTests (a .d) (a .y) (a .z))
+    c .stopped .ensures ∙ refused (fitting (a .s .fits)) (threeOf (a .s)) (firstTests (a .d) (a .y) (a .z))
     (λ k. by (a .d) (a .y) (a .z) (threeOf (a .s)) (left o (y .before .if1 .left) k) (sym (no (y-fits y) (c .before .if2 .taken)) k) (isZero (remZ (a .y) (a .d))) (quotientFits (a .z) (a .d)) (isZero (remZ (a .z) (a .d))))
 
 is-multiple-requires : tie.Need-is-multiple-requires
@@ -72,7 +72,7 @@ returns-3 c =
     let y = m .before .before in
     let o = y .before .before in
     let a = o .before .args in
-    kept (a .s .fits) (threeOf (a .s)) (firstTests (a .d) (a .y) (a .z))
+    kept (fitting (a .s .fits)) (threeOf (a .s)) (firstTests (a .d) (a .y) (a .z))
     (λ k. by (a .d) (a .y) (a .z) (threeOf (a .s)) (sym (left o (y .before .if1 .left)) k) (yes (y-fits y) (m .before .if2 .left) k) (no (y-multiple m) (c .if3 .taken) k) (quotientFits (a .z) (a .d)) (isZero (remZ (a .z) (a .d))))
 
 quotient-fits-requires-2 : tie.Need-quotient-fits-requires-2
@@ -88,7 +88,7 @@ returns-4 c =
     let y = m .before .before in
     let o = y .before .before in
     let a = o .before .args in
-    c .stopped2 .ensures ∙ refused (a .s .fits) (threeOf (a .s)) (firstTests (a .d) (a .y) (a .z))
+    c .stopped2 .ensures ∙ refused (fitting (a .s .fits)) (threeOf (a .s)) (firstTests (a .d) (a .y) (a .z))
     (λ k. by (a .d) (a .y) (a .z) (threeOf (a .s)) (left o (y .before .if1 .left) k) (sym (yes (y-fits y) (m .before .if2 .left)) k) (sym (yes (y-multiple m) (z .before .if3 .left)) k) (sym (no (z-fits z) (c .before .if4 .taken)) k) (isZero (remZ (a .z) (a .d))))
 
 is-multiple-requires-2 : tie.Need-is-multiple-requires-2
@@ -102,7 +102,7 @@ returns-5 c =
     let y = m .before .before in
     let o = y .before .before in
     let a = o .before .args in
-    kept (a .s .fits) (threeOf (a .s)) (firstTests (a .d) (a .y) (a .z))
+    kept (fitting (a .s .fits)) (threeOf (a .s)) (firstTests (a .d) (a .y) (a .z))
     (λ k. by (a .d) (a .y) (a .z) (threeOf (a .s)) (sym (left o (y .before .if1 .left)) k) (yes (y-fits y) (m .before .if2 .left) k) (yes (y-multiple m) (z .before .if3 .left) k) (yes (z-fits z) (n .before .if4 .left) k) (no (z-multiple n) (c .if5 .taken) k))
 
 first-finalize-requires : tie.Need-first-finalize-requires
@@ -119,7 +119,7 @@ returns-6 c =
     let a = s .args in
     let x = threeOf (a .s) in
     c .first-finalize .ensures
-    ∙ same-step (a .s .fits) x (firstFinalize (held (a .d)) (held (a .y)) (held (a .z))) (firstTests (a .d) (a .y) (a .z))
+    ∙ same-step (fitting (a .s .fits)) x (firstFinalize (held (a .d)) (held (a .y)) (held (a .z))) (firstTests (a .d) (a .y) (a .z))
     ((λ k. firstFinalize (toZ-ofZ (s .fits .d) k) (toZ-ofZ (s .fits .y) k) (toZ-ofZ (s .fits .z) k) x)
     ∙ (λ k. by (a .d) (a .y) (a .z) x (left o (y .before .if1 .left) k) (sym (yes (y-fits y) (m .before .if2 .left)) k) (sym (yes (y-multiple m) (z .before .if3 .left)) k) (sym (yes (z-fits z) (n .before .if4 .left)) k) (sym (yes (z-multiple n) (c .before .if5 .left)) k)))
 

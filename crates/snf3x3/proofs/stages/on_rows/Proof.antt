@@ -1,6 +1,6 @@
 use mathlib.Core.Path.{_∙_, ap}
 use Rattle.common.specs.Array.{matrixOf}
-use Rattle.snf3x3.specs.Result.{_then_}
+use Rattle.snf3x3.specs.Result.{_then_, fitting}
 use Rattle.snf3x3.specs.Columns.{multiply}
 use Rattle.snf3x3.specs.ColumnsView.{matricesOf}
 use Rattle.snf3x3.specs.Stages.{rowsOf, withRows}
@@ -24,7 +24,7 @@ returns c =
     let a = c .before .before .before .args in
     let u = c .before .multiply .result in
     let f = multiply (matrixOf (a .l)) in
-    c .with-rows .ensures ∙ part-step rowsOf withRows f (a .s .fits) (u .fits) (threeOf (a .s)) (matricesOf u) (c .before .multiply .ensures ∙ ap (λ r. r then f) (c .before .before .rows-of .ensures))
+    c .with-rows .ensures ∙ part-step rowsOf withRows f (fitting (a .s .fits)) (fitting (u .fits)) (threeOf (a .s)) (matricesOf u) (c .before .multiply .ensures ∙ ap (λ r. r then f) (c .before .before .rows-of .ensures))
 
 pub on-rows-spec : {M : Type 1} → statement M
 on-rows-spec = tie.close (tie.spec rows-of-requires multiply-requires with-rows-requires returns)

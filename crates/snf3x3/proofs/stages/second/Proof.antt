@@ -4,6 +4,7 @@ use lib.IntN.{pos}
 use lib.ListN.{getD}
 use Rattle.integer.specs.Checked.{isZero}
 use Rattle.integer.proofs.Fits.{held-is}
+use Rattle.snf3x3.specs.Result.{fitting}
 use Rattle.snf3x3.specs.Stages.{second}
 use Rattle.snf3x3.specs.StagesView.{threeOf}
 use Rattle.snf3x3.proofs.Binding.{kept}
@@ -27,7 +28,7 @@ returns c =
     let v = c .before in
     let s = v .before .before .before .before .args .s in
     let z = two-zeros (v .both-zero .ensures ∙ (λ i. isZero (held-is (getD (s .a) 5 (pos 0)) (v .before .before .both-zero-arg .given) i) && isZero (held-is (getD (s .a) 7 (pos 0)) (v .before .both-zero-arg2 .given) i))) (c .if1 .taken) in
-    kept (s .fits) (threeOf s) second (second-kept (threeOf s) (z .0) (z .1))
+    kept (fitting (s .fits)) (threeOf s) second (second-kept (threeOf s) (z .0) (z .1))
 
 second-steps-requires : tie.Need-second-steps-requires
 second-steps-requires c κs = search needs

@@ -7,7 +7,7 @@ use mir.Facts.{toZ-ofZ}
 use Rattle.integer.proofs.Test.{holds}
 use Rattle.common.specs.Array.{matrixOf}
 use Rattle.common.proofs.Tests.{yes, no}
-use Rattle.snf3x3.specs.Result.{Result, _then_, provided}
+use Rattle.snf3x3.specs.Result.{Result, _then_, provided, fitting}
 use Rattle.snf3x3.specs.Elementary.{belowSecond, negQuotientFits}
 use Rattle.snf3x3.specs.Columns.{multiply}
 use Rattle.snf3x3.specs.Stages.{Triple, Outcome, onRows, through, secondFinalize}
@@ -36,7 +36,7 @@ returns c =
     let f = c .before .before in
     let s = f .before in
     let a = s .args in
-    c .stopped .ensures ∙ refused (a .s .fits) (threeOf (a .s)) (secondFinalize (a .d) (a .z))
+    c .stopped .ensures ∙ refused (fitting (a .s .fits)) (threeOf (a .s)) (secondFinalize (a .d) (a .z))
     (λ k. by (threeOf (a .s)) (sym (no (test f) (c .before .if1 .taken)) k) (quotZ (negℤ (a .z)) (a .d)))
 
 neg-quotient-requires : tie.Need-neg-quotient-requires
@@ -59,8 +59,8 @@ returns-2 c =
     let e = held-quotient (a .z) (a .d) (holds t) (v .neg-quotient .ensures ∙ ap₂ (λ z d. quotZ (negℤ z) d) (toZ-ofZ (s .fits .z)) (toZ-ofZ (s .fits .d))) in
     let l = matrixOf (c .before .below-second .result) in
     let r = c .on-rows .result in
-    built (λ (t : Triple). record { done = true; left = t }) (r .fits) (threeOf r) ∙ ap (λ r. r then through) (c .on-rows .ensures) ∙ two-steps (tripleOf (a .s)) (onRows (multiply l)) through
-    ∙ same-step (a .s .fits) x (λ x. onRows (multiply l) x then through) (secondFinalize (a .d) (a .z))
+    built (λ (t : Triple). record { done = true; left = t }) (fitting (r .fits)) (threeOf r) ∙ ap (λ r. r then through) (c .on-rows .ensures) ∙ two-steps (tripleOf (a .s)) (onRows (multiply l)) through
+    ∙ same-step (fitting (a .s .fits)) x (λ x. onRows (multiply l) x then through) (secondFinalize (a .d) (a .z))
     (ap (λ m. onRows (multiply (matrixOf m)) x then through) (c .before .below-second .ensures ∙ ap belowSecond e) ∙ (λ k. by x (sym t k) (quotZ (negℤ (a .z)) (a .d))))
 
 pub second-finalize-spec : {M : Type 1} → statement M

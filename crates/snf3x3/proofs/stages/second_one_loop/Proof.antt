@@ -1,5 +1,5 @@
 use mathlib.Core.Path.{_∙_, ap}
-use Rattle.snf3x3.specs.Result.{_then_}
+use Rattle.snf3x3.specs.Result.{_then_, fitting}
 use Rattle.snf3x3.specs.Columns.{secondColumn}
 use Rattle.snf3x3.specs.ColumnsView.{matricesOf}
 use Rattle.snf3x3.specs.Stages.{rowsOf, columnsOf, withRows, withColumns, onRows, onColumns, oneLoop}
@@ -35,8 +35,8 @@ returns c =
     let u = t .before .second-column .result in
     let v = c .before .second-column2 .result in
     let w = t .with-rows .result in
-    let rows = t .with-rows .ensures ∙ part-step rowsOf withRows secondColumn (s .fits) (u .fits) (threeOf s) (matricesOf u) (t .before .second-column .ensures ∙ ap (λ r. r then secondColumn) (t .before .before .rows-of .ensures)) in
-    c .with-columns .ensures ∙ part-step columnsOf withColumns secondColumn (w .fits) (v .fits) (threeOf w) (matricesOf v) (c .before .second-column2 .ensures ∙ ap (λ r. r then secondColumn) (c .before .before .columns-of .ensures))
+    let rows = t .with-rows .ensures ∙ part-step rowsOf withRows secondColumn (fitting (s .fits)) (fitting (u .fits)) (threeOf s) (matricesOf u) (t .before .second-column .ensures ∙ ap (λ r. r then secondColumn) (t .before .before .rows-of .ensures)) in
+    c .with-columns .ensures ∙ part-step columnsOf withColumns secondColumn (fitting (w .fits)) (fitting (v .fits)) (threeOf w) (matricesOf v) (c .before .second-column2 .ensures ∙ ap (λ r. r then secondColumn) (c .before .before .columns-of .ensures))
     ∙ ap (λ r. r then onColumns secondColumn) rows ∙ two-steps (tripleOf s) (onRows secondColumn) (onColumns secondColumn)
 
 pub second-one-loop-spec : {M : Type 1} → statement M

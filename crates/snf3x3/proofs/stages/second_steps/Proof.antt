@@ -2,7 +2,7 @@ use mathlib.Core.Path.{_∙_, ap}
 use lib.IntN.{pos}
 use lib.ListN.{getD}
 use Rattle.integer.proofs.Fits.{held, held-is}
-use Rattle.snf3x3.specs.Result.{_then_}
+use Rattle.snf3x3.specs.Result.{_then_, fitting}
 use Rattle.snf3x3.specs.Columns.{secondColumn}
 use Rattle.snf3x3.specs.Stages.{oneLoop, secondTests, secondEnd, second}
 use Rattle.snf3x3.specs.StagesView.{threeOf, tripleOf}
@@ -30,7 +30,7 @@ returns c =
     let s = l .before .args .s in
     let t = l .second-one-loop .result in
     let x = threeOf t in
-    c .second-tests .ensures ∙ same-step (t .fits) x (secondTests (held (getD (t .a) 4 (pos 0))) (held (getD (t .a) 7 (pos 0)))) secondEnd (λ i. secondTests (held-is (getD (t .a) 4 (pos 0)) (c .before .before .second-tests-arg .given) i) (held-is (getD (t .a) 7 (pos 0)) (c .before .second-tests-arg2 .given) i) x)
+    c .second-tests .ensures ∙ same-step (fitting (t .fits)) x (secondTests (held (getD (t .a) 4 (pos 0))) (held (getD (t .a) 7 (pos 0)))) secondEnd (λ i. secondTests (held-is (getD (t .a) 4 (pos 0)) (c .before .before .second-tests-arg .given) i) (held-is (getD (t .a) 7 (pos 0)) (c .before .second-tests-arg2 .given) i) x)
     ∙ ap (λ r. r then secondEnd) (l .second-one-loop .ensures) ∙ two-steps (tripleOf s) (oneLoop secondColumn) secondEnd
 
 pub second-steps-spec : {M : Type 1} → statement M

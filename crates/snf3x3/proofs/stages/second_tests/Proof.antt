@@ -7,7 +7,7 @@ use Rattle.integer.specs.Checked.{isZero, pick}
 use Rattle.integer.proofs.Test.{holds}
 use Rattle.integer.proofs.Fits.{held}
 use Rattle.common.proofs.Tests.{yes, no}
-use Rattle.snf3x3.specs.Result.{Result, _then_, provided}
+use Rattle.snf3x3.specs.Result.{Result, _then_, provided, fitting}
 use Rattle.snf3x3.specs.Elementary.{quotientFits}
 use Rattle.snf3x3.specs.Stages.{Triple, Outcome, through, again, secondFinalize, secondTests}
 use Rattle.snf3x3.specs.StagesView.{threeOf}
@@ -31,7 +31,7 @@ returns : tie.Need-returns
 returns c =
     let s = c .before in
     let a = s .args in
-    kept (a .s .fits) (threeOf (a .s)) (secondTests (a .d) (a .z))
+    kept (fitting (a .s .fits)) (threeOf (a .s)) (secondTests (a .d) (a .z))
     (λ k. by (a .d) (a .z) (threeOf (a .s)) (is-zero (a .z) (s .fits .z) (c .if1 .taken) k) (quotientFits (a .z) (a .d)) (isZero (remZ (a .z) (a .d))))
 
 quotient-fits-requires : tie.Need-quotient-fits-requires
@@ -44,7 +44,7 @@ returns-2 : tie.Need-returns-2
 returns-2 c =
     let z = c .before .before in
     let a = z .before .before .args in
-    c .stopped .ensures ∙ refused (a .s .fits) (threeOf (a .s)) (secondTests (a .d) (a .z))
+    c .stopped .ensures ∙ refused (fitting (a .s .fits)) (threeOf (a .s)) (secondTests (a .d) (a .z))
     (λ k. by (a .d) (a .z) (threeOf (a .s)) (sym (not-zero (a .z) (z .before .if1 .left)) k) (sym (no (fits z) (c .before .if2 .taken)) k) (isZero (remZ (a .z) (a .d))))
 
 is-multiple-requires : tie.Need-is-multiple-requires
@@ -55,7 +55,7 @@ returns-3 c =
     let m = c .before in
     let z = m .before .before in
     let a = z .before .before .args in
-    kept (a .s .fits) (threeOf (a .s)) (secondTests (a .d) (a .z))
+    kept (fitting (a .s .fits)) (threeOf (a .s)) (secondTests (a .d) (a .z))
     (λ k. by (a .d) (a .z) (threeOf (a .s)) (not-zero (a .z) (z .before .if1 .left) k) (yes (fits z) (m .before .if2 .left) k) (no (multiple m) (c .if3 .taken) k))
 
 second-finalize-requires : tie.Need-second-finalize-requires
@@ -69,7 +69,7 @@ returns-4 c =
     let a = s .args in
     let x = threeOf (a .s) in
     c .second-finalize .ensures
-    ∙ same-step (a .s .fits) x (secondFinalize (held (a .d)) (held (a .z))) (secondTests (a .d) (a .z))
+    ∙ same-step (fitting (a .s .fits)) x (secondFinalize (held (a .d)) (held (a .z))) (secondTests (a .d) (a .z))
     ((λ k. secondFinalize (toZ-ofZ (s .fits .d) k) (toZ-ofZ (s .fits .z) k) x)
     ∙ (λ k. by (a .d) (a .z) x (sym (not-zero (a .z) (z .before .if1 .left)) k) (sym (yes (fits z) (m .before .if2 .left)) k) (sym (yes (multiple m) (c .before .if3 .left)) k)))
 

@@ -1,0 +1,12 @@
+pub mod Lattice
+pub mod Search
+pub mod Table
+pub mod BzGridAddresses
+pub mod SearchView
+pub mod Writing
+pub mod Walked
+pub mod Access
+pub mod Reading
+pub mod ReadingView
+pub mod Rotate
+pub mod Neighbours

@@ -76,6 +76,36 @@ int64_t zone_ir_grid_map(const int64_t *rotations, size_t rotations_len, const i
 /* The address of each point in index order: out[3 * N]. */
 int64_t zone_all_grid_addresses(const int64_t *d, size_t d_len, int64_t *out, size_t out_len);
 
+/* The images of the points in the first Brillouin zone, with Q in q[9] and the reciprocal lattice in
+ * lattice[9], both by rows, and ps[3]. Of M images addresses[3 * M], the point of each in grg[M], and
+ * in map the places of the images: of type 1 from the doubled mesh and then from the grid, 9 * N + 1
+ * places, of type 2 from the grid, N + 1. told[3] are the lengths of addresses, map and grg; outputs
+ * may be longer and hold -1 past them. 9: the type is neither 1 nor 2; 10: the determinant of Q is not
+ * 1 or -1; 11: that of the lattice is 0; 12: the search at a point leaves -16..16 on an axis or finds
+ * no image; 13, also for an output that is too short, and 3 as above. */
+int64_t zone_bz_grid_addresses(const int64_t *d, size_t d_len, const int64_t *q, size_t q_len,
+                               const int64_t *ps, size_t ps_len, const double *lattice,
+                               size_t lattice_len, int64_t bz_grid_type, int64_t *addresses,
+                               size_t addresses_len, int64_t *map, size_t map_len, int64_t *grg,
+                               size_t grg_len, int64_t *told, size_t told_len);
+
+/* The image that rotation[9] carries image `index` of such a table to: told[2] is its place, and 0, or
+ * 1 where no image has that address and the place is what the map holds at the point. 14: an index
+ * leaves its slice, a place in the map 0..2^40 or an address read plus or minus 10^13; 9, 13 and 3 as
+ * above. */
+int64_t zone_rotate_bz_grid_index(int64_t index, const int64_t *rotation, size_t rotation_len,
+                                  const int64_t *addresses, size_t addresses_len, const int64_t *map,
+                                  size_t map_len, const int64_t *d, size_t d_len, const int64_t *ps,
+                                  size_t ps_len, int64_t bz_grid_type, int64_t *told, size_t told_len);
+
+/* The images at the offsets from each of the points, which are places in such a table: offsets has 3
+ * numbers each, out a place for each pair, those of the first point first. 9, 13, 3 and 14 as above;
+ * without pairs any type is taken. */
+int64_t zone_neighboring_grid_points(const int64_t *points, size_t points_len, const int64_t *offsets,
+                                     size_t offsets_len, const int64_t *addresses, size_t addresses_len,
+                                     const int64_t *map, size_t map_len, const int64_t *d, size_t d_len,
+                                     int64_t bz_grid_type, int64_t *out, size_t out_len);
+
 #ifdef __cplusplus
 }
 #endif

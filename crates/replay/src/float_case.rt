@@ -21,7 +21,7 @@ pub const IS_FINITE: usize = 15;
 
 pub const TO_F64: usize = 16;
 
-enum Read {
+pub enum Read {
     Float(f64),
     Malformed,
 }
@@ -37,7 +37,7 @@ fn of_bits(bits: u64) -> f64 {
     f64::from_bits(bits)
 }
 
-fn float_of(high: i64, low: i64) -> Read {
+pub fn float_of(high: i64, low: i64) -> Read {
     let h = integer::unsigned_abs(high);
     let l = integer::unsigned_abs(low);
     if h <= 0xffff_ffff {

@@ -1,5 +1,6 @@
 // The functions that have vectors, and one case of one.
 use crate::float_case;
+use crate::image_case;
 use crate::matrix_case;
 use crate::slice_case;
 use crate::text;
@@ -75,6 +76,9 @@ fn judge_checked(function: usize, n: [i64; 5], count: usize) -> Verdict {
 }
 
 pub fn judge(function: usize, line: &[u8]) -> Verdict {
+    if function > matrix_case::SAME_GRID {
+        return image_case::judge_images(function, line);
+    }
     if function > slice_case::TRANSFORM_ROTATIONS {
         return matrix_case::judge_matrices(function, line);
     }

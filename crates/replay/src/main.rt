@@ -2,6 +2,7 @@
 // export, and prints how many cases there were and how many differ.
 mod float_case;
 mod function;
+mod image_case;
 mod matrix_case;
 mod slice_case;
 mod text;
@@ -110,4 +111,10 @@ fn main() {
     replay_file(matrix_case::SNF3X3, b"snf3x3");
     replay_file(matrix_case::SAME_GRID, b"same_grid");
     replay_file(slice_case::TRANSFORM_ROTATIONS, b"transform_rotations");
+    replay_file(image_case::BZ_GRID_ADDRESSES, b"bz_grid_addresses");
+    replay_file(image_case::ROTATE_BZ_GRID_INDEX, b"rotate_bz_grid_index");
+    replay_file(
+        image_case::NEIGHBORING_GRID_POINTS,
+        b"neighboring_grid_points",
+    );
 }

@@ -16,7 +16,7 @@ pub const ALL_GRID_ADDRESSES: usize = 20;
 
 pub const TRANSFORM_ROTATIONS: usize = 21;
 
-const LISTED: usize = 432;
+pub const LISTED: usize = 432;
 
 // The place after the slice that starts at place `at`; the end of n where there is none.
 pub fn after(n: &[i64], at: usize) -> usize
@@ -31,15 +31,14 @@ pub fn after(n: &[i64], at: usize) -> usize
     n.len()
 }
 
-// The length of the output that stands after the answer at place `at`, but at most `most`.
-fn places(n: &[i64], at: usize, most: usize) -> usize
-    requires { ⌜ at ≤ length (now n) ⌝ }
+// The length of the output that stands at place `at`, but at most `most`.
+pub fn places(n: &[i64], at: usize, most: usize) -> usize
     ensures { λ r. ⌜ r ≤ most ⌝ }
 {
-    if n.len() - at < 2 {
+    if at >= n.len() {
         return 0;
     }
-    let wanted = integer::unsigned_abs(n[at + 1]);
+    let wanted = integer::unsigned_abs(n[at]);
     if wanted <= most as u64 {
         return wanted as usize;
     }
@@ -79,7 +78,7 @@ pub fn same(a: &[i64], b: &[i64]) -> bool {
 }
 
 // Whether an output is what the line has: its places, or their sum.
-fn is_written(out: &[i64], expected: &[i64]) -> bool {
+pub fn is_written(out: &[i64], expected: &[i64]) -> bool {
     if out.len() <= LISTED {
         return same(out, expected);
     }
@@ -90,7 +89,7 @@ fn is_written(out: &[i64], expected: &[i64]) -> bool {
 }
 
 // The answer, the output and what was told, against the line from place `at` on.
-fn verdict(answer: i64, out: &[i64], told: &[i64], n: &[i64], at: usize) -> Verdict
+pub fn verdict(answer: i64, out: &[i64], told: &[i64], n: &[i64], at: usize) -> Verdict
     requires { ⌜ at ≤ length (now n) ⌝ }
 {
     let rest = n.len() - at;
@@ -231,7 +230,7 @@ fn judge_numbers(function: usize, n: &[i64], out: &mut [i64], told: &mut [i64]) 
     if at > n.len() {
         return Verdict::Unread;
     }
-    let end = places(n, at, out.len());
+    let end = places(n, at + 1, out.len());
     call(function, n, &mut out[..end], told)
 }
 

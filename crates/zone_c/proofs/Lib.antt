@@ -5,3 +5,4 @@ pub mod Grids
 pub mod GroupAnswers
 pub mod Diagonals
 pub mod Transforms
+pub mod ImageTables

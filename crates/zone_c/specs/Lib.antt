@@ -3,3 +3,4 @@ pub mod Grids
 pub mod PointGroupTold
 pub mod Diagonals
 pub mod Transforms
+pub mod Images

@@ -2,6 +2,7 @@
 mod diagonal;
 mod floats;
 mod grid;
+mod images;
 mod recip;
 mod transform;
 
@@ -19,6 +20,9 @@ pub use floats::zone_to_f64;
 pub use floats::zone_to_i64;
 pub use grid::zone_all_grid_addresses;
 pub use grid::zone_ir_grid_map;
+pub use images::zone_bz_grid_addresses;
+pub use images::zone_neighboring_grid_points;
+pub use images::zone_rotate_bz_grid_index;
 use integer::Checked;
 pub use recip::zone_reciprocal_point_group;
 pub use recip::zone_reciprocal_rotations;

@@ -10,6 +10,9 @@ answer-at-requires c κs = search needs
 returns : tie.Need-returns
 returns c = search needs
 
+add-places : tie.Need-add-places
+add-places c = search needs
+
 places-requires : tie.Need-places-requires
 places-requires c κs = search needs
 
@@ -37,6 +40,7 @@ judge-numbers-spec =
     (tie.spec
     answer-at-requires
     returns
+    add-places
     places-requires
     slice-relend-prefix-call
     slice-aggregate-call

@@ -25,7 +25,7 @@ struct Version {
     edits: &'static [[&'static str; 2]],
 }
 
-const VERSIONS: [Version; 2] = [
+const VERSIONS: [Version; 4] = [
     Version {
         name: "snf3x3_counted",
         module: "snf3x3",
@@ -46,6 +46,51 @@ const VERSIONS: [Version; 2] = [
         edits: &[[
             "use crate::common::{det_i, matmul_i, ",
             "use crate::measured::{det_i, matmul_i};\nuse crate::common::{",
+        ]],
+    },
+    Version {
+        name: "bzgrid_watched",
+        module: "bzgrid",
+        edits: &[
+            [
+                "use rayon::prelude::*;",
+                "use rayon::prelude::*;\n\nuse crate::watched::{self, Watched};",
+            ],
+            [
+                "let (lo, hi) = self.search_range(s0);",
+                "let (lo, hi) = self.search_range(s0);\n        watched::range(lo, hi);",
+            ],
+            [
+                "self.for_each_image(gr_index, |_| count += 1);",
+                "self.for_each_image(gr_index, |_| count += 1);\n        watched::images(count);",
+            ],
+            [
+                "bz_grid_addresses: &[Vec3I],",
+                "bz_grid_addresses: Watched<'_, Vec3I>,",
+            ],
+            ["bz_map: &[i64],", "bz_map: Watched<'_, i64>,"],
+            ["addresses: &'a [Vec3I],", "addresses: Watched<'a, Vec3I>,"],
+            ["gp_map: &'a [i64],", "gp_map: Watched<'a, i64>,"],
+            [
+                "bz_grid_type: i64,\n) -> Result<i64, RotateBzGridError> {",
+                "bz_grid_type: i64,\n    fallback: &mut bool,\n) -> Result<i64, RotateBzGridError> {",
+            ],
+            [
+                "// Ill-defined bzgrid fallback.",
+                "// Ill-defined bzgrid fallback.\n        *fallback = true;",
+            ],
+            [
+                "        }\n        Ok(bz_map[gp as usize])",
+                "        }\n        *fallback = true;\n        Ok(bz_map[gp as usize])",
+            ],
+        ],
+    },
+    Version {
+        name: "bzgrid_reordered",
+        module: "bzgrid",
+        edits: &[[
+            "vc[0] * vc[0] + vc[1] * vc[1] + vc[2] * vc[2]",
+            "vc[0] * vc[0] + (vc[1] * vc[1] + vc[2] * vc[2])",
         ]],
     },
 ];

@@ -6,9 +6,6 @@ use std::time::{Duration, Instant};
 use crate::function::{Function, Input, Outputs};
 use crate::random::Random;
 
-/// Few enough for the inputs of the small functions to stay in the cache.
-const INPUTS: usize = 64;
-
 /// Repetitions, of which the best counts, and what each takes at least.
 const REPETITIONS: usize = 7;
 const REPETITION: Duration = Duration::from_millis(10);
@@ -27,13 +24,13 @@ pub fn run<F: Function>() -> Times {
 /// The sides take turns, so that a disturbance meets both.
 pub fn run_on<F: Function>(input: fn(&mut Random) -> F::Input) -> Times {
     let mut random = Random::new(1);
-    let inputs = (0..INPUTS).map(|_| input(&mut random));
+    let inputs = (0..F::TIMED).map(|_| input(&mut random));
     let mut cases: Vec<_> = inputs.map(|input| (F::outputs(&input), input)).collect();
     let mut rounds = 1;
     while time(F::port, &mut cases, rounds) < REPETITION {
         rounds *= 2;
     }
-    let calls = (rounds * INPUTS) as f64;
+    let calls = (rounds * F::TIMED) as f64;
     let mut best = Times {
         port: f64::INFINITY,
         oracle: f64::INFINITY,

@@ -32,6 +32,10 @@ pub trait Function {
     /// far as the file has room.
     const VECTORS: usize = 64;
 
+    /// Inputs of the bench: few enough for those of a small function to stay in
+    /// the cache.
+    const TIMED: usize = 64;
+
     type Input: Input;
 
     /// Outputs of the lengths that the call wants.

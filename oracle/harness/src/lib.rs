@@ -7,6 +7,7 @@
 
 pub mod arguments;
 pub mod bench;
+pub mod bz_grid_addresses;
 pub mod compare;
 pub mod floats;
 pub mod function;
@@ -14,12 +15,14 @@ pub mod grgrid;
 pub mod inputs;
 pub mod integers;
 pub mod limits;
+pub mod neighboring_grid_points;
 pub mod oracle;
 pub mod panics;
 pub mod port;
 pub mod random;
 pub mod recip_rotations;
 pub mod refusals;
+pub mod rotate_bz_grid_index;
 pub mod rows;
 pub mod same_grid;
 pub mod snf3x3;

@@ -27,7 +27,7 @@ pub const ADDRESS: i64 = 10_000_000_000_000;
 /// Values that are read from an image map; the least is 0.
 pub const MAP_VALUE: i64 = 1 << 40;
 /// The search range of the images on each axis.
-pub const SEARCH: i64 = 16;
+pub use phonors::watched::SEARCH;
 
 /// Bytes of a job file; its header alone has the least number.
 pub const JOB_BYTES: usize = 8_192;

@@ -1,21 +1,31 @@
 //! Panics of the Rust, which document 01 counts as refusals: one from arithmetic
-//! as 4, one from an index as 14.
+//! as 4, one from an index as 14. A watched walk also panics where the document
+//! adds a refusal.
 
 use std::any::Any;
+use std::fmt::Debug;
 use std::panic::{self, AssertUnwindSafe};
 use std::sync::atomic::{AtomicUsize, Ordering};
 use std::sync::Once;
 
-use crate::refusals::{BAD_INDEX, OVERFLOW};
+use phonors::watched::{NO_IMAGE, READ_OUTSIDE, WIDE_RANGE};
 
-/// How the messages begin that Rust has for each refusal.
-const MESSAGES: [(&str, i64); 5] = [
+use crate::refusals::{BAD_INDEX, OVERFLOW, SEARCH_RANGE};
+
+/// How the messages begin that Rust, or a watched walk, has for each refusal.
+const MESSAGES: [(&str, i64); 8] = [
     ("attempt to ", OVERFLOW),
     ("index out of bounds", BAD_INDEX),
     ("range start index", BAD_INDEX),
     ("range end index", BAD_INDEX),
     ("slice index starts at", BAD_INDEX),
+    (WIDE_RANGE, SEARCH_RANGE),
+    (NO_IMAGE, SEARCH_RANGE),
+    (READ_OUTSIDE, ADDED_BAD_INDEX),
 ];
+
+/// Stands for a 14 that document 01 adds.
+const ADDED_BAD_INDEX: i64 = -BAD_INDEX;
 
 /// Calls of the Rust that are under way. It is no thread's own number, since
 /// rayon panics in threads of its own.
@@ -35,6 +45,24 @@ pub fn counted<T>(call: impl FnOnce() -> T) -> Result<T, i64> {
         Some(number) => Err(number),
         None => panic::resume_unwind(payload),
     })
+}
+
+/// The Rust's value or refusal, after the same walk with every step watched. Where
+/// that walk meets an added refusal, the Rust is not asked; else both must come to
+/// the same end.
+pub fn watched<T: Debug + PartialEq>(
+    watched: impl FnOnce() -> Result<T, i64>,
+    plain: impl FnOnce() -> Result<T, i64>,
+) -> Result<T, i64> {
+    let seen = counted(watched).flatten();
+    match seen {
+        Err(ADDED_BAD_INDEX) => return Err(BAD_INDEX),
+        Err(SEARCH_RANGE) => return Err(SEARCH_RANGE),
+        _ => {}
+    }
+    let answer = counted(plain).flatten();
+    assert_eq!(answer, seen);
+    answer
 }
 
 /// Prints nothing of a panic that counts as a refusal.
@@ -113,6 +141,24 @@ mod tests {
         };
         let call = || neighboring_grid_points_many(&mut [0], &[0], &[[0, 0, 0]], &grid);
         assert_eq!(counted(call), Err(14));
+    }
+
+    #[test]
+    fn added_refusals() {
+        let plain = || Ok(1);
+        assert_eq!(watched(|| Ok(1), plain), Ok(1));
+        assert_eq!(watched(|| panic!("{WIDE_RANGE}"), plain), Err(12));
+        assert_eq!(watched(|| panic!("{NO_IMAGE}"), plain), Err(12));
+        assert_eq!(watched(|| panic!("{READ_OUTSIDE}"), plain), Err(14));
+        let index = || Ok([1][black_box(1)]);
+        assert_eq!(watched(index, index), Err(14));
+        assert_eq!(watched(|| Err(9), || Err::<i64, i64>(9)), Err(9));
+    }
+
+    #[test]
+    #[should_panic]
+    fn the_watched_walk_must_agree() {
+        let _ = watched(|| Ok(1), || Ok(2));
     }
 
     #[test]

@@ -1,11 +1,17 @@
 //! The functions that the commands know.
 
 use crate::bench::{self, Times};
+use crate::bz_grid_addresses::*;
 use crate::floats::*;
 use crate::function::Function;
 use crate::grgrid::*;
+use crate::inputs::lent_images::ImagesInput;
+use crate::inputs::lent_neighbours::NeighboursInput;
+use crate::inputs::lent_rotations::RotateInput;
 use crate::integers::*;
+use crate::neighboring_grid_points::*;
 use crate::recip_rotations::*;
+use crate::rotate_bz_grid_index::*;
 use crate::same_grid::*;
 use crate::snf3x3::*;
 use crate::transform_rotations::*;
@@ -57,6 +63,9 @@ pub static ROWS: &[Row] = &[
     Row::of::<Snf3x3>(),
     Row::of::<SameGrid>(),
     Row::of::<TransformRotations>(),
+    Row::of::<BzGridAddresses>(),
+    Row::of::<RotateBzGridIndex>(),
+    Row::of::<NeighboringGridPoints>(),
 ];
 
 /// A line of the bench for a function on other inputs: FUNCTION:INPUTS. It is
@@ -68,4 +77,22 @@ pub static VARIANTS: &[Variant] = &[
         bench::run_on::<Snf3x3>(MatrixInput::small)
     }),
     ("snf3x3:any", || bench::run_on::<Snf3x3>(MatrixInput::any)),
+    ("bz_grid_addresses:type_1", || {
+        bench::run_on::<BzGridAddresses>(ImagesInput::sparse)
+    }),
+    ("bz_grid_addresses:type_2", || {
+        bench::run_on::<BzGridAddresses>(ImagesInput::dense)
+    }),
+    ("rotate_bz_grid_index:type_1", || {
+        bench::run_on::<RotateBzGridIndex>(RotateInput::sparse)
+    }),
+    ("rotate_bz_grid_index:type_2", || {
+        bench::run_on::<RotateBzGridIndex>(RotateInput::dense)
+    }),
+    ("neighboring_grid_points:type_1", || {
+        bench::run_on::<NeighboringGridPoints>(NeighboursInput::sparse)
+    }),
+    ("neighboring_grid_points:type_2", || {
+        bench::run_on::<NeighboringGridPoints>(NeighboursInput::dense)
+    }),
 ];

@@ -1,7 +1,7 @@
 //! The tests of document 01 that come before a call of the library, as results:
 //! the value, or the number of the refusal.
 
-use phonors::common::{MatI, Vec3I};
+use phonors::common::{MatD, MatI, Vec3I};
 
 use crate::inputs::matrices::is_within;
 use crate::limits::{DIAGONAL, POINTS, ROTATIONS};
@@ -36,6 +36,20 @@ pub fn matrix(slice: &[i64]) -> Result<MatI, i64> {
 
 fn rows(m: &[i64]) -> MatI {
     [0, 3, 6].map(|row| [m[row], m[row + 1], m[row + 2]])
+}
+
+/// A lent list of addresses.
+pub fn addresses(list: &[i64]) -> Result<&[Vec3I], i64> {
+    let (addresses, rest) = list.as_chunks();
+    length(rest.is_empty())?;
+    Ok(addresses)
+}
+
+/// A lent lattice, by rows.
+pub fn lattice(slice: &[f64]) -> Result<MatD, i64> {
+    let (rows, rest) = slice.as_chunks();
+    length(rest.is_empty())?;
+    rows.try_into().map_err(|_| WRONG_LENGTH)
 }
 
 pub fn rotations_fit(list: &[MatI], size: i64) -> bool {
@@ -84,5 +98,11 @@ mod tests {
     fn lengths() {
         assert_eq!(fixed(&[1, 2, 3]), Ok([1, 2, 3]));
         assert_eq!(fixed::<3>(&[1, 2]), Err(13));
+        assert_eq!(addresses(&[1, 2, 3]), Ok(&[[1, 2, 3]][..]));
+        assert_eq!(addresses(&[1, 2, 3, 4]), Err(13));
+        let nine = [1.0, 2.0, 3.0, 4.0, 5.0, 6.0, 7.0, 8.0, 9.0];
+        assert_eq!(lattice(&nine).unwrap()[2], [7.0, 8.0, 9.0]);
+        assert_eq!(lattice(&nine[..8]), Err(13));
+        assert_eq!(lattice(&nine[..6]), Err(13));
     }
 }

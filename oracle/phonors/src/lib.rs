@@ -2,5 +2,6 @@
 //! never copied, and the edited versions of them; build.rs writes the list.
 
 pub mod measured;
+pub mod watched;
 
 include!(concat!(env!("OUT_DIR"), "/modules.rs"));

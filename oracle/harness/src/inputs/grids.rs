@@ -39,6 +39,27 @@ pub fn diagonal(random: &mut Random) -> Vec3I {
     d
 }
 
+/// A diagonal of few points, for calls whose cost is high at each.
+pub fn few_points(random: &mut Random) -> Vec3I {
+    let largest = match random.below(50) {
+        0 => 16,
+        1..=9 => 6,
+        _ => 4,
+    };
+    numbers_up_to(random, largest)
+}
+
+/// A diagonal of many points, up to the most that are allowed.
+pub fn many_points(random: &mut Random) -> Vec3I {
+    let mut d = if random.coin() {
+        random.pick(&LARGEST)
+    } else {
+        numbers_up_to(random, DIAGONAL)
+    };
+    random.shuffle(&mut d);
+    d
+}
+
 fn numbers_up_to(random: &mut Random, largest: i64) -> Vec3I {
     let mut room = POINTS;
     [(); 3].map(|()| {
@@ -90,6 +111,12 @@ mod tests {
         let small = diagonals.iter().filter(|&d| points(d) <= 64).count();
         assert!(small > diagonals.len() / 2);
         assert!((0..1000).all(|_| !is_within(damaged_diagonal(&mut random))));
+        let few: Vec<Vec3I> = (0..10_000).map(|_| few_points(&mut random)).collect();
+        assert!(few.iter().map(points).sum::<i64>() < 50 * 10_000);
+        assert!(few.iter().any(|d| points(d) > 1_000));
+        let many: Vec<Vec3I> = (0..100).map(|_| many_points(&mut random)).collect();
+        assert!(few.iter().chain(&many).all(|&d| is_within(d)));
+        assert!(many.iter().filter(|d| points(d) == POINTS).count() > 20);
     }
 
     #[test]

@@ -21,14 +21,14 @@ use Rattle.recip_rotations.specs.declared.PointGroup.{PointGroup}
 use Rattle.recip_rotations.specs.declared.PointGroup.the-variants.{Rotations, Refused}
 
 -- the tests, from the answer
-was-accepted : (t : Tested) (m k : ℕ) → Rotations k ≡ answerFor t m → t ≡ tested.Accepted
+pub was-accepted : (t : Tested) (m k : ℕ) → Rotations k ≡ answerFor t m → t ≡ tested.Accepted
 was-accepted tested.Accepted m k e = refl
 was-accepted (tested.Refused r) m k e = let z : _≡_ {A = ℕ} 0 1 = cc in absurd (never z)
   where
     never : _≡_ {A = ℕ} 0 1 → ⊥
     never z = omega arith
 
-was-refused : (t : Tested) (m : ℕ) {r : Refusal} → Refused r ≡ answerFor t m → t ≡ tested.Refused r
+pub was-refused : (t : Tested) (m : ℕ) {r : Refusal} → Refused r ≡ answerFor t m → t ≡ tested.Refused r
 was-refused tested.Accepted m e = let z : _≡_ {A = ℕ} 0 1 = cc in absurd (never z)
   where
     never : _≡_ {A = ℕ} 0 1 → ⊥

@@ -1,0 +1,9 @@
+pub mod Keeping
+pub mod Swapping
+pub mod Reciprocal
+pub mod Outcome
+pub mod Joining
+pub mod Stabilizer
+pub mod Choosing
+pub mod Rising
+mod Examples

@@ -1,0 +1,85 @@
+-- A class map as an output holds it; the lower of a number and its partner's; and a turn of the swapped pass.
+use mathlib.Core.Path.{_≡_, sym, _∙_, ap, ap₂}
+use mathlib.Core.Logic.{⊎-elim}
+use mathlib.Core.Bool.{Bool, true, false}
+use mathlib.Core.List.{List, map, map-map, map-id}
+use Prim.Native.Nat.{ℕ, _+_, _<_}
+use native.Mathlib.Nat.{eq-or-lt-of-le}
+use native.Mathlib.Omega.{arith}
+use lib.IntN.{ℤ, pos, natAbs}
+use lib.ListN.{length, getD, set, length-map, List·getD-map}
+use lib.Signed.{ltZ}
+use Rattle.integer.specs.Checked.{pick}
+use Rattle.common.specs.Matrix.{Vec, Mat}
+use Rattle.common.specs.Array.{vectorOf, items}
+use Rattle.grgrid.specs.Grid.{size, index, address, rotate}
+use Rattle.grgrid.specs.ClassMap.{classMap, kept}
+use Rattle.grgrid.specs.Own.{ownPlaces}
+use Rattle.grgrid.proofs.Built.{length-build, build-at, build-list, written, written-more, written-read}
+use Rattle.grgrid.proofs.Pass.{pass-own}
+use Rattle.grgrid.proofs.Numbers.{own-kept}
+use Rattle.recip_rotations.specs.PointGroup.{pointGroup}
+use Rattle.triplet_grid.specs.Partner.{stabilizer, third, partner}
+use Rattle.triplet_grid.specs.IrTriplets.{noShift, Numbered, lowerOf, swappedNumber, numbersOf, mapTriplets, classesAt}
+
+pub numbers-of : (classes : List ℕ) {l : List ℤ} → l ≡ map pos classes → map natAbs l ≡ classes
+numbers-of classes e = ap (map natAbs) e ∙ map-map natAbs pos classes ∙ map-id classes
+
+-- the class map of any list of operations
+numbered : (d : Vec ℕ) (ps : Vec ℤ) (ms : List (Mat ℤ)) {l : List ℤ} → l ≡ map pos (classMap d ps ms) → Numbered (size d) l
+unfolding classMap
+numbered d ps ms e =
+    let gs = map (rotate d ps) ms in
+    let back = numbers-of (classMap d ps ms) e in
+    record { natural = e ∙ ap (map pos) (sym back); low = λ p h. rw back (pass-own gs (size d) p h .0); own = λ p h. rw back (pass-own gs (size d) p h .1) }
+
+pub classes-numbered : (q0 : ℕ) (d : Vec ℕ) (ms : List (Mat ℤ)) (time : Bool) {l : List ℤ} → l ≡ map pos (classesAt q0 d ms time) → Numbered (size d) l
+unfolding classesAt
+classes-numbered q0 d ms time e = numbered d noShift (stabilizer d q0 (pointGroup ms time false)) e
+
+pub numbered-at : {n : ℕ} {l : List ℤ} → Numbered n l → (p : ℕ) → getD l p (pos 0) ≡ pos (getD (map natAbs l) p 0)
+numbered-at {n} {l} h p = ap (λ l. getD l p (pos 0)) (h .natural) ∙ List·getD-map pos (map natAbs l) p 0
+
+-- the partner, from the address of q0
+pub partner-is : (d : Vec ℕ) (q0 q1 : ℕ) {a : List ℤ} → a ≡ items (address d q0) → index d (third (vectorOf a) (address d q1)) ≡ partner d q0 q1
+unfolding partner
+partner-is d q0 q1 e = ap (λ a. index d (third (vectorOf a) (address d q1))) e
+
+-- ---- the lower of two, by the code's test
+module _ {v w : ℤ} (n q : ℕ) (e : v ≡ pos n) (f : w ≡ pos q) where
+  pub lower-is : ltZ v w ≡ true → v ≡ pos (lowerOf n q)
+  lower-is t = e ∙ ap (λ t. pos (pick t n q)) (sym (ap₂ ltZ (sym e) (sym f) ∙ t))
+
+  pub own-is : ltZ v w ≡ false → w ≡ pos (lowerOf n q)
+  own-is t = f ∙ ap (λ t. pos (pick t n q)) (sym (ap₂ ltZ (sym e) (sym f) ∙ t))
+
+-- ---- a turn of the pass: place q1 of the output, where the points below q1 have their numbers
+module _ (d : Vec ℕ) (q0 : ℕ) {n : ℕ} {l : List ℤ} (c : Numbered n l) where
+  abbrev pub swapped : ℕ → List ℕ → ℕ
+  swapped q1 done = swappedNumber d q0 (map natAbs l) q1
+
+  module _ (before : List ℤ) {q1 : ℕ} {out : List ℤ} (e : out ≡ written swapped pos q1 before) (h : q1 < length before) where
+    -- a point with its own number
+    pub own-stored : getD (map natAbs l) q1 0 ≡ q1 → {z : ℤ} → z ≡ pos (lowerOf (getD (map natAbs l) (partner d q0 q1) 0) q1) → set out q1 z ≡ written swapped pos (q1 + 1) before
+    own-stored f r = written-more swapped pos q1 before e h (r ∙ ap (λ q. pos (lowerOf (getD (map natAbs l) (partner d q0 q) 0) q)) (sym f))
+
+    -- any other has what its number has
+    pub other-stored : q1 < n → (getD (map natAbs l) q1 0 ≡ q1 → ⊥) → {q : ℕ} → q ≡ getD (map natAbs l) q1 0 → {z : ℤ} → z ≡ getD out q (pos 0) → set out q1 z ≡ written swapped pos (q1 + 1) before
+    other-stored k g {q} f r =
+        let lower : q < q1 = ⊎-elim (λ i. absurd (g i)) (λ i. omega arith) (eq-or-lt-of-le (c .low q1 k)) in
+        let own : getD (map natAbs l) q 0 ≡ getD (map natAbs l) q1 0 = ap (λ p. getD (map natAbs l) p 0) f ∙ c .own q1 k in
+        written-more swapped pos q1 before e h
+        (r ∙ ap (λ o. getD o q (pos 0)) e ∙ written-read swapped pos q1 q before 0 lower ∙ ap pos (build-at swapped 0 q1 q lower ∙ ap (λ q. lowerOf (getD (map natAbs l) (partner d q0 q) 0) q) own))
+
+-- ---- the classes of triplets, for either flag
+pub plain : (d : Vec ℕ) (q0 : ℕ) (classes : List ℕ) → length classes ≡ size d → mapTriplets false d q0 classes ≡ classes
+unfolding mapTriplets
+plain d q0 classes e = build-list classes 0 (size d) e
+
+module _ (swappable : Bool) (d : Vec ℕ) (q0 : ℕ) (classes : List ℕ) {out : List ℤ} (e : out ≡ map pos (mapTriplets swappable d q0 classes)) where
+  pub length-triplets : length out ≡ size d
+  unfolding mapTriplets
+  length-triplets = ap length e ∙ length-map (mapTriplets swappable d q0 classes) pos ∙ length-build (λ q1 done. numbersOf swappable d q0 classes q1) (size d)
+
+  pub kept-triplets : ownPlaces out (length out) ≡ kept (mapTriplets swappable d q0 classes) (size d)
+  kept-triplets = ap₂ ownPlaces e length-triplets ∙ own-kept (mapTriplets swappable d q0 classes) (size d)

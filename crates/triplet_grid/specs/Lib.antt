@@ -1,0 +1,3 @@
+pub mod Partner
+pub mod IrTriplets
+pub mod Choosing

@@ -1,0 +1,29 @@
+-- The operations that keep q0, and the partner of a point: with q0 and q1 it makes a sum that folds to 0.
+use mathlib.Core.List.{List, [], _∷_}
+use Prim.Native.Nat.{ℕ}
+use lib.Dec.{eqb}
+use lib.IntN.{ℤ, negℤ, _-ℤ_}
+use Rattle.integer.specs.Checked.{pick}
+use Rattle.common.specs.Matrix.{Vec, Mat, side, vector, _▹_}
+use Rattle.grgrid.specs.Grid.{index, address}
+
+-- where an operation carries a point: by addresses, without shift
+unfoldable pub carry : Vec ℕ → Mat ℤ → ℕ → ℕ
+unfolding index address
+carry d m p = index d (m ▹ address d p)
+
+abbrev pub keeping : Vec ℕ → ℕ → List (Mat ℤ) → List (Mat ℤ)
+keeping d q0 [] = []
+keeping d q0 (m ∷ l) = pick (eqb (carry d m q0) q0) (m ∷ keeping d q0 l) (keeping d q0 l)
+
+unfoldable pub stabilizer : Vec ℕ → ℕ → List (Mat ℤ) → List (Mat ℤ)
+unfolding carry
+stabilizer d q0 l = keeping d q0 l
+
+-- -q0 - q1
+abbrev pub third : Vec ℤ → Vec ℤ → Vec ℤ
+third a b = vector (λ k. negℤ (side a k) -ℤ side b k)
+
+unfoldable pub partner : Vec ℕ → ℕ → ℕ → ℕ
+unfolding index address
+partner d q0 q1 = index d (third (address d q0) (address d q1))

@@ -20,8 +20,7 @@ use Rattle.bzgrid.specs.Table.{Image, imagesAt, first, others, sparse}
 use Rattle.bzgrid.specs.BzGridAddresses.{tableOf}
 use Rattle.bzgrid.proofs.Listing.{length-rows, rows-few}
 use Rattle.bzgrid.proofs.CandidateSet.{candidate-size}
-use Rattle.bzgrid.proofs.Images.{splitAt, rangeAt, image-made, images-few}
-use Rattle.bzgrid.proofs.ImageTable.{length-images}
+use Rattle.bzgrid.proofs.Images.{splitAt, rangeAt, image-made, images-few, length-images}
 
 -- ---- the address of a candidate
 row-size : (u v w x y z : ℤ) → natAbs u ≤ 2000000 → natAbs v ≤ 2000000 → natAbs w ≤ 2000000 → natAbs x ≤ 4112 → natAbs y ≤ 4112 → natAbs z ≤ 4112

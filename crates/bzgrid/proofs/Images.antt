@@ -2,12 +2,12 @@
 use mathlib.Core.Path.{_≡_, refl, sym, _∙_, ap, subst}
 use mathlib.Core.Logic.{_↔_}
 use mathlib.Core.Bool.{Bool, true, false}
-use mathlib.Core.List.{List, [], _∷_, List·Memᴰ·not-nil as not-nil}
+use mathlib.Core.List.{List, [], _∷_, map, map-map, map-id, List·Memᴰ·not-nil as not-nil}
 use Prim.Native.Nat.{ℕ, _≤_, _<_, zero-le}
 use native.Mathlib.Nat.{le-trans}
 use lib.Dec.{T}
 use lib.IntN.{ℤ, pos, _+ℤ_, _*ℤ_, _-ℤ_}
-use lib.ListN.{length}
+use lib.ListN.{length, length-map}
 use lib.Ieee.{Float, lt}
 use Rattle.integer.specs.Checked.{pick}
 use Rattle.integer.proofs.Congruence.{congruent-by}
@@ -20,6 +20,7 @@ use Rattle.grgrid.specs.Grid.{size, index, address}
 use Rattle.grgrid.proofs.Lists.{_∈_, Distinct}
 use Rattle.grgrid.proofs.Folding.{Sides, Agree, agree-by, same-index, index-address}
 use Rattle.bzgrid.specs.Search.{Search, newSearch, Split, Span, splitReduced, searchRange, rangeFits, candidates, distance, bound, setBzAddress, images, imagesFrom, imagesOf}
+use Rattle.bzgrid.specs.Table.{imageOf, imagesAt}
 use Rattle.bzgrid.proofs.Listing.{kept-in, kept-of, kept-few, kept-distinct}
 use Rattle.bzgrid.proofs.CandidateSet.{candidates-distinct, candidates-few}
 
@@ -134,3 +135,17 @@ module _ (s : Search) (p : ℕ) where
     image-folds l {a} k =
         let r = image-made k in
         ap (index (s .d)) (sym (r .is)) ∙ same-index (s .d) (h .sides) (set-agree s (address (s .d) p) (splitAt .nint) (r .from)) ∙ index-address (s .d) (h .sides) p l
+
+-- ---- images with their point
+module _ (s : Search) (p : ℕ) where
+  pub images-addresses : map (λ x. x .address) (imagesAt s p) ≡ images s p
+  unfolding imagesAt
+  images-addresses = map-map (λ x. x .address) (imageOf p) (images s p) ∙ map-id (images s p)
+
+  pub images-points : map (λ x. x .point) (imagesAt s p) ≡ map (λ a. p) (images s p)
+  unfolding imagesAt
+  images-points = map-map (λ x. x .point) (imageOf p) (images s p)
+
+  pub length-images : length (imagesAt s p) ≡ length (images s p)
+  unfolding imagesAt
+  length-images = length-map (images s p) (imageOf p)

@@ -7,24 +7,13 @@ pub mod Listing
 pub mod AxisNumbers
 pub mod CandidateSet
 pub mod Images
-pub mod TableRead
-pub mod ImageTable
-pub mod DoubledMesh
 pub mod LatticeBounds
 pub mod ImageBounds
-pub mod AcceptedCall
-pub mod CallBounds
-pub mod Inside
-pub mod Finding
-pub mod Turning
-pub mod NeighbourRows
-pub mod NeighbourCall
 pub mod Runs
 pub mod Layouts
 pub mod Mapped
 pub mod Kept
 pub mod Turns
 pub mod Outcome
-pub mod Nearby
 pub mod Accepted
 mod Examples

@@ -5,8 +5,3 @@ pub mod BzGridAddresses
 pub mod SearchView
 pub mod Writing
 pub mod Walked
-pub mod Access
-pub mod Reading
-pub mod ReadingView
-pub mod Rotate
-pub mod Neighbours

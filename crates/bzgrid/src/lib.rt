@@ -1,20 +1,16 @@
 // Brillouin-zone grid address construction.
 mod candidates;
 mod lattice;
-mod neighbours;
-mod reading;
-mod rotate;
 mod search;
 mod tables;
 
 use common::Refusal;
 use common::Tested;
 use grgrid::Grid;
-pub use neighbours::Neighbours;
-pub use neighbours::neighboring_grid_points_many;
-pub use rotate::Rotated;
-pub use rotate::rotate_bz_grid_index;
+pub use lattice::bz_tolerance;
 use search::BzSearch;
+pub use search::flat_d;
+pub use search::length_squared;
 use tables::Walk;
 ghost use mathlib.Core.Path.{_≡_};
 ghost use mathlib.Core.Bool.{true, false};
@@ -80,7 +76,7 @@ fn row_fits(a: [f64; 3]) -> bool
     common::all_three(entry_fits(a[0]), entry_fits(a[1]), entry_fits(a[2]))
 }
 
-fn lattice_fits(m: [[f64; 3]; 3]) -> bool
+pub fn lattice_fits(m: [[f64; 3]; 3]) -> bool
     ensures { λ r. ⌜ r ≡ latticeFits (floatMatrix m) ⌝ }
 {
     let x = m[0];
@@ -133,7 +129,7 @@ fn input_tests(
     Tested::Accepted
 }
 
-fn is_known(t: GridType) -> bool
+pub fn is_known(t: GridType) -> bool
     ensures { λ r. ⌜ r ≡ isKnown t ⌝ }
 {
     match t {

@@ -110,14 +110,14 @@ fn sum_of_squares(x: f64, y: f64, z: f64) -> f64
     x * x + y * y + z * z
 }
 
-fn length_squared(l: [f64; 9], v: [f64; 3]) -> f64
+pub fn length_squared(l: [f64; 9], v: [f64; 3]) -> f64
     ensures { λ r. ⌜ r ≡ lengthSquared (applyOver floats (floatNine l) (floatVector v)) ⌝ }
 {
     sum_of_squares(row_times(l, 0, v), row_times(l, 3, v), row_times(l, 6, v))
 }
 
 // A record holds a matrix flat, by rows.
-fn flat_d(m: [[f64; 3]; 3]) -> [f64; 9]
+pub fn flat_d(m: [[f64; 3]; 3]) -> [f64; 9]
     ensures { λ r. ⌜ r ≡ entries (floatMatrix m) [] ⌝ }
 {
     let x = m[0];

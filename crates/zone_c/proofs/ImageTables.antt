@@ -18,13 +18,13 @@ use Rattle.common.specs.Refusal.{numberOf}
 use Rattle.common.specs.Array.{rowAt, rows, matrixAt}
 use Rattle.bzgrid.specs.declared.Lengths.{Lengths}
 use Rattle.bzgrid.specs.declared.BzGridAddresses.{BzGridAddresses}
-use Rattle.bzgrid.specs.declared.rotate.Rotated.{Rotated}
-use Rattle.bzgrid.specs.declared.neighbours.Neighbours.{Neighbours}
+use Rattle.bztable.specs.declared.rotate.Rotated.{Rotated}
+use Rattle.bztable.specs.declared.neighbours.Neighbours.{Neighbours}
 use Rattle.bzgrid.specs.SearchView.{floatNine}
 use Rattle.bzgrid.specs.BzGridAddresses.{hasRoom, inputTests, bzAnswer, addressesWritten, mapWritten, grgWritten}
-use Rattle.bzgrid.specs.Rotate.{rotateTests, rotateRead, rotateAnswer}
-use Rattle.bzgrid.specs.Neighbours.{inputTests as neighbourInput, neighboursRead, neighbourTests, neighboursAnswer, neighboursWritten}
-use Rattle.bzgrid.proofs.AcceptedCall.{call-accepted}
+use Rattle.bztable.specs.Rotate.{rotateTests, rotateRead, rotateAnswer}
+use Rattle.bztable.specs.Neighbours.{inputTests as neighbourInput, neighboursRead, neighbourTests, neighboursAnswer, neighboursWritten}
+use Rattle.bztable.proofs.AcceptedCall.{call-accepted}
 use Rattle.zone_c.specs.Images.{imageLengths, imagesNumber, imagesTold, Held, LengthsFit, BzGridAddressesTold, rotateLengths, rotatedNumber, rotatedTold, RotateTold, neighboursNumber, NeighboursTold}
 use Rattle.zone_c.proofs.Answers.{stored}
 use Rattle.zone_c.proofs.Lengths.{taken, left, both, three-lengths}

@@ -14,14 +14,14 @@ use Rattle.common.specs.Array.{rows, matrixAt}
 use Rattle.bzgrid.specs.declared.Lengths.{Lengths}
 use Rattle.bzgrid.specs.declared.BzGridAddresses.{BzGridAddresses}
 use Rattle.bzgrid.specs.declared.BzGridAddresses.the-variants as images
-use Rattle.bzgrid.specs.declared.rotate.Rotated.{Rotated}
-use Rattle.bzgrid.specs.declared.rotate.Rotated.the-variants as rotated
-use Rattle.bzgrid.specs.declared.neighbours.Neighbours.{Neighbours}
-use Rattle.bzgrid.specs.declared.neighbours.Neighbours.the-variants as neighbours
+use Rattle.bztable.specs.declared.rotate.Rotated.{Rotated}
+use Rattle.bztable.specs.declared.rotate.Rotated.the-variants as rotated
+use Rattle.bztable.specs.declared.neighbours.Neighbours.{Neighbours}
+use Rattle.bztable.specs.declared.neighbours.Neighbours.the-variants as neighbours
 use Rattle.bzgrid.specs.SearchView.{floatNine}
 use Rattle.bzgrid.specs.BzGridAddresses.{bzAnswer, addressesWritten, mapWritten, grgWritten}
-use Rattle.bzgrid.specs.Rotate.{rotateAnswer}
-use Rattle.bzgrid.specs.Neighbours.{neighboursAnswer, neighboursWritten}
+use Rattle.bztable.specs.Rotate.{rotateAnswer}
+use Rattle.bztable.specs.Neighbours.{neighboursAnswer, neighboursWritten}
 
 -- ---- image tables
 abbrev pub imagesNumber : BzGridAddresses → ℤ

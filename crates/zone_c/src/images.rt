@@ -1,7 +1,7 @@
 // The exports of bzgrid.
 use bzgrid::BzGridAddresses;
-use bzgrid::Neighbours;
-use bzgrid::Rotated;
+use bztable::Neighbours;
+use bztable::Rotated;
 use common::Refusal;
 ghost use mathlib.Core.Path.{_≡_};
 ghost use lib.IntN.{pos, negsuc};
@@ -143,7 +143,7 @@ pub extern "C" fn zone_rotate_bz_grid_index(
         return Refusal::WrongLength.answer();
     }
     tell_rotated(
-        bzgrid::rotate_bz_grid_index(
+        bztable::rotate_bz_grid_index(
             index,
             common::matrix_at(rotation, 0),
             addresses,
@@ -172,7 +172,7 @@ pub extern "C" fn zone_neighboring_grid_points(
         common::fill(out, -1);
         return Refusal::WrongLength.answer();
     }
-    match bzgrid::neighboring_grid_points_many(
+    match bztable::neighboring_grid_points_many(
         points,
         offsets,
         addresses,

@@ -18,9 +18,9 @@ use Rattle.common.proofs.Tests.{passed}
 use Rattle.bzgrid.specs.declared.GridType.{GridType}
 use Rattle.bzgrid.specs.declared.BzGridAddresses.{BzGridAddresses}
 use Rattle.bzgrid.specs.declared.BzGridAddresses.the-variants.{Refused}
-use Rattle.bzgrid.specs.Lattice.{singular}
-use Rattle.bzgrid.specs.Search.{Search}
-use Rattle.bzgrid.specs.BzGridAddresses.{gridType, isKnown, latticeFits, unimodular, searchOf, withinLimits, inputTests, buildAnswer, buildAddresses, buildMap, buildGrg, answerAfter, bzAnswer, addressesWritten, mapWritten, grgWritten}
+use Rattle.bzsearch.specs.Lattice.{singular, latticeFits}
+use Rattle.bzsearch.specs.Search.{Search, unimodular}
+use Rattle.bzgrid.specs.BzGridAddresses.{gridType, isKnown, searchOf, withinLimits, inputTests, buildAnswer, buildAddresses, buildMap, buildGrg, answerAfter, bzAnswer, addressesWritten, mapWritten, grgWritten}
 use Rattle.bzgrid.specs.Walked.{blank}
 use Rattle.bzgrid.proofs.Outcome.{left, wiped}
 

@@ -8,8 +8,8 @@ use Rattle.float.specs.Rounding.{roundOf, nintOf, floorOf, ceilOf, absOf}
 use Rattle.float.specs.Sqrt.{root, sqrtOf}
 use Rattle.common.specs.Matrix.{Vec, vector, identity, mapMat}
 use Rattle.grgrid.specs.Grid.{address, index}
-use Rattle.bzgrid.specs.Lattice.{bzTolerance, latticeDet, dualLengths}
-use Rattle.bzgrid.specs.Search.{Span, Search, newSearch, candidates, outside, images, splitReduced, reduced, distance, searchRange, bound}
+use Rattle.bzsearch.specs.Lattice.{bzTolerance, latticeDet, dualLengths}
+use Rattle.bzsearch.specs.Search.{Span, Search, newSearch, candidates, outside, images, splitReduced, reduced, distance, searchRange, bound}
 use Rattle.bzgrid.specs.Table.{imagesAt, denseMap, sparseMap}
 
 abbrev at : ℤ → Span

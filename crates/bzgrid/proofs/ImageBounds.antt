@@ -1,12 +1,12 @@
--- Sizes: the numbers of an image, and how many images there are.
+-- Images with their point, and sizes: the numbers of an image, and how many images there are.
 use mathlib.Core.Path.{_≡_, refl, sym, _∙_, ap, subst}
-use mathlib.Core.List.{List}
+use mathlib.Core.List.{List, map, map-map, map-id}
 use Prim.Native.Nat.{ℕ, zero, suc, _+_, _≤_, _<_, zero-le}
 use native.Mathlib.Nat.{le-trans, le-of-lt, le-of-eq, mul-le-mul-right}
 use native.Mathlib.Omega.{arith}
 use lib.Dec.{lit≤}
 use lib.IntN.{ℤ, pos, natAbs, _+ℤ_, _*ℤ_, _-ℤ_}
-use lib.ListN.{length, length-append, take-append-drop}
+use lib.ListN.{length, length-append, length-map, take-append-drop}
 use Rattle.integer.proofs.Plain.{plain, p-atom, plain-within}
 use Rattle.common.specs.Matrix.{Axis, X, Y, Z, Vec, side, vector, entry, dot, integers, _▹_}
 use Rattle.common.proofs.Matrix.{side-vector}
@@ -15,12 +15,26 @@ use Rattle.grgrid.proofs.Lists.{_∈_}
 use Rattle.grgrid.proofs.Folding.{Sides, digits-within}
 use Rattle.bzgrid.specs.declared.GridType.{GridType}
 use Rattle.bzgrid.specs.declared.GridType.the-variants.{Sparse, Dense, Unknown}
-use Rattle.bzgrid.specs.Search.{Search, setBzAddress, images, rows}
-use Rattle.bzgrid.specs.Table.{Image, imagesAt, first, others, sparse}
+use Rattle.bzsearch.specs.Search.{Search, setBzAddress, images, rows}
+use Rattle.bzgrid.specs.Table.{Image, imageOf, imagesAt, first, others, sparse}
 use Rattle.bzgrid.specs.BzGridAddresses.{tableOf}
-use Rattle.bzgrid.proofs.Listing.{length-rows, rows-few}
-use Rattle.bzgrid.proofs.CandidateSet.{candidate-size}
-use Rattle.bzgrid.proofs.Images.{splitAt, rangeAt, image-made, images-few, length-images}
+use Rattle.bzsearch.proofs.Listing.{length-rows, rows-few}
+use Rattle.bzsearch.proofs.CandidateSet.{candidate-size}
+use Rattle.bzsearch.proofs.Images.{splitAt, rangeAt, image-made, images-few}
+
+-- ---- images with their point
+module _ (s : Search) (p : ℕ) where
+  pub images-addresses : map (λ x. x .address) (imagesAt s p) ≡ images s p
+  unfolding imagesAt
+  images-addresses = map-map (λ x. x .address) (imageOf p) (images s p) ∙ map-id (images s p)
+
+  pub images-points : map (λ x. x .point) (imagesAt s p) ≡ map (λ a. p) (images s p)
+  unfolding imagesAt
+  images-points = map-map (λ x. x .point) (imageOf p) (images s p)
+
+  pub length-images : length (imagesAt s p) ≡ length (images s p)
+  unfolding imagesAt
+  length-images = length-map (images s p) (imageOf p)
 
 -- ---- the address of a candidate
 row-size : (u v w x y z : ℤ) → natAbs u ≤ 2000000 → natAbs v ≤ 2000000 → natAbs w ≤ 2000000 → natAbs x ≤ 4112 → natAbs y ≤ 4112 → natAbs z ≤ 4112

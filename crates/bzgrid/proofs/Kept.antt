@@ -7,23 +7,31 @@ use lib.IntN.{ℤ}
 use lib.Ieee.{Float, lt}
 use Rattle.integer.specs.Checked.{pick}
 use Rattle.common.specs.Matrix.{Vec}
+use Rattle.common.specs.Array.{vectorOf}
 use Rattle.grgrid.specs.Grid.{address}
-use Rattle.bzgrid.specs.Search.{Search, Split, Span, Numbers, splitReduced, distance, searchRange, rangeFits, firstBox, wholeBox, box, near, candidates, bound, setBzAddress, keptBy, imagesFrom, imagesOf, images}
+use Rattle.bzsearch.specs.Search.{Search, Split, Span, Numbers, splitReduced, distance, searchRange, rangeFits, firstBox, wholeBox, box, near, candidates, bound, setBzAddress, keptBy, imagesFrom, imagesOf, images}
 use Rattle.bzgrid.specs.Table.{imageOf, imagesAt}
-use Rattle.bzgrid.specs.Writing.{Tables, store, stored, kept}
+use Rattle.bzgrid.specs.Writing.{Tables, store, stored, keep, kept}
+use Rattle.bzsearch.specs.SearchView.{searchOf, pointSplit}
+use Rattle.bzsearch.specs.declared.search.BzSearch.{BzSearch}
+use Rattle.bzsearch.specs.declared.search.Point.{Point}
+
+-- ---- the walk that keeps images
+abbrev pub keeping : BzSearch → Point → Float → Tables → Vec ℤ → Tables
+keeping s p bound = keep (searchOf s) (p .index) (vectorOf (p .address)) (pointSplit p) bound
 
 both : {A B C : Type 0} (b : Bool) (g : A → C) (k : B → C) {x y : A} {u v : B} → g x ≡ k u → g y ≡ k v → g (pick b x y) ≡ k (pick b u v)
 both true g k p q = p
 both false g k p q = q
 
 module _ {A : Type 0} (i : ℕ) (q : A → Bool) (h : A → Vec ℤ) where
-  abbrev keeping : Tables → A → Tables
-  keeping t m = pick (q m) (store t (imageOf i (h m))) t
+  abbrev tried : Tables → A → Tables
+  tried t m = pick (q m) (store t (imageOf i (h m))) t
 
-  kept-stored : (t : Tables) (ms : List A) → foldl keeping t ms ≡ stored t (map (imageOf i) (keptBy q h ms))
+  kept-stored : (t : Tables) (ms : List A) → foldl tried t ms ≡ stored t (map (imageOf i) (keptBy q h ms))
   kept-stored t [] = refl
   kept-stored t (m ∷ ms) =
-      both (q m) (λ u. foldl keeping u ms) (λ l. stored t (map (imageOf i) l)) {u = h m ∷ keptBy q h ms} {v = keptBy q h ms}
+      both (q m) (λ u. foldl tried u ms) (λ l. stored t (map (imageOf i) l)) {u = h m ∷ keptBy q h ms} {v = keptBy q h ms}
       (kept-stored (store t (imageOf i (h m))) ms) (kept-stored t ms)
 
 pub boxes-candidates : (r : Vec Span) {x y : Vec Numbers} {n : Bool} → x ≡ firstBox r → y ≡ wholeBox r → n ≡ near r → box false x ++ pick n [] (box true y) ≡ candidates r

@@ -12,7 +12,7 @@ use lib.Seq.{drop-drop}
 use Rattle.integer.specs.Checked.{pick}
 use Rattle.integer.proofs.Test.{and-l, and-r}
 use Rattle.common.specs.Array.{items}
-use Rattle.bzgrid.specs.Search.{rows}
+use Rattle.bzsearch.specs.Search.{rows}
 use Rattle.bzgrid.specs.Table.{Image, first, others, dense, sparse, addressList, pointList}
 use Rattle.bzgrid.specs.BzGridAddresses.{allFound, padded}
 use Rattle.bzgrid.specs.Writing.{putAt, Tables, tables, store, stored, restart, written, ifSparse}

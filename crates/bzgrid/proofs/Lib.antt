@@ -1,13 +1,3 @@
-pub mod Spans
-pub mod Rows
-pub mod Literals
-pub mod Sizes
-pub mod Coordinates
-pub mod Listing
-pub mod AxisNumbers
-pub mod CandidateSet
-pub mod Images
-pub mod LatticeBounds
 pub mod ImageBounds
 pub mod Runs
 pub mod Layouts

@@ -12,8 +12,8 @@ use Rattle.integer.specs.Checked.{pick}
 use Rattle.common.specs.Matrix.{Vec}
 use Rattle.common.specs.Array.{vectorOf, rowAt}
 use Rattle.grgrid.specs.Grid.{size, index}
-use Rattle.bzgrid.specs.Search.{rows}
-use Rattle.bzgrid.specs.Table.{Image, numbersFrom, listed, denseMap, others, doubled, placed, empty, sparseMap, addressList}
+use Rattle.bzsearch.specs.Search.{rows, numbersFrom}
+use Rattle.bzgrid.specs.Table.{Image, listed, denseMap, others, doubled, placed, empty, sparseMap, addressList}
 use Rattle.bzgrid.specs.BzGridAddresses.{padded}
 use Rattle.bzgrid.specs.Writing.{putAt, ifSparse, counted, placedFlat, withMesh}
 use Rattle.bzgrid.specs.Walked.{before, blank}

@@ -26,7 +26,7 @@ use Rattle.bzgrid.specs.declared.Lengths.{Lengths}
 use Rattle.bzgrid.specs.declared.BzGridAddresses.the-variants.{Built, Refused}
 use Rattle.bzgrid.specs.declared.tables.Walk.{Walk}
 use Rattle.bzgrid.specs.declared.tables.Walk.the-variants.{Images, Missing}
-use Rattle.bzgrid.specs.Search.{Search}
+use Rattle.bzsearch.specs.Search.{Search}
 use Rattle.bzgrid.specs.Table.{Image, imagesAt, denseMap, sparseMap, doubled, addressList, pointList}
 use Rattle.bzgrid.specs.BzGridAddresses.{isKnown, isSparse, tableOf, mapOf, mapLength, allFound, lengthsOf, hasRoom, answerFor, padded, buildTests, buildAnswer, buildAddresses, buildMap, buildGrg}
 use Rattle.bzgrid.specs.Writing.{ifSparse, withMesh}

@@ -13,7 +13,7 @@ use lib.ListN.{length, length-append}
 use Rattle.integer.specs.Checked.{pick}
 use Rattle.integer.proofs.Test.{and-in, is-true, is-false, fails}
 use Rattle.bzgrid.specs.declared.tables.Walk.the-variants.{Images, Missing}
-use Rattle.bzgrid.specs.Search.{rows}
+use Rattle.bzsearch.specs.Search.{rows}
 use Rattle.bzgrid.specs.Table.{Image}
 use Rattle.bzgrid.specs.BzGridAddresses.{allFound}
 use Rattle.bzgrid.specs.Writing.{putAt, Tables, tables, stored, restart, ifSparse, counted}

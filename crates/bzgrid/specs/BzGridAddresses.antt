@@ -3,13 +3,12 @@ use mathlib.Core.Bool.{Bool, true, false, not, _&&_}
 use mathlib.Core.List.{List, [], _++_}
 use Prim.Native.Nat.{ℕ, zero, suc, _+_, _*_, _-_}
 use lib.Dec.{leb, eqb}
-use lib.IntN.{ℤ, pos, negsuc, natAbs}
-use lib.Ieee.{Float, binary64, ofInt, le}
+use lib.IntN.{ℤ, pos, negsuc}
+use lib.Ieee.{Float}
 use lib.ListN.{length, replicate}
 use Rattle.integer.specs.Same.{same}
 use Rattle.integer.specs.Checked.{pick}
-use Rattle.float.specs.Rounding.{absOf}
-use Rattle.common.specs.Matrix.{Vec, Mat, entry, allAxes, det}
+use Rattle.common.specs.Matrix.{Vec}
 use Rattle.common.specs.Array.{vectorOf, sidesOf, matrixOf}
 use Rattle.common.specs.FloatMatrix.{floatMatrix}
 use Rattle.common.specs.Limits.{matrixWithin, diagonalFits, shiftFits}
@@ -23,8 +22,8 @@ use Rattle.bzgrid.specs.declared.GridType.the-variants.{Sparse, Dense, U
 use Rattle.bzgrid.specs.declared.Lengths.{Lengths}
 use Rattle.bzgrid.specs.declared.BzGridAddresses.{BzGridAddresses}
 use Rattle.bzgrid.specs.declared.BzGridAddresses.the-variants as answer
-use Rattle.bzgrid.specs.Lattice.{singular}
-use Rattle.bzgrid.specs.Search.{Search, newSearch}
+use Rattle.bzsearch.specs.Lattice.{latticeFits, singular}
+use Rattle.bzsearch.specs.Search.{Search, newSearch, unimodular}
 use Rattle.bzgrid.specs.Table.{Image, imagesAt, dense, denseMap, sparse, sparseMap, empty, addressList, pointList}
 
 abbrev pub gridType : ℤ → GridType
@@ -39,13 +38,6 @@ abbrev pub isSparse : GridType → Bool
 isSparse Sparse = true
 isSparse Dense = false
 isSparse Unknown = false
-
--- finite, and of a size up to 1,000,000
-abbrev pub latticeFits : Mat Float → Bool
-latticeFits m = allAxes (λ j. allAxes (λ k. le (absOf (entry m j k)) (ofInt binary64 (pos 1000000))))
-
-abbrev pub unimodular : Mat ℤ → Bool
-unimodular q = eqb (natAbs (det q)) 1
 
 abbrev pub searchOf : List ℤ → List (List ℤ) → List ℤ → List (List Float) → Search
 searchOf d q ps lattice = newSearch (sidesOf d) (vectorOf ps) (matrixOf q) (floatMatrix lattice)

@@ -6,7 +6,7 @@ use lib.ListN.{length, set, replicate, take, drop}
 use Rattle.common.specs.Matrix.{Vec, mapVec}
 use Rattle.common.specs.Array.{items}
 use Rattle.grgrid.specs.Grid.{size, index}
-use Rattle.bzgrid.specs.Search.{Search, images, rows}
+use Rattle.bzsearch.specs.Search.{Search, images, rows, numbersFrom}
 
 pub record Image : Type 0 where
   pub address : Vec ℤ
@@ -22,10 +22,6 @@ imagesAt s p = map (imageOf p) (images s p)
 -- ---- type 2, dense: the images of one point after those of another; the map holds the place of each point's first image, and at last their number
 abbrev pub dense : (ℕ → List Image) → ℕ → List Image
 dense g n = rows g n
-
-abbrev pub numbersFrom : {A : Type 0} → (ℕ → A) → ℕ → ℕ → List A
-numbersFrom g i zero = []
-numbersFrom g i (suc n) = g i ∷ numbersFrom g (suc i) n
 
 -- g 0, .., g (n - 1)
 abbrev pub listed : {A : Type 0} → (ℕ → A) → ℕ → List A

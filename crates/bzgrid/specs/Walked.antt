@@ -16,7 +16,7 @@ use Rattle.bzgrid.specs.declared.Lengths.{Lengths}
 use Rattle.bzgrid.specs.declared.GridType.{GridType}
 use Rattle.bzgrid.specs.declared.BzGridAddresses.{BzGridAddresses}
 use Rattle.bzgrid.specs.declared.BzGridAddresses.the-variants.{Built, Refused}
-use Rattle.bzgrid.specs.Search.{Search, rows}
+use Rattle.bzsearch.specs.Search.{Search, rows}
 use Rattle.bzgrid.specs.Table.{Image, imagesAt, others, doubled, addressList, pointList}
 use Rattle.bzgrid.specs.BzGridAddresses.{tableOf, mapOf, allFound, hasRoom, padded}
 use Rattle.bzgrid.specs.Writing.{Tables, tables, ifSparse, written, counted}

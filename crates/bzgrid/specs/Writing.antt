@@ -11,7 +11,7 @@ use Rattle.integer.specs.Checked.{pick}
 use Rattle.common.specs.Matrix.{Vec}
 use Rattle.common.specs.Array.{items, vectorOf, rowAt}
 use Rattle.grgrid.specs.Grid.{size, index}
-use Rattle.bzgrid.specs.Search.{Search, Split, distance, setBzAddress}
+use Rattle.bzsearch.specs.Search.{Search, Split, distance, setBzAddress}
 use Rattle.bzgrid.specs.Table.{Image, imageOf}
 
 -- the k-th run of w places

@@ -1,36 +1,27 @@
 // Brillouin-zone grid address construction.
-mod candidates;
-mod lattice;
-mod search;
 mod tables;
 
+use bzsearch::BzSearch;
 use common::Refusal;
 use common::Tested;
 use grgrid::Grid;
-pub use lattice::bz_tolerance;
-use search::BzSearch;
-pub use search::flat_d;
-pub use search::length_squared;
 use tables::Walk;
 ghost use mathlib.Core.Path.{_≡_};
 ghost use mathlib.Core.Bool.{true, false};
 ghost use Prim.Native.Nat.{_+_, _*_, _≤_, _<_};
 ghost use lib.Dec.{T};
 ghost use lib.IntN.{pos, negsuc};
-ghost use lib.Ieee.{binary64, ofInt, le};
 ghost use lib.ListN.{length, replicate};
-ghost use Rattle.float.specs.Rounding.{absOf};
-ghost use Rattle.common.specs.Matrix.{side, allAxes};
 ghost use Rattle.common.specs.Array.{matrixOf};
-ghost use Rattle.common.specs.FloatMatrix.{floatVector, floatMatrix};
 ghost use Rattle.common.specs.Limits.{matrixWithin};
 ghost use Rattle.grgrid.specs.Grid.{size};
 ghost use Rattle.grgrid.specs.Sides.{sides, GridFits};
 ghost use Rattle.bzgrid.specs.Table.{imagesAt, doubled};
 ghost use Rattle.bzgrid.specs.Writing.{ifSparse, placedFlat, withMesh};
 ghost use Rattle.bzgrid.specs.Walked.{walkOf, imagesIn, blank, WrittenTo, lengthsFor, judged, isBuilt, Filled, MeshFits};
-ghost use Rattle.bzgrid.specs.SearchView.{searchOf, Ready};
-ghost use Rattle.bzgrid.specs.BzGridAddresses.{gridType, isKnown, isSparse, latticeFits, unimodular, allFound, withinLimits, inputTests, hasRoom, buildAnswer, buildAddresses, buildMap, buildGrg, bzAnswer, addressesWritten, mapWritten, grgWritten};
+ghost use Rattle.bzsearch.specs.SearchView.{searchOf, Ready};
+ghost use Rattle.bzsearch.specs.Search.{unimodular};
+ghost use Rattle.bzgrid.specs.BzGridAddresses.{gridType, isKnown, isSparse, allFound, withinLimits, inputTests, hasRoom, buildAnswer, buildAddresses, buildMap, buildGrg, bzAnswer, addressesWritten, mapWritten, grgWritten};
 
 // The layout of an image table: type 1 is sparse, type 2 dense.
 pub enum GridType {
@@ -64,32 +55,11 @@ pub fn grid_type(t: i64) -> GridType
     GridType::Unknown
 }
 
-fn entry_fits(x: f64) -> bool
-    ensures { λ r. ⌜ r ≡ le (absOf x) (ofInt binary64 (pos 1000000)) ⌝ }
-{
-    float::abs(x) <= 1000000.0
-}
-
-fn row_fits(a: [f64; 3]) -> bool
-    ensures { λ r. ⌜ r ≡ allAxes (λ k. le (absOf (side (floatVector a) k)) (ofInt binary64 (pos 1000000))) ⌝ }
-{
-    common::all_three(entry_fits(a[0]), entry_fits(a[1]), entry_fits(a[2]))
-}
-
-pub fn lattice_fits(m: [[f64; 3]; 3]) -> bool
-    ensures { λ r. ⌜ r ≡ latticeFits (floatMatrix m) ⌝ }
-{
-    let x = m[0];
-    let y = m[1];
-    let z = m[2];
-    common::all_three(row_fits(x), row_fits(y), row_fits(z))
-}
-
 fn is_unimodular(q: [[i64; 3]; 3]) -> bool
     requires { ⌜ T (matrixWithin 1000 (matrixOf q)) ⌝ }
     ensures { λ r. ⌜ r ≡ unimodular (matrixOf q) ⌝ }
 {
-    integer::unsigned_abs(common::det_i(q)) == 1
+    integer::unsigned_abs(integer_matrix::det_i(q)) == 1
 }
 
 fn within_limits(d: [i64; 3], q: [[i64; 3]; 3], ps: [i64; 3], lattice: [[f64; 3]; 3]) -> bool
@@ -101,7 +71,7 @@ fn within_limits(d: [i64; 3], q: [[i64; 3]; 3], ps: [i64; 3], lattice: [[f64; 3]
     common::all_three(
         common::matrix_within(q, 1000),
         common::shift_fits(ps),
-        lattice_fits(lattice),
+        bzsearch::lattice_fits(lattice),
     )
 }
 
@@ -123,7 +93,7 @@ fn input_tests(
     if !is_unimodular(q) {
         return Tested::Refused(Refusal::NotUnimodularQ);
     }
-    if lattice::is_singular(lattice) {
+    if bzsearch::is_singular(lattice) {
         return Tested::Refused(Refusal::SingularReciprocalLattice);
     }
     Tested::Accepted
@@ -248,7 +218,7 @@ fn walk_points(
 {
     let base = tables::if_sparse(sparse, 8 * n);
     wipe(&mut *addresses, &mut *map, &mut *grg);
-    s.write_table(sparse, n, base, addresses, map, grg)
+    tables::write_table(s, sparse, n, base, addresses, map, grg)
 }
 
 // Both layouts, from a search within the limits. Where they are refused the outputs say nothing.

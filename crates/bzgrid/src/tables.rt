@@ -1,8 +1,9 @@
 // Image tables: a walk over the points that writes the images of each, for both layouts.
-use crate::candidates;
-use crate::candidates::Boxes;
-use crate::candidates::Numbers;
-use crate::search::BzSearch;
+use bzsearch::BzSearch;
+use bzsearch::Point;
+use bzsearch::candidates;
+use bzsearch::candidates::Boxes;
+use bzsearch::candidates::Numbers;
 use grgrid::Grid;
 ghost use mathlib.Core.Path.{_≡_};
 ghost use mathlib.Core.Bool.{true, false};
@@ -14,22 +15,14 @@ ghost use lib.ListN.{length};
 ghost use Rattle.integer.specs.Checked.{pick};
 ghost use Rattle.common.specs.Matrix.{X, Y};
 ghost use Rattle.common.specs.Array.{along, vectorOf, items, Sized};
-ghost use Rattle.grgrid.specs.Grid.{size, address};
+ghost use Rattle.grgrid.specs.Grid.{size};
 ghost use Rattle.grgrid.specs.Sides.{sides, GridFits};
-ghost use Rattle.bzgrid.specs.Search.{splitReduced, candidates, chosen, lineAt, planeAt, box, rows};
+ghost use Rattle.bzsearch.specs.Search.{chosen, lineAt, planeAt, box, rows};
 ghost use Rattle.bzgrid.specs.Table.{imageOf, imagesAt, doubled};
 ghost use Rattle.bzgrid.specs.BzGridAddresses.{allFound};
 ghost use Rattle.bzgrid.specs.Writing.{putAt, tables, store, stored, keep, kept, ifSparse, placedFlat};
 ghost use Rattle.bzgrid.specs.Walked.{walkOf, imagesIn, WrittenTo};
-ghost use Rattle.bzgrid.specs.SearchView.{searchOf, numbersView, Room, firstView, wholeView, BoxesRoom, pointSplit, PointFits, Ready};
-
-// A point: what is left of its reduced coordinates and their whole part, its address and its index.
-pub struct Point {
-    pub s0: [f64; 3],
-    pub nint: [i64; 3],
-    pub address: [i64; 3],
-    pub index: usize,
-}
+ghost use Rattle.bzsearch.specs.SearchView.{searchOf, numbersView, Room, firstView, wholeView, BoxesRoom, pointSplit, PointFits, Ready};
 
 // The place of the next image, and that of the one after it.
 pub struct Cursor {
@@ -101,272 +94,253 @@ fn store(i: usize, a: [i64; 3], addresses: &mut [i64], grg: &mut [i64], c: Curso
     }
 }
 
-impl BzSearch {
-    // A candidate under the bound is kept as an image.
-    fn keep(
-        self,
-        p: Point,
-        m: [i64; 3],
-        bound: f64,
-        addresses: &mut [i64],
-        grg: &mut [i64],
-        c: Cursor,
-    ) -> Cursor
-        requires { ⌜ (Ready self) × (PointFits p) ⌝ ∗ ⌜ Sized 16 m ⌝ ∗ ⌜ (c .at ≤ c .next) × (c .next + 1 ≤ 1099511627776) ⌝ }
-        ensures { λ r. ⌜ tables (now (addresses .exit)) (now (grg .exit)) (r .at) (r .next) ≡ keep (searchOf self) (p .index) (vectorOf (p .address)) (pointSplit p) bound (tables (now (addresses .entry)) (now (grg .entry)) (c .at) (c .next)) (vectorOf m) ⌝ }
-        ensures { λ r. ⌜ (r .at ≤ r .next) × (c .next ≤ r .next) × (r .next ≤ c .next + 1) ⌝ }
-    {
-        let s0 = p.s0;
-        if self.distance(s0, m) < bound {
-            let address = p.address;
-            let nint = p.nint;
-            return store(
-                p.index,
-                self.set_bz_address(m, address, nint),
-                addresses,
-                grg,
-                c,
-            );
-        }
-        c
+// A candidate under the bound is kept as an image.
+fn keep(
+    bz: BzSearch,
+    p: Point,
+    m: [i64; 3],
+    bound: f64,
+    addresses: &mut [i64],
+    grg: &mut [i64],
+    c: Cursor,
+) -> Cursor
+    requires { ⌜ (Ready bz) × (PointFits p) ⌝ ∗ ⌜ Sized 16 m ⌝ ∗ ⌜ (c .at ≤ c .next) × (c .next + 1 ≤ 1099511627776) ⌝ }
+    ensures { λ r. ⌜ tables (now (addresses .exit)) (now (grg .exit)) (r .at) (r .next) ≡ keep (searchOf bz) (p .index) (vectorOf (p .address)) (pointSplit p) bound (tables (now (addresses .entry)) (now (grg .entry)) (c .at) (c .next)) (vectorOf m) ⌝ }
+    ensures { λ r. ⌜ (r .at ≤ r .next) × (c .next ≤ r .next) × (r .next ≤ c .next + 1) ⌝ }
+{
+    let s0 = p.s0;
+    if bz.distance(s0, m) < bound {
+        let address = p.address;
+        let nint = p.nint;
+        return store(
+            p.index,
+            bz.set_bz_address(m, address, nint),
+            addresses,
+            grg,
+            c,
+        );
     }
+    c
+}
 
-    fn keep_one(
-        self,
-        p: Point,
-        m: [i64; 3],
-        rest: bool,
-        bound: f64,
-        addresses: &mut [i64],
-        grg: &mut [i64],
-        c: Cursor,
-    ) -> Cursor
-        requires { ⌜ (Ready self) × (PointFits p) ⌝ ∗ ⌜ Sized 16 m ⌝ ∗ ⌜ (c .at ≤ c .next) × (c .next + 1 ≤ 1099511627776) ⌝ }
-        ensures { λ r. ⌜ tables (now (addresses .exit)) (now (grg .exit)) (r .at) (r .next) ≡ kept (searchOf self) (p .index) (vectorOf (p .address)) (pointSplit p) bound (tables (now (addresses .entry)) (now (grg .entry)) (c .at) (c .next)) (chosen rest (vectorOf m)) ⌝ }
-        ensures { λ r. ⌜ (r .at ≤ r .next) × (c .next ≤ r .next) × (r .next ≤ c .next + 1) ⌝ }
-    {
-        if rest {
-            if !candidates::is_outside(m) {
-                return c;
-            }
-        }
-        self.keep(p, m, bound, addresses, grg, c)
-    }
-
-    fn keep_line(
-        self,
-        p: Point,
-        m: [i64; 3],
-        z: Numbers,
-        rest: bool,
-        bound: f64,
-        addresses: &mut [i64],
-        grg: &mut [i64],
-        c: Cursor,
-    ) -> Cursor
-        requires { ⌜ (Ready self) × (PointFits p) ⌝ ∗ ⌜ Sized 16 m ⌝ ∗ ⌜ Room (numbersView z) ⌝ ∗ ⌜ (c .at ≤ c .next) × (c .next + 33 ≤ 1099511627776) ⌝ }
-        ensures { λ r. ⌜ tables (now (addresses .exit)) (now (grg .exit)) (r .at) (r .next) ≡ kept (searchOf self) (p .index) (vectorOf (p .address)) (pointSplit p) bound (tables (now (addresses .entry)) (now (grg .entry)) (c .at) (c .next)) (rows (lineAt rest (numbersView z) (along m X) (along m Y)) (z .n)) ⌝ }
-        ensures { λ r. ⌜ (r .at ≤ r .next) × (c .next ≤ r .next) × (r .next ≤ c .next + 33) ⌝ }
-    {
-        let n = z.n;
-        let mut t = c;
-        let mut k = 0;
-        while k < n {
-            t = self.keep_one(
-                p,
-                z.along_z(m, k),
-                rest,
-                bound,
-                &mut *addresses,
-                &mut *grg,
-                t,
-            );
-            k += 1;
-        }
-        t
-    }
-
-    fn keep_plane(
-        self,
-        p: Point,
-        m: [i64; 3],
-        y: Numbers,
-        z: Numbers,
-        rest: bool,
-        bound: f64,
-        addresses: &mut [i64],
-        grg: &mut [i64],
-        c: Cursor,
-    ) -> Cursor
-        requires { ⌜ (Ready self) × (PointFits p) ⌝ ∗ ⌜ Sized 16 m ⌝ ∗ ⌜ (Room (numbersView y)) × (Room (numbersView z)) ⌝ ∗ ⌜ (c .at ≤ c .next) × (c .next + 1089 ≤ 1099511627776) ⌝ }
-        ensures { λ r. ⌜ tables (now (addresses .exit)) (now (grg .exit)) (r .at) (r .next) ≡ kept (searchOf self) (p .index) (vectorOf (p .address)) (pointSplit p) bound (tables (now (addresses .entry)) (now (grg .entry)) (c .at) (c .next)) (rows (planeAt rest (numbersView y) (numbersView z) (along m X)) (y .n)) ⌝ }
-        ensures { λ r. ⌜ (r .at ≤ r .next) × (c .next ≤ r .next) × (r .next ≤ c .next + 1089) ⌝ }
-    {
-        let n = y.n;
-        let mut t = c;
-        let mut k = 0;
-        while k < n {
-            t = self.keep_line(
-                p,
-                y.along_y(m, k),
-                z,
-                rest,
-                bound,
-                &mut *addresses,
-                &mut *grg,
-                t,
-            );
-            k += 1;
-        }
-        t
-    }
-
-    fn keep_box(
-        self,
-        p: Point,
-        x: Numbers,
-        y: Numbers,
-        z: Numbers,
-        rest: bool,
-        bound: f64,
-        addresses: &mut [i64],
-        grg: &mut [i64],
-        c: Cursor,
-    ) -> Cursor
-        requires { ⌜ (Ready self) × (PointFits p) ⌝ ∗ ⌜ (Room (numbersView x)) × (Room (numbersView y)) × (Room (numbersView z)) ⌝ ∗ ⌜ (c .at ≤ c .next) × (c .next + 35937 ≤ 1099511627776) ⌝ }
-        ensures { λ r. ⌜ tables (now (addresses .exit)) (now (grg .exit)) (r .at) (r .next) ≡ kept (searchOf self) (p .index) (vectorOf (p .address)) (pointSplit p) bound (tables (now (addresses .entry)) (now (grg .entry)) (c .at) (c .next)) (box rest (record { x = numbersView x; y = numbersView y; z = numbersView z })) ⌝ }
-        ensures { λ r. ⌜ (r .at ≤ r .next) × (c .next ≤ r .next) × (r .next ≤ c .next + 35937) ⌝ }
-    {
-        let n = x.n;
-        let mut t = c;
-        let mut k = 0;
-        while k < n {
-            t = self.keep_plane(
-                p,
-                x.along_x(k),
-                y,
-                z,
-                rest,
-                bound,
-                &mut *addresses,
-                &mut *grg,
-                t,
-            );
-            k += 1;
-        }
-        t
-    }
-
-    fn keep_rest(
-        self,
-        p: Point,
-        b: Boxes,
-        bound: f64,
-        addresses: &mut [i64],
-        grg: &mut [i64],
-        c: Cursor,
-    ) -> Cursor
-        requires { ⌜ (Ready self) × (PointFits p) ⌝ ∗ ⌜ BoxesRoom b ⌝ ∗ ⌜ (c .at ≤ c .next) × (c .next + 35937 ≤ 1099511627776) ⌝ }
-        ensures { λ r. ⌜ tables (now (addresses .exit)) (now (grg .exit)) (r .at) (r .next) ≡ kept (searchOf self) (p .index) (vectorOf (p .address)) (pointSplit p) bound (tables (now (addresses .entry)) (now (grg .entry)) (c .at) (c .next)) (pick (b .near) [] (box true (wholeView b))) ⌝ }
-        ensures { λ r. ⌜ (r .at ≤ r .next) × (c .next ≤ r .next) × (r .next ≤ c .next + 35937) ⌝ }
-    {
-        if b.near {
+fn keep_one(
+    bz: BzSearch,
+    p: Point,
+    m: [i64; 3],
+    rest: bool,
+    bound: f64,
+    addresses: &mut [i64],
+    grg: &mut [i64],
+    c: Cursor,
+) -> Cursor
+    requires { ⌜ (Ready bz) × (PointFits p) ⌝ ∗ ⌜ Sized 16 m ⌝ ∗ ⌜ (c .at ≤ c .next) × (c .next + 1 ≤ 1099511627776) ⌝ }
+    ensures { λ r. ⌜ tables (now (addresses .exit)) (now (grg .exit)) (r .at) (r .next) ≡ kept (searchOf bz) (p .index) (vectorOf (p .address)) (pointSplit p) bound (tables (now (addresses .entry)) (now (grg .entry)) (c .at) (c .next)) (chosen rest (vectorOf m)) ⌝ }
+    ensures { λ r. ⌜ (r .at ≤ r .next) × (c .next ≤ r .next) × (r .next ≤ c .next + 1) ⌝ }
+{
+    if rest {
+        if !candidates::is_outside(m) {
             return c;
         }
-        let u = b.u;
-        let v = b.v;
-        let w = b.w;
-        self.keep_box(p, u, v, w, true, bound, addresses, grg, c)
     }
+    keep(bz, p, m, bound, addresses, grg, c)
+}
 
-    fn keep_all(
-        self,
-        p: Point,
-        b: Boxes,
-        bound: f64,
-        addresses: &mut [i64],
-        grg: &mut [i64],
-        c: Cursor,
-    ) -> Cursor
-        requires { ⌜ (Ready self) × (PointFits p) ⌝ ∗ ⌜ BoxesRoom b ⌝ ∗ ⌜ (c .at ≤ c .next) × (c .next + 71874 ≤ 1099511627776) ⌝ }
-        ensures { λ r. ⌜ tables (now (addresses .exit)) (now (grg .exit)) (r .at) (r .next) ≡ kept (searchOf self) (p .index) (vectorOf (p .address)) (pointSplit p) bound (tables (now (addresses .entry)) (now (grg .entry)) (c .at) (c .next)) (box false (firstView b) ++ pick (b .near) [] (box true (wholeView b))) ⌝ }
-        ensures { λ r. ⌜ (r .at ≤ r .next) × (c .next ≤ r .next) × (r .next ≤ c .next + 71874) ⌝ }
-    {
-        let x = b.x;
-        let y = b.y;
-        let z = b.z;
-        let t = self.keep_box(p, x, y, z, false, bound, &mut *addresses, &mut *grg, c);
-        self.keep_rest(p, b, bound, addresses, grg, t)
+fn keep_line(
+    bz: BzSearch,
+    p: Point,
+    m: [i64; 3],
+    z: Numbers,
+    rest: bool,
+    bound: f64,
+    addresses: &mut [i64],
+    grg: &mut [i64],
+    c: Cursor,
+) -> Cursor
+    requires { ⌜ (Ready bz) × (PointFits p) ⌝ ∗ ⌜ Sized 16 m ⌝ ∗ ⌜ Room (numbersView z) ⌝ ∗ ⌜ (c .at ≤ c .next) × (c .next + 33 ≤ 1099511627776) ⌝ }
+    ensures { λ r. ⌜ tables (now (addresses .exit)) (now (grg .exit)) (r .at) (r .next) ≡ kept (searchOf bz) (p .index) (vectorOf (p .address)) (pointSplit p) bound (tables (now (addresses .entry)) (now (grg .entry)) (c .at) (c .next)) (rows (lineAt rest (numbersView z) (along m X) (along m Y)) (z .n)) ⌝ }
+    ensures { λ r. ⌜ (r .at ≤ r .next) × (c .next ≤ r .next) × (r .next ≤ c .next + 33) ⌝ }
+{
+    let n = z.n;
+    let mut t = c;
+    let mut k = 0;
+    while k < n {
+        t = keep_one(
+            bz,
+            p,
+            z.along_z(m, k),
+            rest,
+            bound,
+            &mut *addresses,
+            &mut *grg,
+            t,
+        );
+        k += 1;
     }
+    t
+}
 
-    fn point(self, i: usize) -> Point
-        requires { ⌜ Ready self ⌝ ∗ ⌜ i < size (searchOf self .d) ⌝ }
-        ensures { λ r. ⌜ r .index ≡ i ⌝ }
-        ensures { λ r. ⌜ r .address ≡ items (address (searchOf self .d) i) ⌝ }
-        ensures { λ r. ⌜ pointSplit r ≡ splitReduced (searchOf self) (address (searchOf self .d) i) ⌝ }
-        ensures { λ r. ⌜ PointFits r ⌝ }
-    {
-        let d = self.d_diag;
-        let address = grgrid::grid_address_from_index(i, grgrid::grid_of(d));
-        let s = self.split_reduced_coordinates(address);
-        let s0 = s.s0;
-        let nint = s.nint;
-        Point {
-            s0: s0,
-            nint: nint,
-            address: address,
-            index: i,
+fn keep_plane(
+    bz: BzSearch,
+    p: Point,
+    m: [i64; 3],
+    y: Numbers,
+    z: Numbers,
+    rest: bool,
+    bound: f64,
+    addresses: &mut [i64],
+    grg: &mut [i64],
+    c: Cursor,
+) -> Cursor
+    requires { ⌜ (Ready bz) × (PointFits p) ⌝ ∗ ⌜ Sized 16 m ⌝ ∗ ⌜ (Room (numbersView y)) × (Room (numbersView z)) ⌝ ∗ ⌜ (c .at ≤ c .next) × (c .next + 1089 ≤ 1099511627776) ⌝ }
+    ensures { λ r. ⌜ tables (now (addresses .exit)) (now (grg .exit)) (r .at) (r .next) ≡ kept (searchOf bz) (p .index) (vectorOf (p .address)) (pointSplit p) bound (tables (now (addresses .entry)) (now (grg .entry)) (c .at) (c .next)) (rows (planeAt rest (numbersView y) (numbersView z) (along m X)) (y .n)) ⌝ }
+    ensures { λ r. ⌜ (r .at ≤ r .next) × (c .next ≤ r .next) × (r .next ≤ c .next + 1089) ⌝ }
+{
+    let n = y.n;
+    let mut t = c;
+    let mut k = 0;
+    while k < n {
+        t = keep_line(
+            bz,
+            p,
+            y.along_y(m, k),
+            z,
+            rest,
+            bound,
+            &mut *addresses,
+            &mut *grg,
+            t,
+        );
+        k += 1;
+    }
+    t
+}
+
+fn keep_box(
+    bz: BzSearch,
+    p: Point,
+    x: Numbers,
+    y: Numbers,
+    z: Numbers,
+    rest: bool,
+    bound: f64,
+    addresses: &mut [i64],
+    grg: &mut [i64],
+    c: Cursor,
+) -> Cursor
+    requires { ⌜ (Ready bz) × (PointFits p) ⌝ ∗ ⌜ (Room (numbersView x)) × (Room (numbersView y)) × (Room (numbersView z)) ⌝ ∗ ⌜ (c .at ≤ c .next) × (c .next + 35937 ≤ 1099511627776) ⌝ }
+    ensures { λ r. ⌜ tables (now (addresses .exit)) (now (grg .exit)) (r .at) (r .next) ≡ kept (searchOf bz) (p .index) (vectorOf (p .address)) (pointSplit p) bound (tables (now (addresses .entry)) (now (grg .entry)) (c .at) (c .next)) (box rest (record { x = numbersView x; y = numbersView y; z = numbersView z })) ⌝ }
+    ensures { λ r. ⌜ (r .at ≤ r .next) × (c .next ≤ r .next) × (r .next ≤ c .next + 35937) ⌝ }
+{
+    let n = x.n;
+    let mut t = c;
+    let mut k = 0;
+    while k < n {
+        t = keep_plane(
+            bz,
+            p,
+            x.along_x(k),
+            y,
+            z,
+            rest,
+            bound,
+            &mut *addresses,
+            &mut *grg,
+            t,
+        );
+        k += 1;
+    }
+    t
+}
+
+fn keep_rest(
+    bz: BzSearch,
+    p: Point,
+    b: Boxes,
+    bound: f64,
+    addresses: &mut [i64],
+    grg: &mut [i64],
+    c: Cursor,
+) -> Cursor
+    requires { ⌜ (Ready bz) × (PointFits p) ⌝ ∗ ⌜ BoxesRoom b ⌝ ∗ ⌜ (c .at ≤ c .next) × (c .next + 35937 ≤ 1099511627776) ⌝ }
+    ensures { λ r. ⌜ tables (now (addresses .exit)) (now (grg .exit)) (r .at) (r .next) ≡ kept (searchOf bz) (p .index) (vectorOf (p .address)) (pointSplit p) bound (tables (now (addresses .entry)) (now (grg .entry)) (c .at) (c .next)) (pick (b .near) [] (box true (wholeView b))) ⌝ }
+    ensures { λ r. ⌜ (r .at ≤ r .next) × (c .next ≤ r .next) × (r .next ≤ c .next + 35937) ⌝ }
+{
+    if b.near {
+        return c;
+    }
+    let u = b.u;
+    let v = b.v;
+    let w = b.w;
+    keep_box(bz, p, u, v, w, true, bound, addresses, grg, c)
+}
+
+fn keep_all(
+    bz: BzSearch,
+    p: Point,
+    b: Boxes,
+    bound: f64,
+    addresses: &mut [i64],
+    grg: &mut [i64],
+    c: Cursor,
+) -> Cursor
+    requires { ⌜ (Ready bz) × (PointFits p) ⌝ ∗ ⌜ BoxesRoom b ⌝ ∗ ⌜ (c .at ≤ c .next) × (c .next + 71874 ≤ 1099511627776) ⌝ }
+    ensures { λ r. ⌜ tables (now (addresses .exit)) (now (grg .exit)) (r .at) (r .next) ≡ kept (searchOf bz) (p .index) (vectorOf (p .address)) (pointSplit p) bound (tables (now (addresses .entry)) (now (grg .entry)) (c .at) (c .next)) (box false (firstView b) ++ pick (b .near) [] (box true (wholeView b))) ⌝ }
+    ensures { λ r. ⌜ (r .at ≤ r .next) × (c .next ≤ r .next) × (r .next ≤ c .next + 71874) ⌝ }
+{
+    let x = b.x;
+    let y = b.y;
+    let z = b.z;
+    let t = keep_box(bz, p, x, y, z, false, bound, &mut *addresses, &mut *grg, c);
+    keep_rest(bz, p, b, bound, addresses, grg, t)
+}
+
+// The images of point i, in the order of the candidates. There are none where the range of the search leaves -16..16.
+fn write_point(bz: BzSearch, i: usize, addresses: &mut [i64], grg: &mut [i64], c: Cursor) -> Cursor
+    requires { ⌜ Ready bz ⌝ ∗ ⌜ i < size (searchOf bz .d) ⌝ ∗ ⌜ (c .at ≤ c .next) × (c .next + 71874 ≤ 1099511627776) ⌝ }
+    ensures { λ r. ⌜ tables (now (addresses .exit)) (now (grg .exit)) (r .at) (r .next) ≡ stored (tables (now (addresses .entry)) (now (grg .entry)) (c .at) (c .next)) (imagesAt (searchOf bz) i) ⌝ }
+    ensures { λ r. ⌜ (r .at ≤ r .next) × (c .next ≤ r .next) × (r .next ≤ c .next + 71874) ⌝ }
+{
+    let p = bz.point(i);
+    let s0 = p.s0;
+    let r = bz.search_range(s0);
+    if !candidates::range_fits(r) {
+        return c;
+    }
+    let b = candidates::boxes_of(r);
+    keep_all(bz, p, b, bz.bound(s0, b), addresses, grg, c)
+}
+
+// All points below n. The number of images before each goes into the map from place `base` on, and at last the number of all. Where a point has no image
+// the walk ends, and the outputs say nothing.
+pub fn write_table(
+    bz: BzSearch,
+    sparse: bool,
+    n: usize,
+    base: usize,
+    addresses: &mut [i64],
+    map: &mut [i64],
+    grg: &mut [i64],
+) -> Walk
+    requires { ⌜ Ready bz ⌝ ∗ ⌜ n ≡ size (searchOf bz .d) ⌝ ∗ ⌜ base ≤ 524288 ⌝ }
+    ensures { λ r. ⌜ r ≡ walkOf sparse (imagesAt (searchOf bz)) n ⌝ }
+    ensures { λ r. ⌜ imagesIn r < 1099511627776 ⌝ }
+    ensures { λ r. ⌜ (T (allFound (imagesAt (searchOf bz)) n) → WrittenTo sparse (imagesAt (searchOf bz)) n base (now (addresses .entry)) (now (map .entry)) (now (grg .entry)) (now (addresses .exit)) (now (map .exit)) (now (grg .exit))) ⌝ }
+{
+    let from = if_sparse(sparse, n);
+    let mut k = from;
+    let mut i = 0;
+    while i < n {
+        put_count(&mut *map, base + i, k - from);
+        let c = start(sparse, i, k);
+        let t = write_point(bz, i, &mut *addresses, &mut *grg, c);
+        if t.next == c.next {
+            return Walk::Missing;
         }
+        k = t.at;
+        i += 1;
     }
-
-    // The images of point i, in the order of the candidates. There are none where the range of the search leaves -16..16.
-    fn write_point(self, i: usize, addresses: &mut [i64], grg: &mut [i64], c: Cursor) -> Cursor
-        requires { ⌜ Ready self ⌝ ∗ ⌜ i < size (searchOf self .d) ⌝ ∗ ⌜ (c .at ≤ c .next) × (c .next + 71874 ≤ 1099511627776) ⌝ }
-        ensures { λ r. ⌜ tables (now (addresses .exit)) (now (grg .exit)) (r .at) (r .next) ≡ stored (tables (now (addresses .entry)) (now (grg .entry)) (c .at) (c .next)) (imagesAt (searchOf self) i) ⌝ }
-        ensures { λ r. ⌜ (r .at ≤ r .next) × (c .next ≤ r .next) × (r .next ≤ c .next + 71874) ⌝ }
-    {
-        let p = self.point(i);
-        let s0 = p.s0;
-        let r = self.search_range(s0);
-        if !candidates::range_fits(r) {
-            return c;
-        }
-        let b = candidates::boxes_of(r);
-        self.keep_all(p, b, self.bound(s0, b), addresses, grg, c)
-    }
-
-    // All points below n. The number of images before each goes into the map from place `base` on, and at last the number of all. Where a point has no image
-    // the walk ends, and the outputs say nothing.
-    pub fn write_table(
-        self,
-        sparse: bool,
-        n: usize,
-        base: usize,
-        addresses: &mut [i64],
-        map: &mut [i64],
-        grg: &mut [i64],
-    ) -> Walk
-        requires { ⌜ Ready self ⌝ ∗ ⌜ n ≡ size (searchOf self .d) ⌝ ∗ ⌜ base ≤ 524288 ⌝ }
-        ensures { λ r. ⌜ r ≡ walkOf sparse (imagesAt (searchOf self)) n ⌝ }
-        ensures { λ r. ⌜ imagesIn r < 1099511627776 ⌝ }
-        ensures { λ r. ⌜ (T (allFound (imagesAt (searchOf self)) n) → WrittenTo sparse (imagesAt (searchOf self)) n base (now (addresses .entry)) (now (map .entry)) (now (grg .entry)) (now (addresses .exit)) (now (map .exit)) (now (grg .exit))) ⌝ }
-    {
-        let from = if_sparse(sparse, n);
-        let mut k = from;
-        let mut i = 0;
-        while i < n {
-            put_count(&mut *map, base + i, k - from);
-            let c = start(sparse, i, k);
-            let t = self.write_point(i, &mut *addresses, &mut *grg, c);
-            if t.next == c.next {
-                return Walk::Missing;
-            }
-            k = t.at;
-            i += 1;
-        }
-        put_count(map, base + n, k - from);
-        Walk::Images(k)
-    }
+    put_count(map, base + n, k - from);
+    Walk::Images(k)
 }
 
 // Each of the first m addresses at its place on the doubled mesh; the last one wins.

@@ -25,15 +25,15 @@ use Rattle.bzgrid.specs.declared.Lengths.{Lengths}
 use Rattle.bzgrid.specs.declared.BzGridAddresses.the-variants as answer
 use Rattle.bzgrid.specs.declared.GridType.{GridType}
 use Rattle.bzgrid.specs.declared.GridType.the-variants.{Sparse}
-use Rattle.bzgrid.specs.Search.{Search, images}
+use Rattle.bzsearch.specs.Search.{Search, images}
 use Rattle.bzgrid.specs.Table.{imagesAt, addressList, pointList}
 use Rattle.bzgrid.specs.BzGridAddresses.{gridType, searchOf, tableOf, mapOf, allFound, lengthsOf, hasRoom, inputTests, padded, answerFor, answerAfter, buildTests, buildAnswer, buildAddresses, buildMap, buildGrg, bzAnswer, addressesWritten, mapWritten, grgWritten}
-use Rattle.bzgrid.proofs.Images.{Sound, new-sound, length-images}
+use Rattle.bzsearch.proofs.Images.{Sound, new-sound}
 use Rattle.bztable.proofs.ImageTable.{Stands, table-stands}
 use Rattle.bzgrid.proofs.Accepted.{InputAccepted, input-accepted}
 use Rattle.bztable.proofs.DoubledMesh.{Mesh, table-mesh}
-use Rattle.bzgrid.proofs.ImageBounds.{images-total}
-use Rattle.bzgrid.proofs.LatticeBounds.{tolerance-length}
+use Rattle.bzgrid.proofs.ImageBounds.{length-images, images-total}
+use Rattle.bzsearch.proofs.LatticeBounds.{tolerance-length}
 use Rattle.bztable.proofs.TableRead.{found}
 
 module _ (d : List ℤ) (q : List (List ℤ)) (ps : List ℤ) (lattice : List (List Float)) {t : GridType} (i : InputAccepted d q ps lattice t) where

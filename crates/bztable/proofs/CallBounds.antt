@@ -19,13 +19,13 @@ use Rattle.grgrid.specs.Grid.{size, address}
 use Rattle.grgrid.proofs.Accepted.{side-small, grid-fits}
 use Rattle.grgrid.proofs.Lists.{_∈_}
 use Rattle.bzgrid.specs.declared.Lengths.{Lengths}
-use Rattle.bzgrid.specs.Search.{Search, gridCoordinate, images, distance, rangeFits}
-use Rattle.bzgrid.specs.BzGridAddresses.{unimodular, searchOf}
-use Rattle.bzgrid.proofs.Sizes.{inverse-sized}
-use Rattle.bzgrid.proofs.Coordinates.{coordinate-bounded, reduced-bounded, nint-sized, address-below}
-use Rattle.bzgrid.proofs.CandidateSet.{candidate-size}
-use Rattle.bzgrid.proofs.Images.{splitAt, rangeAt, tried, image-made}
-use Rattle.bzgrid.proofs.LatticeBounds.{s0-bounded, distance-length}
+use Rattle.bzsearch.specs.Search.{Search, gridCoordinate, images, distance, rangeFits, unimodular}
+use Rattle.bzgrid.specs.BzGridAddresses.{searchOf}
+use Rattle.bzsearch.proofs.Sizes.{inverse-sized}
+use Rattle.bzsearch.proofs.Coordinates.{coordinate-bounded, reduced-bounded, nint-sized, address-below}
+use Rattle.bzsearch.proofs.CandidateSet.{candidate-size}
+use Rattle.bzsearch.proofs.Images.{splitAt, rangeAt, tried, image-made}
+use Rattle.bzsearch.proofs.LatticeBounds.{s0-bounded, distance-length}
 use Rattle.bzgrid.proofs.ImageBounds.{image-size}
 use Rattle.bztable.proofs.AcceptedCall.{CallAccepted, call-sound, call-found}
 

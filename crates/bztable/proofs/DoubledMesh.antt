@@ -20,12 +20,12 @@ use Rattle.grgrid.specs.Grid.{size, index}
 use Rattle.grgrid.proofs.Lists.{_∈_}
 use Rattle.grgrid.proofs.Folding.{Sides, index-lt, same-index, index-same}
 use Rattle.bzgrid.specs.declared.GridType.the-variants.{Sparse}
-use Rattle.bzgrid.specs.Search.{Search, images, origin, rows}
+use Rattle.bzsearch.specs.Search.{Search, images, origin, rows}
 use Rattle.bzgrid.specs.Table.{Image, imageOf, imagesAt, sparse, doubled, placed, sparseMap, addressList, others, listed}
 use Rattle.bzgrid.specs.BzGridAddresses.{padded}
 use Rattle.bztable.specs.Access.{numberIn, imagePlaces}
 use Rattle.bztable.specs.Reading.{tripleAt}
-use Rattle.bzgrid.proofs.Images.{Sound, image-folds}
+use Rattle.bzsearch.proofs.Images.{Sound, image-folds}
 use Rattle.bztable.proofs.TableRead.{address-reads, length-placed}
 use Rattle.bztable.proofs.ImageTable.{Stands, image-place, place-folds}
 

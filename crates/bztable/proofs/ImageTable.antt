@@ -9,13 +9,14 @@ use Rattle.common.specs.Matrix.{Vec}
 use Rattle.grgrid.specs.Grid.{size, index}
 use Rattle.grgrid.proofs.Lists.{_∈_, Distinct}
 use Rattle.bzgrid.specs.declared.GridType.{GridType}
-use Rattle.bzgrid.specs.Search.{Search, images}
+use Rattle.bzsearch.specs.Search.{Search, images}
 use Rattle.bzgrid.specs.Table.{Image, imageOf, imagesAt, addressList, pointList}
 use Rattle.bzgrid.specs.BzGridAddresses.{isKnown, tableOf, mapOf, allFound, padded}
 use Rattle.bztable.specs.Access.{numberIn, imagePlaces}
 use Rattle.bztable.specs.Reading.{tripleAt}
-use Rattle.bzgrid.proofs.Listing.{map-apart}
-use Rattle.bzgrid.proofs.Images.{Sound, images-distinct, image-folds, images-addresses, images-points}
+use Rattle.bzsearch.proofs.Listing.{map-apart}
+use Rattle.bzsearch.proofs.Images.{Sound, images-distinct, image-folds}
+use Rattle.bzgrid.proofs.ImageBounds.{images-addresses, images-points}
 use Rattle.bztable.proofs.TableRead.{address-reads, point-reads, found, placesOf, places-are, read-places, place-below, place-found}
 
 -- ---- a table of m places that stands for the images of a search: addresses, map, points

@@ -21,7 +21,7 @@ use Rattle.common.specs.Limits.{within, allWithin, matrixWithin}
 use Rattle.common.proofs.Matrix.{axes-of}
 use Rattle.common.proofs.Bounds.{entry-within, matrix-sizes}
 use Rattle.grgrid.proofs.Sizes.{sized-items}
-use Rattle.bzgrid.specs.Search.{origin}
+use Rattle.bzsearch.specs.Search.{origin}
 use Rattle.bztable.specs.Reading.{Read, got, outside, _then_, placeOf, placeAt, near, tripleAt, addressAt}
 
 -- ---- numbers that were asked for or read

@@ -18,13 +18,13 @@ use Rattle.grgrid.specs.Grid.{size, index}
 use Rattle.grgrid.proofs.Lists.{_∈_}
 use Rattle.bzgrid.specs.declared.GridType.{GridType}
 use Rattle.bzgrid.specs.declared.GridType.the-variants.{Sparse, Dense, Unknown}
-use Rattle.bzgrid.specs.Search.{rows}
-use Rattle.bzgrid.specs.Table.{Image, numbersFrom, listed, denseMap, first, others, sparse, doubled, placed, empty, sparseMap, addressList, pointList}
+use Rattle.bzsearch.specs.Search.{rows, numbersFrom}
+use Rattle.bzgrid.specs.Table.{Image, listed, denseMap, first, others, sparse, doubled, placed, empty, sparseMap, addressList, pointList}
 use Rattle.bzgrid.specs.BzGridAddresses.{isKnown, tableOf, mapOf, allFound}
 use Rattle.bztable.specs.Access.{numberIn, placesFrom, imagePlaces}
 use Rattle.bztable.specs.Reading.{tripleAt}
-use Rattle.bzgrid.proofs.AxisNumbers.{below}
-use Rattle.bzgrid.proofs.Listing.{length-rows, rows-part, length-numbers, number-item, number-in, number-of, Reads, read-part}
+use Rattle.bzsearch.proofs.AxisNumbers.{below}
+use Rattle.bzsearch.proofs.Listing.{length-rows, rows-part, length-numbers, number-item, number-in, number-of, Reads, read-part}
 
 -- ---- an address and a point by their place
 address-next : (l : List ℤ) (v : Vec ℤ) (n : ℕ) → tripleAt (items v ++ l) (suc n) ≡ tripleAt l n

@@ -5,7 +5,7 @@ use lib.IntN.{ℤ, pos, natAbs}
 use lib.ListN.{getD}
 use Rattle.bzgrid.specs.declared.GridType.{GridType}
 use Rattle.bzgrid.specs.declared.GridType.the-variants.{Sparse, Dense, Unknown}
-use Rattle.bzgrid.specs.Table.{numbersFrom}
+use Rattle.bzsearch.specs.Search.{numbersFrom}
 
 -- a number of a map or of the table of points
 abbrev pub numberIn : List ℤ → ℕ → ℕ

@@ -3,7 +3,7 @@ ghost use mathlib.Core.Path.{_≡_};
 ghost use mathlib.Core.Bool.{_&&_};
 ghost use Prim.Native.Nat.{_-_};
 ghost use Rattle.common.specs.Array.{vectorOf, Sized};
-ghost use Rattle.bztable.specs.Reading.{near, sameAddress, wholeAddresses, addressAt, addressOf, placeOf, placeAt, find};
+ghost use Rattle.bztable.specs.Reading.{sameAddress, wholeAddresses, addressAt, addressOf, placeOf, placeAt, find};
 ghost use Rattle.bztable.specs.ReadingView.{addressView, placeView, PlaceBelow, foundView, FoundBelow};
 
 // Three numbers that were read, zeros where they lie outside.
@@ -31,23 +31,13 @@ pub fn whole_addresses(list: &[i64]) -> bool
     list.len() % 3 == 0
 }
 
-fn is_near(a: [i64; 3]) -> bool
-    ensures { λ r. ⌜ r ≡ near (vectorOf a) ⌝ }
-{
-    common::all_three(
-        common::within(a[0], 10000000000000),
-        common::within(a[1], 10000000000000),
-        common::within(a[2], 10000000000000),
-    )
-}
-
 pub fn address_at(addresses: &[i64], i: usize) -> Address
     ensures { λ r. ⌜ addressView r ≡ addressAt (now (addresses .entry)) i ⌝ }
     ensures { λ r. ⌜ Sized 10000000000000 (r .numbers) ⌝ }
 {
     if i < addresses.len() / 3 {
         let a = common::row_at(addresses, 3 * i);
-        if is_near(a) {
+        if common::row_within(a, 10000000000000) {
             return Address {
                 numbers: a,
                 inside: true,

@@ -1,12 +1,11 @@
 // 3 by 3 matrices and vectors by value.
-use crate::integer_matrix::dot_i;
 ghost use mathlib.Core.Path.{_≡_};
 ghost use Prim.Native.Nat.{_+_, _*_, _≤_};
 ghost use lib.Dec.{T};
 ghost use lib.ListN.{length};
 ghost use Rattle.common.specs.Matrix.{_▹_};
-ghost use Rattle.common.specs.Array.{vectorOf, items, matrixOf, rows, rowAt, matrixAt};
-ghost use Rattle.common.specs.IntegerMatrix.{applyFits};
+ghost use Rattle.common.specs.Array.{along, vectorOf, items, matrixOf, rows, rowAt, matrixAt, dotOf};
+ghost use Rattle.common.specs.IntegerMatrix.{dotFits, applyFits};
 
 // Three numbers of a lent list.
 pub fn row_at(list: &[i64], at: usize) -> [i64; 3]
@@ -26,6 +25,13 @@ pub fn matrix_at(list: &[i64], n: usize) -> [[i64; 3]; 3]
 }
 
 // Where every number on the way fits.
+pub fn dot_i(a: [i64; 3], b: [i64; 3]) -> i64
+    requires { ⌜ T (dotFits (along a) (along b)) ⌝ }
+    ensures { λ r. ⌜ r ≡ dotOf a b ⌝ }
+{
+    a[0] * b[0] + a[1] * b[1] + a[2] * b[2]
+}
+
 pub fn matvec_ii(a: [[i64; 3]; 3], b: [i64; 3]) -> [i64; 3]
     requires { ⌜ T (applyFits (matrixOf a) (vectorOf b)) ⌝ }
     ensures { λ r. ⌜ r ≡ items (matrixOf a ▹ vectorOf b) ⌝ }

@@ -1,33 +1,18 @@
 // What the modules share: limits, refusals and the filling of outputs.
 mod array;
-mod float_matrix;
-mod integer_matrix;
 mod limits;
 
+pub use array::dot_i;
 pub use array::matrix_at;
 pub use array::matvec_ii;
 pub use array::row_at;
-pub use float_matrix::det_d;
-pub use float_matrix::mat_i_to_d;
-pub use float_matrix::matmul_d;
-pub use float_matrix::matvec_dd;
-pub use float_matrix::matvec_id;
-pub use float_matrix::row_to_d;
-pub use integer_matrix::det_fits;
-pub use integer_matrix::det_i;
-pub use integer_matrix::flat;
-pub use integer_matrix::matmul_fits;
-pub use integer_matrix::matmul_i;
-pub use integer_matrix::negate_i;
-pub use integer_matrix::negation_fits;
-pub use integer_matrix::nested;
-pub use integer_matrix::transpose_i;
 pub use limits::all_three;
 pub use limits::all_within;
 pub use limits::diagonal_fits;
 pub use limits::matrix_within;
 pub use limits::point_fits;
 pub use limits::rotations_fit;
+pub use limits::row_within;
 pub use limits::shift_fits;
 pub use limits::whole_matrices;
 pub use limits::within;

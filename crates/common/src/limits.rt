@@ -32,7 +32,7 @@ pub fn all_within(list: &[i64], k: u64) -> bool
     true
 }
 
-fn row_within(a: [i64; 3], k: u64) -> bool
+pub fn row_within(a: [i64; 3], k: u64) -> bool
     ensures { λ r. ⌜ r ≡ allAxes (λ x. within k (along a x)) ⌝ }
 {
     all_three(within(a[0], k), within(a[1], k), within(a[2], k))

@@ -10,15 +10,15 @@ use Rattle.common.specs.declared.Refusal.the-variants.{Singular, OutsideLimits}
 use Rattle.common.specs.Matrix.{Vec, Mat, _·_, det, diagonal, identity}
 use Rattle.common.proofs.Matrix.{identity-product, product-identity}
 use Rattle.common.proofs.Unimodular.{Regular, Unimodular, unimodular-transpose}
-use Rattle.snf3x3.specs.Result.{Result, ok}
-use Rattle.snf3x3.specs.Stages.{Triple, Outcome, second}
-use Rattle.snf3x3.specs.Finalize.{finalize}
+use Rattle.snf_steps.specs.Result.{Result, ok}
+use Rattle.snf_steps.specs.Stages.{Triple, Outcome, second}
+use Rattle.snf_steps.specs.Finalize.{finalize}
 use Rattle.common.specs.Limits.{matrixWithin}
 use Rattle.snf3x3.specs.Snf3x3.{Answer, refused, diagonalised, answer, round, after, rounds, snf3x3}
-use Rattle.snf3x3.proofs.Accepted.{Accepted, accepted, overflowed, accepted-bind, accepted-map, accepted-pick}
-use Rattle.snf3x3.proofs.FittingEntries.{given-fits}
-use Rattle.snf3x3.proofs.Keeping.{IsDiagonal, Sound, first-leaves, second-leaves}
-use Rattle.snf3x3.proofs.Ending.{Finalized, finalize-ends}
+use Rattle.snf_steps.proofs.Accepted.{Accepted, accepted, overflowed, accepted-bind, accepted-map, accepted-pick}
+use Rattle.snf_steps.proofs.FittingEntries.{given-fits}
+use Rattle.snf_steps.proofs.Keeping.{IsDiagonal, Sound, first-leaves, second-leaves}
+use Rattle.snf_steps.proofs.Ending.{Finalized, finalize-ends}
 
 pub record Diagonalises (A : Mat ℤ) (d : Vec ℤ) (P Q : Mat ℤ) : Type 0 where
   pub product : P · A · Q ≡ diagonal d

@@ -7,11 +7,11 @@ use Rattle.common.specs.declared.Refusal.the-variants.{Singular, Overflow}
 use Rattle.common.specs.Refusal.{numberOf}
 use Rattle.common.specs.Matrix.{Vec, Mat, entries, diagonal}
 use Rattle.common.specs.IntegerMatrix.{productFits, detFits}
-use Rattle.snf3x3.specs.Result.{Result, ok, overflow}
-use Rattle.snf3x3.specs.Gcd.{Euclid, step, euclid, extendedGcd}
-use Rattle.snf3x3.specs.Columns.{multiply, makeZero, firstColumn, secondColumn}
-use Rattle.snf3x3.specs.Stages.{oneLoop, first, second}
-use Rattle.snf3x3.specs.Finalize.{makeDiagPositive, finalizeSort, finalizeDisturb, flipPQ, putInOrder, finalize}
+use Rattle.snf_steps.specs.Result.{Result, ok, overflow}
+use Rattle.snf_steps.specs.Gcd.{Euclid, step, euclid, extendedGcd}
+use Rattle.snf_steps.specs.Columns.{multiply, makeZero, firstColumn, secondColumn}
+use Rattle.snf_steps.specs.Stages.{oneLoop, first, second}
+use Rattle.snf_steps.specs.Finalize.{makeDiagPositive, finalizeSort, finalizeDisturb, flipPQ, putInOrder, finalize}
 use Rattle.snf3x3.specs.Snf3x3.{Answer, refused, diagonalised, round, rounds, snf3x3}
 
 pub record Row : Type 0 where

@@ -3,9 +3,9 @@ use mathlib.Core.Path.{_≡_, sym, _∙_, ap}
 use mathlib.Core.Bool.{Bool, true, false}
 use Prim.Native.Nat.{ℕ, suc}
 use Rattle.common.specs.declared.Refusal.the-variants.{Overflow, NotConverged}
-use Rattle.snf3x3.specs.Result.{Result, provided}
-use Rattle.snf3x3.specs.Stages.{Triple, Outcome}
-use Rattle.snf3x3.specs.Finalize.{finalize}
+use Rattle.snf_steps.specs.Result.{Result, provided}
+use Rattle.snf_steps.specs.Stages.{Triple, Outcome}
+use Rattle.snf_steps.specs.Finalize.{finalize}
 use Rattle.snf3x3.specs.Snf3x3.{Answer, refused, answer, after, round, rounds}
 
 abbrev outcome : Bool → Triple → Outcome

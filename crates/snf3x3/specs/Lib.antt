@@ -1,13 +1,3 @@
-pub mod Result
-pub mod Gcd
-pub mod GcdView
-pub mod Elementary
-pub mod Columns
-pub mod ColumnsView
-pub mod Stages
-pub mod StagesView
-pub mod Finalize
 pub mod Snf3x3
 pub mod Written
 pub mod SameGrid
-pub mod Settled

@@ -6,9 +6,9 @@ use Rattle.common.specs.declared.Refusal.{Refusal}
 use Rattle.common.specs.declared.Refusal.the-variants.{Singular, NotConverged, OutsideLimits, Overflow}
 use Rattle.common.specs.Limits.{matrixWithin}
 use Rattle.common.specs.Matrix.{Vec, Mat, transpose, det, identity}
-use Rattle.snf3x3.specs.Result.{Result, ok, overflow, _then_}
-use Rattle.snf3x3.specs.Stages.{Triple, Outcome, first, second}
-use Rattle.snf3x3.specs.Finalize.{finalize}
+use Rattle.snf_steps.specs.Result.{Result, ok, overflow, _then_}
+use Rattle.snf_steps.specs.Stages.{Triple, Outcome, first, second}
+use Rattle.snf_steps.specs.Finalize.{finalize}
 
 pub data Answer : Type 0 where
   refused : Refusal → Answer

@@ -1,21 +1,16 @@
 // Diagonalising a 3 by 3 integer matrix.
-mod columns;
-mod elementary;
-mod finalize;
-mod gcd;
-mod mixing;
-mod stages;
-
 use common::Refusal;
 use common::Tested;
-use stages::Outcome;
-use stages::Triple;
+use snf_steps::finalize;
+use snf_steps::stages;
+use snf_steps::stages::Outcome;
+use snf_steps::stages::Triple;
 ghost use mathlib.Core.Path.{_≡_};
 ghost use mathlib.Core.Bool.{true};
 ghost use Prim.Native.Nat.{_≤_};
 ghost use Rattle.common.specs.Array.{vectorOf, matrixOf};
-ghost use Rattle.snf3x3.specs.Result.{_then_, fitting};
-ghost use Rattle.snf3x3.specs.StagesView.{threeOf, tripleOf, outcomeOf};
+ghost use Rattle.snf_steps.specs.Result.{_then_, fitting};
+ghost use Rattle.snf_steps.specs.StagesView.{threeOf, tripleOf, outcomeOf};
 ghost use Rattle.snf3x3.specs.Snf3x3 as walk;
 ghost use Rattle.snf3x3.specs.Written.{written};
 ghost use Rattle.snf3x3.specs.SameGrid.{sameNumbers, sameAs, sameGrid};
@@ -101,10 +96,10 @@ pub fn snf3x3(a: [[i64; 3]; 3]) -> Snf
     if !common::matrix_within(a, 1000000) {
         return refuse(Refusal::OutsideLimits);
     }
-    if common::det_i(a) == 0 {
+    if integer_matrix::det_i(a) == 0 {
         return refuse(Refusal::Singular);
     }
-    let m = common::flat(a);
+    let m = integer_matrix::flat(a);
     rounds(Triple {
         a: m,
         p: [1, 0, 0, 0, 1, 0, 0, 0, 1],

@@ -64,7 +64,7 @@ fn scaled_row(a: [f64; 3], dj: f64, d: [f64; 3]) -> [f64; 3]
 fn transform(q_inv: [[f64; 3]; 3], q: [[f64; 3]; 3], d: [f64; 3], r: [[f64; 3]; 3]) -> [[f64; 3]; 3]
     ensures { λ s. ⌜ s ≡ rows (transformOver (floatMatrix «q_inv») (floatMatrix q) (floatVector d) (floatMatrix r)) ⌝ }
 {
-    let m = common::matmul_d(common::matmul_d(q_inv, r), q);
+    let m = float_matrix::matmul_d(float_matrix::matmul_d(q_inv, r), q);
     let x = m[0];
     let y = m[1];
     let z = m[2];
@@ -227,15 +227,15 @@ fn transform_all(rotations: &[i64], d: [i64; 3], q: [[i64; 3]; 3], out: &mut [i6
     ensures { λ r. ⌜ r ≡ allWhole (vectorOf d) (matrixOf q) (matrices (now (rotations .entry))) ⌝ }
     ensures { λ r. ⌜ (r ≡ true → now (out .exit) ≡ transformedList (vectorOf d) (matrixOf q) (matrices (now (rotations .entry)))) ⌝ }
 {
-    let q_d = common::mat_i_to_d(q);
-    let q_inv = inverse_f64(q_d, common::det_d(q_d));
-    transform_each(rotations, q_inv, q_d, common::row_to_d(d), out)
+    let q_d = float_matrix::mat_i_to_d(q);
+    let q_inv = inverse_f64(q_d, float_matrix::det_d(q_d));
+    transform_each(rotations, q_inv, q_d, float_matrix::row_to_d(d), out)
 }
 
 fn singular_q(q: [[i64; 3]; 3]) -> bool
     ensures { λ r. ⌜ r ≡ singularQ (matrixOf q) ⌝ }
 {
-    common::det_d(common::mat_i_to_d(q)) == 0.0
+    float_matrix::det_d(float_matrix::mat_i_to_d(q)) == 0.0
 }
 
 fn entries_fit(rotations: &[i64], d: [i64; 3], q: [[i64; 3]; 3]) -> bool

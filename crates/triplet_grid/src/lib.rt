@@ -51,7 +51,7 @@ fn store_matrix(out: &mut [i64], at: usize, m: [[i64; 3]; 3])
     requires { ⌜ at + 9 ≤ length (now out) ⌝ }
     ensures { λ _. ⌜ now (out .exit) ≡ paste (now (out .entry)) at (entries (matrixOf m) []) 9 ⌝ }
 {
-    let f = common::flat(m);
+    let f = integer_matrix::flat(m);
     let mut k = 0;
     while k < 9 {
         out[at + k] = f[k];

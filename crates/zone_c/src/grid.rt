@@ -1,38 +1,8 @@
 // The exports of grgrid.
 use common::Refusal;
 use grgrid::Addresses;
-use grgrid::IrGridMap;
-ghost use mathlib.Core.Path.{_≡_};
 ghost use lib.ListN.{length};
-ghost use Rattle.zone_c.specs.Grids.{classesNumber, classesTold, classLengths, IrGridMapTold, AddressesTold};
-
-fn class_lengths(d: usize, ps: usize, told: usize) -> bool
-    ensures { λ r. ⌜ r ≡ classLengths d ps told ⌝ }
-{
-    if d == 3 {
-        if ps == 3 {
-            return told == 1;
-        }
-    }
-    false
-}
-
-fn tell_classes(answer: IrGridMap, told: &mut [i64]) -> i64
-    requires { ⌜ length (now told) ≡ 1 ⌝ }
-    ensures { λ r. ⌜ r ≡ classesNumber answer ⌝ }
-    ensures { λ _. ⌜ now (told .exit) ≡ classesTold answer ⌝ }
-{
-    match answer {
-        IrGridMap::Classes(n) => {
-            told[0] = n;
-            0
-        }
-        IrGridMap::Refused(r) => {
-            told[0] = -1;
-            r.answer()
-        }
-    }
-}
+ghost use Rattle.answers.specs.Grids.{IrGridMapTold, AddressesTold};
 
 #[no_mangle]
 pub extern "C" fn zone_ir_grid_map(
@@ -44,12 +14,12 @@ pub extern "C" fn zone_ir_grid_map(
 ) -> i64
     ensures { λ r. ⌜ IrGridMapTold (now (rotations .entry)) (now (d .entry)) (now (ps .entry)) (length (now (map .entry))) (length (now (told .entry))) r (now (map .exit)) (now (told .exit)) ⌝ }
 {
-    if !class_lengths(d.len(), ps.len(), told.len()) {
+    if !answers::class_lengths(d.len(), ps.len(), told.len()) {
         common::fill(map, -1);
         common::fill(told, -1);
         return Refusal::WrongLength.answer();
     }
-    tell_classes(
+    answers::tell_classes(
         grgrid::ir_grid_map(rotations, common::row_at(d, 0), common::row_at(ps, 0), map),
         told,
     )

@@ -6,7 +6,6 @@ mod images;
 mod recip;
 mod transform;
 
-use common::Refusal;
 pub use diagonal::zone_same_grid;
 pub use diagonal::zone_snf3x3;
 pub use floats::zone_abs;
@@ -23,7 +22,6 @@ pub use grid::zone_ir_grid_map;
 pub use images::zone_bz_grid_addresses;
 pub use images::zone_neighboring_grid_points;
 pub use images::zone_rotate_bz_grid_index;
-use integer::Checked;
 pub use recip::zone_reciprocal_point_group;
 pub use recip::zone_reciprocal_rotations;
 pub use transform::zone_transform_rotations;
@@ -31,83 +29,60 @@ ghost use lib.IntN.{negℤ, _+ℤ_, _-ℤ_, _*ℤ_};
 ghost use lib.Signed.{quotZ, remZ};
 ghost use Rattle.integer.specs.Checked.{checked, divided};
 ghost use Rattle.integer.specs.Division.{divEuclid, remEuclid};
-ghost use Rattle.zone_c.specs.Told.{Told};
-
-fn tell(answer: Checked, out: &mut [i64]) -> i64
-    ensures { λ r. ⌜ Told answer (now (out .entry)) r (now (out .exit)) ⌝ }
-{
-    if out.len() != 1 {
-        common::fill(out, -1);
-        return Refusal::WrongLength.answer();
-    }
-    match answer {
-        Checked::Value(v) => {
-            out[0] = v;
-            0
-        }
-        Checked::Overflow => {
-            out[0] = -1;
-            Refusal::Overflow.answer()
-        }
-        Checked::ZeroDivisor => {
-            out[0] = -1;
-            Refusal::Overflow.answer()
-        }
-    }
-}
+ghost use Rattle.answers.specs.Told.{Told};
 
 #[no_mangle]
 pub extern "C" fn zone_checked_add(a: i64, b: i64, out: &mut [i64]) -> i64
     ensures { λ r. ⌜ Told (checked (a +ℤ b)) (now (out .entry)) r (now (out .exit)) ⌝ }
 {
-    tell(integer::checked_add(a, b), out)
+    answers::tell(integer::checked_add(a, b), out)
 }
 
 #[no_mangle]
 pub extern "C" fn zone_checked_sub(a: i64, b: i64, out: &mut [i64]) -> i64
     ensures { λ r. ⌜ Told (checked (a -ℤ b)) (now (out .entry)) r (now (out .exit)) ⌝ }
 {
-    tell(integer::checked_sub(a, b), out)
+    answers::tell(integer::checked_sub(a, b), out)
 }
 
 #[no_mangle]
 pub extern "C" fn zone_checked_mul(a: i64, b: i64, out: &mut [i64]) -> i64
     ensures { λ r. ⌜ Told (checked (a *ℤ b)) (now (out .entry)) r (now (out .exit)) ⌝ }
 {
-    tell(integer::checked_mul(a, b), out)
+    answers::tell(integer::checked_mul(a, b), out)
 }
 
 #[no_mangle]
 pub extern "C" fn zone_checked_div(a: i64, d: i64, out: &mut [i64]) -> i64
     ensures { λ r. ⌜ Told (divided d (quotZ a d) (quotZ a d)) (now (out .entry)) r (now (out .exit)) ⌝ }
 {
-    tell(integer::checked_div(a, d), out)
+    answers::tell(integer::checked_div(a, d), out)
 }
 
 #[no_mangle]
 pub extern "C" fn zone_checked_rem(a: i64, d: i64, out: &mut [i64]) -> i64
     ensures { λ r. ⌜ Told (divided d (quotZ a d) (remZ a d)) (now (out .entry)) r (now (out .exit)) ⌝ }
 {
-    tell(integer::checked_rem(a, d), out)
+    answers::tell(integer::checked_rem(a, d), out)
 }
 
 #[no_mangle]
 pub extern "C" fn zone_checked_div_euclid(a: i64, d: i64, out: &mut [i64]) -> i64
     ensures { λ r. ⌜ Told (divided d (divEuclid a d) (divEuclid a d)) (now (out .entry)) r (now (out .exit)) ⌝ }
 {
-    tell(integer::checked_div_euclid(a, d), out)
+    answers::tell(integer::checked_div_euclid(a, d), out)
 }
 
 #[no_mangle]
 pub extern "C" fn zone_checked_rem_euclid(a: i64, d: i64, out: &mut [i64]) -> i64
     ensures { λ r. ⌜ Told (divided d (divEuclid a d) (remEuclid a d)) (now (out .entry)) r (now (out .exit)) ⌝ }
 {
-    tell(integer::checked_rem_euclid(a, d), out)
+    answers::tell(integer::checked_rem_euclid(a, d), out)
 }
 
 #[no_mangle]
 pub extern "C" fn zone_checked_neg(a: i64, out: &mut [i64]) -> i64
     ensures { λ r. ⌜ Told (checked (negℤ a)) (now (out .entry)) r (now (out .exit)) ⌝ }
 {
-    tell(integer::checked_neg(a), out)
+    answers::tell(integer::checked_neg(a), out)
 }

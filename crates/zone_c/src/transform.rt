@@ -1,15 +1,8 @@
 // The export of transform_rotations.
 use common::Refusal;
 use transform_rotations::Transformed;
-ghost use mathlib.Core.Path.{_≡_};
 ghost use lib.ListN.{length};
-ghost use Rattle.zone_c.specs.Transforms.{transformLengths, TransformRotationsTold};
-
-fn transform_lengths(d: usize, q: usize) -> bool
-    ensures { λ r. ⌜ r ≡ transformLengths d q ⌝ }
-{
-    d == 3 && q == 9
-}
+ghost use Rattle.answers.specs.Transforms.{TransformRotationsTold};
 
 #[no_mangle]
 pub extern "C" fn zone_transform_rotations(
@@ -20,7 +13,7 @@ pub extern "C" fn zone_transform_rotations(
 ) -> i64
     ensures { λ r. ⌜ TransformRotationsTold (now (rotations .entry)) (now (d .entry)) (now (q .entry)) (length (now (out .entry))) r (now (out .exit)) ⌝ }
 {
-    if !transform_lengths(d.len(), q.len()) {
+    if !answers::transform_lengths(d.len(), q.len()) {
         common::fill(out, -1);
         return Refusal::WrongLength.answer();
     }

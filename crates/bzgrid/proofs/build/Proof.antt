@@ -1,7 +1,7 @@
 use mathlib.Core.Path.{sym, _∙_, ap, subst}
 use lib.Dec.{T}
 use lib.ListN.{length}
-use Rattle.bzgrid.specs.SearchView.{searchOf}
+use Rattle.bzsearch.specs.SearchView.{searchOf}
 use Rattle.bzgrid.specs.Walked.{blank, isBuilt}
 use Rattle.bzgrid.proofs.Outcome.{built-holds, refused-holds}
 use borrow.Author.Needs.{needs}

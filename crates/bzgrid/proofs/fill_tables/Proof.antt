@@ -4,7 +4,7 @@ use lib.Dec.{T}
 use lib.ListN.{length}
 use Rattle.grgrid.specs.Grid.{size}
 use Rattle.bzgrid.specs.Table.{doubled}
-use Rattle.bzgrid.specs.SearchView.{searchOf}
+use Rattle.bzsearch.specs.SearchView.{searchOf}
 use Rattle.bzgrid.specs.Walked.{imagesIn, lengthsFor, judged, isBuilt}
 use Rattle.bzgrid.proofs.Outcome.{mesh-fits, failed, answered, filled}
 use borrow.Author.Needs.{needs}

@@ -9,7 +9,9 @@ use Rattle.common.specs.Tested.{require}
 use Rattle.common.specs.Limits.{diagonalFits, matrixWithin, shiftFits}
 use Rattle.common.specs.FloatMatrix.{floatMatrix}
 use Rattle.common.specs.Array.{matrixOf}
-use Rattle.bzgrid.specs.BzGridAddresses.{isKnown, unimodular, latticeFits, withinLimits, inputTests}
+use Rattle.bzsearch.specs.Search.{unimodular}
+use Rattle.bzsearch.specs.Lattice.{latticeFits}
+use Rattle.bzgrid.specs.BzGridAddresses.{isKnown, withinLimits, inputTests}
 use Rattle.bzgrid.proofs.input_tests.Statement.{statement}
 use Rattle.bzgrid.proofs.input_tests.Tie as tie
 

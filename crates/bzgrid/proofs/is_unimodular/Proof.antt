@@ -4,7 +4,7 @@ use lib.Dec.{eqb}
 use borrow.Author.Needs.{needs}
 use Rattle.integer.proofs.Fits.{held-is}
 use Rattle.common.specs.Array.{matrixOf}
-use Rattle.bzgrid.proofs.Sizes.{det-fits}
+use Rattle.bzsearch.proofs.Sizes.{det-fits}
 use Rattle.bzgrid.proofs.is_unimodular.Statement.{statement}
 use Rattle.bzgrid.proofs.is_unimodular.Tie as tie
 

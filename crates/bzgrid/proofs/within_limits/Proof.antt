@@ -5,7 +5,7 @@ use Rattle.common.proofs.Tests.{ends, goes-on}
 use Rattle.common.specs.Limits.{matrixWithin, shiftFits}
 use Rattle.common.specs.FloatMatrix.{floatMatrix}
 use Rattle.common.specs.Array.{matrixOf}
-use Rattle.bzgrid.specs.BzGridAddresses.{latticeFits}
+use Rattle.bzsearch.specs.Lattice.{latticeFits}
 use Rattle.bzgrid.proofs.within_limits.Statement.{statement}
 use Rattle.bzgrid.proofs.within_limits.Tie as tie
 

@@ -10,11 +10,11 @@ use Rattle.common.proofs.Nine.{nine-entries}
 use mir.Facts.{toZ-pos}
 use Rattle.integer.proofs.Fits.{held, held-is}
 use Rattle.common.specs.declared.Tested.the-variants.{Accepted}
-use Rattle.snf3x3.specs.Result.{provided}
-use Rattle.snf3x3.specs.StagesView.{threeOf}
+use Rattle.snf_steps.specs.Result.{provided}
+use Rattle.snf_steps.specs.StagesView.{threeOf}
 use Rattle.snf3x3.specs.Snf3x3.{answer}
 use Rattle.snf3x3.specs.Written.{written}
-use Rattle.snf3x3.proofs.Binding.{flag-off, flag-on}
+use Rattle.snf_steps.proofs.Binding.{flag-off, flag-on}
 use borrow.Author.Needs.{needs}
 use Rattle.snf3x3.proofs.answer.Statement.{statement}
 use Rattle.snf3x3.proofs.answer.Tie as tie

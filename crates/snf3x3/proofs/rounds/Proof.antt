@@ -4,13 +4,13 @@ use mathlib.Core.Bool.{Bool, true}
 use Prim.Native.Nat.{ℕ, suc, _+_, _≤_, _-_}
 use native.Mathlib.Omega.{arith}
 use native.Mathlib.Numerals.{add-one}
-use Rattle.snf3x3.specs.Result.{Result, _then_, provided, fitting}
-use Rattle.snf3x3.specs.Stages.{Outcome}
-use Rattle.snf3x3.specs.StagesView.{threeOf, outcomeOf}
-use Rattle.snf3x3.specs.Finalize.{finalize}
+use Rattle.snf_steps.specs.Result.{Result, _then_, provided, fitting}
+use Rattle.snf_steps.specs.Stages.{Outcome}
+use Rattle.snf_steps.specs.StagesView.{threeOf, outcomeOf}
+use Rattle.snf_steps.specs.Finalize.{finalize}
 use Rattle.snf3x3.specs.Snf3x3.{answer, round, rounds}
 use Rattle.snf3x3.specs.Written.{written}
-use Rattle.snf3x3.proofs.Binding.{flag-off, flag-on}
+use Rattle.snf_steps.proofs.Binding.{flag-off, flag-on}
 use Rattle.snf3x3.proofs.Passes.{none-left, left-range, through, another}
 use Rattle.snf3x3.proofs.rounds.Statement.{statement}
 use Rattle.snf3x3.proofs.rounds.Tie as tie

@@ -11,7 +11,7 @@ use Rattle.common.proofs.Bounds.{matrix-sizes}
 use Rattle.common.proofs.Whole.{sized-det}
 use Rattle.snf3x3.specs.Snf3x3.{Answer, refused, rounds, snf3x3}
 use Rattle.snf3x3.specs.Written.{written}
-use Rattle.snf3x3.proofs.Fitting.{is-zero, not-zero}
+use Rattle.snf_steps.proofs.Fitting.{is-zero, not-zero}
 use borrow.Author.Needs.{needs}
 use Rattle.snf3x3.proofs.snf3x3.Statement.{statement}
 use Rattle.snf3x3.proofs.snf3x3.Tie as tie

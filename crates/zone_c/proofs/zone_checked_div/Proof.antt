@@ -3,7 +3,7 @@ use lib.Signed.{quotZ}
 use mir.Facts.{toZ-ofZ}
 use borrow.Author.Needs.{needs}
 use Rattle.integer.specs.Checked.{divided}
-use Rattle.zone_c.proofs.Answers.{passed-on}
+use Rattle.answers.proofs.Answers.{passed-on}
 use Rattle.zone_c.proofs.zone_checked_div.Statement.{statement}
 use Rattle.zone_c.proofs.zone_checked_div.Tie as tie
 

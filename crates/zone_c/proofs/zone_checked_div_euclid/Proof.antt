@@ -3,7 +3,7 @@ use mir.Facts.{toZ-ofZ}
 use borrow.Author.Needs.{needs}
 use Rattle.integer.specs.Checked.{divided}
 use Rattle.integer.specs.Division.{divEuclid}
-use Rattle.zone_c.proofs.Answers.{passed-on}
+use Rattle.answers.proofs.Answers.{passed-on}
 use Rattle.zone_c.proofs.zone_checked_div_euclid.Statement.{statement}
 use Rattle.zone_c.proofs.zone_checked_div_euclid.Tie as tie
 

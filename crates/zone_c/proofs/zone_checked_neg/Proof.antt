@@ -3,7 +3,7 @@ use lib.IntN.{negℤ}
 use mir.Facts.{toZ-ofZ}
 use borrow.Author.Needs.{needs}
 use Rattle.integer.specs.Checked.{checked}
-use Rattle.zone_c.proofs.Answers.{passed-on}
+use Rattle.answers.proofs.Answers.{passed-on}
 use Rattle.zone_c.proofs.zone_checked_neg.Statement.{statement}
 use Rattle.zone_c.proofs.zone_checked_neg.Tie as tie
 

@@ -3,7 +3,7 @@ use lib.Signed.{quotZ, remZ}
 use mir.Facts.{toZ-ofZ}
 use borrow.Author.Needs.{needs}
 use Rattle.integer.specs.Checked.{divided}
-use Rattle.zone_c.proofs.Answers.{passed-on}
+use Rattle.answers.proofs.Answers.{passed-on}
 use Rattle.zone_c.proofs.zone_checked_rem.Statement.{statement}
 use Rattle.zone_c.proofs.zone_checked_rem.Tie as tie
 

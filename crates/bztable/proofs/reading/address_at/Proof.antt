@@ -13,8 +13,8 @@ mul-row-at c = search needs
 row-at-requires : tie.Need-row-at-requires
 row-at-requires c κs = search needs
 
-is-near-requires : tie.Need-is-near-requires
-is-near-requires c κs = search needs
+row-within-requires : tie.Need-row-within-requires
+row-within-requires c κs = search needs
 
 returns : tie.Need-returns
 returns c =
@@ -22,7 +22,7 @@ returns c =
     let l = s .args .addresses .now in
     let i = s .args .i in
     let e = c .before .before .row-at .ensures in
-    let n = sym (ap (λ r. near (vectorOf r)) e) ∙ sym (c .before .is-near .ensures) ∙ c .if2 .taken in
+    let n = sym (ap (λ r. near (vectorOf r)) e) ∙ sym (c .before .row-within .ensures) ∙ c .if2 .taken in
     (ap (λ r. got (vectorOf r)) e ∙ sym (address-inside l i (c .before .before .before .if1 .taken) n), rw e (near-sized (tripleAt l i) (holds n)))
 
 returns-2 : tie.Need-returns-2
@@ -30,7 +30,7 @@ returns-2 c =
     let s = c .before .before .before .before in
     let l = s .args .addresses .now in
     let i = s .args .i in
-    let n = sym (ap (λ r. near (vectorOf r)) (c .before .before .row-at .ensures)) ∙ sym (c .before .is-near .ensures) ∙ c .if2 .left in
+    let n = sym (ap (λ r. near (vectorOf r)) (c .before .before .row-at .ensures)) ∙ sym (c .before .row-within .ensures) ∙ c .if2 .left in
     (sym (address-far l i (c .before .before .before .if1 .taken) n), zeros-sized)
 
 returns-3 : tie.Need-returns-3
@@ -38,4 +38,4 @@ returns-3 c = let s = c .before in (sym (address-past (s .args .addresses .now) 
 
 pub address-at-spec : {M : Type 1} → statement M
 address-at-spec =
-    tie.close (tie.spec mul-row-at row-at-requires is-near-requires returns returns-2 returns-3)
+    tie.close (tie.spec mul-row-at row-at-requires row-within-requires returns returns-2 returns-3)

@@ -3,8 +3,8 @@ use native.Mathlib.Omega.{arith}
 use lib.ListN.{length}
 use Rattle.integer.proofs.Fits.{held-is}
 use Rattle.common.proofs.Tests.{yes, no}
-use Rattle.zone_c.proofs.Lengths.{three-lengths}
-use Rattle.zone_c.proofs.Diagonals.{same-unsized, same-passed}
+use Rattle.answers.proofs.Lengths.{three-lengths}
+use Rattle.answers.proofs.Diagonals.{same-unsized, same-passed}
 use borrow.Author.Needs.{needs}
 use Rattle.zone_c.proofs.diagonal.zone_same_grid.Statement.{statement}
 use Rattle.zone_c.proofs.diagonal.zone_same_grid.Tie as tie

@@ -3,7 +3,7 @@ use native.Mathlib.Omega.{arith}
 use lib.ListN.{length}
 use Rattle.integer.proofs.Fits.{held-is}
 use Rattle.common.proofs.Tests.{yes, no}
-use Rattle.zone_c.proofs.Diagonals.{matrix-length, result-lengths, diagonal-unsized, diagonal-passed}
+use Rattle.answers.proofs.Diagonals.{matrix-length, result-lengths, diagonal-unsized, diagonal-passed}
 use borrow.Author.Needs.{needs}
 use Rattle.zone_c.proofs.diagonal.zone_snf3x3.Statement.{statement}
 use Rattle.zone_c.proofs.diagonal.zone_snf3x3.Tie as tie
@@ -11,8 +11,8 @@ use Rattle.zone_c.proofs.diagonal.zone_snf3x3.Tie as tie
 diagonal-lengths-requires : tie.Need-diagonal-lengths-requires
 diagonal-lengths-requires c κs = search needs
 
-refuse-lengths-requires : tie.Need-refuse-lengths-requires
-refuse-lengths-requires c κs = search needs
+refuse-four-requires : tie.Need-refuse-four-requires
+refuse-four-requires c κs = search needs
 
 same-length : tie.Need-same-length
 same-length c = search needs
@@ -29,9 +29,9 @@ same-length-4 c = search needs
 returns : tie.Need-returns
 returns c =
     let s = c .before .before .before .before .before .before .before .before .before .before .before in
-    let t = c .before .before .before .before .refuse-lengths .ensures in
+    let t = c .before .before .before .before .refuse-four .ensures in
     diagonal-unsized (s .args .a .now) (length (s .args .d .now)) (length (s .args .p .now)) (length (s .args .q .now)) (length (s .args .told .now)) (no (c .before .before .before .before .before .before .before .before .before .before .diagonal-lengths .ensures) (c .before .before .before .before .before .before .before .before .before .if1 .taken))
-    (held-is (c .before .before .before .before .refuse-lengths .result) (c .before .before .before .before .refuse-lengths .ok) ∙ t .0) (t .1 .0) (t .1 .1 .0) (t .1 .1 .1 .0) (t .1 .1 .1 .1)
+    (held-is (c .before .before .before .before .refuse-four .result) (c .before .before .before .before .refuse-four .ok) ∙ t .0) (t .1 .0) (t .1 .1 .0) (t .1 .1 .1 .0) (t .1 .1 .1 .1)
 
 matrix-at-requires : tie.Need-matrix-at-requires
 matrix-at-requires c κs =
@@ -70,7 +70,7 @@ zone-snf3x3-spec =
     tie.close
     (tie.spec
     diagonal-lengths-requires
-    refuse-lengths-requires
+    refuse-four-requires
     same-length
     same-length-2
     same-length-3

@@ -1,8 +1,8 @@
 use mathlib.Core.Path.{sym, _∙_, ap}
 use lib.ListN.{length}
 use Rattle.integer.proofs.Fits.{held-is}
-use Rattle.zone_c.specs.Grids.{addressesNumber}
-use Rattle.zone_c.proofs.Grids.{addresses-unsized, addresses-passed}
+use Rattle.answers.specs.Grids.{addressesNumber}
+use Rattle.answers.proofs.Grids.{addresses-unsized, addresses-passed}
 use borrow.Author.Needs.{needs}
 use Rattle.zone_c.proofs.grid.zone_all_grid_addresses.Statement.{statement}
 use Rattle.zone_c.proofs.grid.zone_all_grid_addresses.Tie as tie

@@ -3,8 +3,8 @@ use native.Mathlib.Omega.{arith}
 use lib.ListN.{length}
 use Rattle.integer.proofs.Fits.{held-is}
 use Rattle.common.proofs.Tests.{yes, no}
-use Rattle.zone_c.proofs.Grids.{classes-unsized, classes-passed}
-use Rattle.zone_c.proofs.Lengths.{three-lengths}
+use Rattle.answers.proofs.Grids.{classes-unsized, classes-passed}
+use Rattle.answers.proofs.Lengths.{three-lengths}
 use borrow.Author.Needs.{needs}
 use Rattle.zone_c.proofs.grid.zone_ir_grid_map.Statement.{statement}
 use Rattle.zone_c.proofs.grid.zone_ir_grid_map.Tie as tie

@@ -3,7 +3,7 @@ use native.Mathlib.Omega.{arith}
 use lib.ListN.{length}
 use Rattle.integer.proofs.Fits.{held-is}
 use Rattle.common.proofs.Tests.{yes, no}
-use Rattle.zone_c.proofs.ImageTables.{image-lengths, lengths-fit, images-unsized, images-passed}
+use Rattle.answers.proofs.ImageTables.{image-lengths, lengths-fit, images-unsized, images-passed}
 use borrow.Author.Needs.{needs}
 use Rattle.zone_c.proofs.images.zone_bz_grid_addresses.Statement.{statement}
 use Rattle.zone_c.proofs.images.zone_bz_grid_addresses.Tie as tie
@@ -11,8 +11,8 @@ use Rattle.zone_c.proofs.images.zone_bz_grid_addresses.Tie as tie
 image-lengths-requires : tie.Need-image-lengths-requires
 image-lengths-requires c κs = search needs
 
-refuse-images-requires : tie.Need-refuse-images-requires
-refuse-images-requires c κs = search needs
+refuse-four-requires : tie.Need-refuse-four-requires
+refuse-four-requires c κs = search needs
 
 same-length : tie.Need-same-length
 same-length c = search needs
@@ -29,9 +29,9 @@ same-length-4 c = search needs
 returns : tie.Need-returns
 returns c =
     let s = c .before .before .before .before .before .before .before .before .before .before .before .before in
-    let t = c .before .before .before .before .refuse-images .ensures in
+    let t = c .before .before .before .before .refuse-four .ensures in
     images-unsized (s .args .d .now) (s .args .q .now) (s .args .ps .now) (s .args .lattice .now) (s .args .bz-grid-type) (length (s .args .addresses .now)) (length (s .args .map .now)) (length (s .args .grg .now)) (length (s .args .told .now)) (no (c .before .before .before .before .before .before .before .before .before .before .image-lengths .ensures) (c .before .before .before .before .before .before .before .before .before .if1 .taken))
-    (held-is (c .before .before .before .before .refuse-images .result) (c .before .before .before .before .refuse-images .ok) ∙ t .0) (t .1 .0) (t .1 .1 .0) (t .1 .1 .1 .0) (t .1 .1 .1 .1)
+    (held-is (c .before .before .before .before .refuse-four .result) (c .before .before .before .before .refuse-four .ok) ∙ t .0) (t .1 .0) (t .1 .1 .0) (t .1 .1 .1 .0) (t .1 .1 .1 .1)
 
 row-at-requires : tie.Need-row-at-requires
 row-at-requires c κs =
@@ -86,7 +86,7 @@ zone-bz-grid-addresses-spec =
     tie.close
     (tie.spec
     image-lengths-requires
-    refuse-images-requires
+    refuse-four-requires
     same-length
     same-length-2
     same-length-3

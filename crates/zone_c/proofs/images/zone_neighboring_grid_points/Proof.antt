@@ -1,8 +1,8 @@
 use mathlib.Core.Path.{sym, _∙_, ap}
 use lib.ListN.{length}
 use Rattle.integer.proofs.Fits.{held-is}
-use Rattle.zone_c.specs.Images.{neighboursNumber}
-use Rattle.zone_c.proofs.ImageTables.{neighbours-unsized, neighbours-passed}
+use Rattle.answers.specs.Images.{neighboursNumber}
+use Rattle.answers.proofs.ImageTables.{neighbours-unsized, neighbours-passed}
 use borrow.Author.Needs.{needs}
 use Rattle.zone_c.proofs.images.zone_neighboring_grid_points.Statement.{statement}
 use Rattle.zone_c.proofs.images.zone_neighboring_grid_points.Tie as tie

@@ -3,7 +3,7 @@ use native.Mathlib.Omega.{arith}
 use lib.ListN.{length}
 use Rattle.integer.proofs.Fits.{held-is}
 use Rattle.common.proofs.Tests.{yes, no}
-use Rattle.zone_c.proofs.ImageTables.{rotate-lengths, rotate-unsized, rotate-passed}
+use Rattle.answers.proofs.ImageTables.{rotate-lengths, rotate-unsized, rotate-passed}
 use borrow.Author.Needs.{needs}
 use Rattle.zone_c.proofs.images.zone_rotate_bz_grid_index.Statement.{statement}
 use Rattle.zone_c.proofs.images.zone_rotate_bz_grid_index.Tie as tie

@@ -1,7 +1,7 @@
 use lib.ListN.{length}
 use borrow.Author.Needs.{needs}
 use Rattle.recip_rotations.proofs.Room.{count-small}
-use Rattle.zone_c.proofs.GroupAnswers.{group-passed-on}
+use Rattle.answers.proofs.GroupAnswers.{group-passed-on}
 use Rattle.zone_c.proofs.recip.zone_reciprocal_point_group.Statement.{statement}
 use Rattle.zone_c.proofs.recip.zone_reciprocal_point_group.Tie as tie
 

@@ -2,7 +2,7 @@ use mathlib.Core.Bool.{true}
 use lib.ListN.{length}
 use borrow.Author.Needs.{needs}
 use Rattle.recip_rotations.proofs.Room.{count-small}
-use Rattle.zone_c.proofs.GroupAnswers.{group-passed-on}
+use Rattle.answers.proofs.GroupAnswers.{group-passed-on}
 use Rattle.zone_c.proofs.recip.zone_reciprocal_rotations.Statement.{statement}
 use Rattle.zone_c.proofs.recip.zone_reciprocal_rotations.Tie as tie
 

@@ -3,8 +3,8 @@ use native.Mathlib.Omega.{arith}
 use lib.ListN.{length}
 use Rattle.integer.proofs.Fits.{held-is}
 use Rattle.common.proofs.Tests.{yes, no}
-use Rattle.zone_c.specs.Transforms.{transformedNumber}
-use Rattle.zone_c.proofs.Transforms.{lengths, transform-unsized, transform-passed}
+use Rattle.answers.specs.Transforms.{transformedNumber}
+use Rattle.answers.proofs.Transforms.{lengths, transform-unsized, transform-passed}
 use borrow.Author.Needs.{needs}
 use Rattle.zone_c.proofs.transform.zone_transform_rotations.Statement.{statement}
 use Rattle.zone_c.proofs.transform.zone_transform_rotations.Tie as tie

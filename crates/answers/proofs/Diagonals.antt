@@ -1,0 +1,75 @@
+-- What the exports of snf3x3 answer and leave, by their branches.
+use mathlib.Core.Path.{_≡_, _∙_, ap, ap₂}
+use mathlib.Core.Bool.{true, false, _&&_}
+use mathlib.Core.List.{List, [], _∷_}
+use Prim.Native.Nat.{ℕ}
+use lib.Dec.{eqb}
+use lib.IntN.{ℤ, pos, negsuc}
+use lib.ListN.{length, replicate}
+use borrow.Author.Tests.{eqb-true}
+use Rattle.common.specs.declared.Refusal.the-variants.{WrongLength}
+use Rattle.common.specs.Refusal.{numberOf}
+use Rattle.common.specs.Tested.{answerOf}
+use Rattle.common.specs.Array.{matrixOf, rows, matrixAt}
+use Rattle.snf3x3.specs.declared.Snf.{Snf}
+use Rattle.snf3x3.specs.declared.SameGrid.{SameGrid}
+use Rattle.snf3x3.specs.Snf3x3.{snf3x3}
+use Rattle.snf3x3.specs.Written.{written}
+use Rattle.snf3x3.specs.SameGrid.{sameGrid}
+use Rattle.answers.specs.Diagonals.{resultLengths, diagonalLengths, diagonalisation, Snf3x3Told, sameLengths, sameNumber, sameTold, comparison, SameGridTold}
+use Rattle.answers.proofs.Lengths.{taken, left, both, three-lengths}
+
+module _ (a d p q told : ℕ) (e : diagonalLengths a d p q told ≡ true) where
+  abbrev after : (eqb a 9 ≡ true) × (resultLengths d p q && eqb told 1 ≡ true)
+  after = both (eqb a 9) (resultLengths d p q && eqb told 1) e
+
+  pub matrix-length : a ≡ 9
+  matrix-length = eqb-true a 9 (after .0)
+
+  pub result-lengths : (d ≡ 3) × (p ≡ 9) × (q ≡ 9) × (told ≡ 1)
+  result-lengths =
+      let f = both (resultLengths d p q) (eqb told 1) (after .1) in
+      let g = three-lengths d 3 p 9 q 9 (f .0) in
+      (g .0, g .1, g .2, eqb-true told 1 (f .1))
+
+abbrev unwritten : ℕ → List ℤ
+unwritten n = replicate n (negsuc 0)
+
+module _ (a : List ℤ) (nd np nq nt : ℕ) {r : ℤ} {d p q told : List ℤ} where
+  pub diagonal-unsized : diagonalLengths (length a) nd np nq nt ≡ false → r ≡ pos (numberOf WrongLength)
+      → d ≡ unwritten nd → p ≡ unwritten np → q ≡ unwritten nq → told ≡ unwritten nt → Snf3x3Told a nd np nq nt r d p q told
+  diagonal-unsized e er ed ep eq et = let s = diagonalisation a in record {
+    answer = er ∙ left (answerOf (s .tested)) (pos (numberOf WrongLength)) e;
+    diagonal = ed ∙ left (s .«d_diag») (unwritten nd) e;
+    left = ep ∙ left (s .p) (unwritten np) e;
+    right = eq ∙ left (s .q) (unwritten nq) e;
+    rounds = et ∙ left (s .rounds ∷ []) (unwritten nt) e;
+  }
+
+  -- the library's call has the rows of the matrix
+  pub diagonal-passed : diagonalLengths (length a) nd np nq nt ≡ true → {m : List (List ℤ)} {t : Snf} → m ≡ rows (matrixAt a 0) → t ≡ written (snf3x3 (matrixOf m))
+      → r ≡ answerOf (t .tested) → d ≡ t .«d_diag» → p ≡ t .p → q ≡ t .q → told ≡ t .rounds ∷ [] → Snf3x3Told a nd np nq nt r d p q told
+  diagonal-passed e em es er ed ep eq et =
+      let s = diagonalisation a in
+      let same : _ ≡ s = es ∙ ap (λ m. written (snf3x3 (matrixOf m))) em in record {
+        answer = er ∙ ap (λ t. answerOf (t .tested)) same ∙ taken (answerOf (s .tested)) (pos (numberOf WrongLength)) e;
+        diagonal = ed ∙ ap (λ t. t .«d_diag») same ∙ taken (s .«d_diag») (unwritten nd) e;
+        left = ep ∙ ap (λ t. t .p) same ∙ taken (s .p) (unwritten np) e;
+        right = eq ∙ ap (λ t. t .q) same ∙ taken (s .q) (unwritten nq) e;
+        rounds = et ∙ ap (λ t. t .rounds ∷ []) same ∙ taken (s .rounds ∷ []) (unwritten nt) e;
+      }
+
+module _ (a b : List ℤ) (n : ℕ) {r : ℤ} {told : List ℤ} where
+  pub same-unsized : sameLengths (length a) (length b) n ≡ false → r ≡ pos (numberOf WrongLength) → told ≡ unwritten n → SameGridTold a b n r told
+  same-unsized e er et = record {
+    answer = er ∙ left (sameNumber (comparison a b)) (pos (numberOf WrongLength)) e;
+    value = et ∙ left (sameTold (comparison a b)) (unwritten n) e;
+  }
+
+  pub same-passed : sameLengths (length a) (length b) n ≡ true → {l m : List (List ℤ)} {t : SameGrid} → l ≡ rows (matrixAt a 0) → m ≡ rows (matrixAt b 0)
+      → t ≡ sameGrid (snf3x3 (matrixOf l)) (snf3x3 (matrixOf m)) → r ≡ sameNumber t → told ≡ sameTold t → SameGridTold a b n r told
+  same-passed e el em es er et =
+      let same : _ ≡ comparison a b = es ∙ ap₂ (λ l m. sameGrid (snf3x3 (matrixOf l)) (snf3x3 (matrixOf m))) el em in record {
+        answer = er ∙ ap sameNumber same ∙ taken (sameNumber (comparison a b)) (pos (numberOf WrongLength)) e;
+        value = et ∙ ap sameTold same ∙ taken (sameTold (comparison a b)) (unwritten n) e;
+      }

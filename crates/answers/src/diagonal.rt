@@ -1,0 +1,76 @@
+// Of the diagonalising.
+use common::Tested;
+use snf3x3::SameGrid;
+use snf3x3::Snf;
+ghost use mathlib.Core.Path.{_≡_};
+ghost use mathlib.Core.List.{[], _∷_};
+ghost use lib.ListN.{length};
+ghost use Rattle.common.specs.Tested.{answerOf};
+ghost use Rattle.answers.specs.Diagonals.{diagonalLengths, sameNumber, sameTold};
+
+pub fn diagonal_lengths(a: usize, d: usize, p: usize, q: usize, told: usize) -> bool
+    ensures { λ r. ⌜ r ≡ diagonalLengths a d p q told ⌝ }
+{
+    common::all_three(a == 9, common::all_three(d == 3, p == 9, q == 9), told == 1)
+}
+
+fn outcome_number(t: Tested) -> i64
+    ensures { λ r. ⌜ r ≡ answerOf t ⌝ }
+{
+    match t {
+        Tested::Accepted => 0,
+        Tested::Refused(r) => r.answer(),
+    }
+}
+
+fn copy(from: &[i64], out: &mut [i64])
+    requires { ⌜ length (now from) ≡ length (now out) ⌝ }
+    ensures { λ _. ⌜ now (out .exit) ≡ now (from .entry) ⌝ }
+{
+    let mut i = 0;
+    while i < from.len() {
+        out[i] = from[i];
+        i += 1;
+    }
+}
+
+pub fn tell_diagonal(s: Snf, d: &mut [i64], p: &mut [i64], q: &mut [i64], told: &mut [i64]) -> i64
+    requires { ⌜ (length (now d) ≡ 3) × (length (now p) ≡ 9) × (length (now q) ≡ 9) × (length (now told) ≡ 1) ⌝ }
+    ensures { λ r. ⌜ r ≡ answerOf (s .tested) ⌝ }
+    ensures { λ _. ⌜ now (d .exit) ≡ s .«d_diag» ⌝ }
+    ensures { λ _. ⌜ now (p .exit) ≡ s .p ⌝ }
+    ensures { λ _. ⌜ now (q .exit) ≡ s .q ⌝ }
+    ensures { λ _. ⌜ now (told .exit) ≡ s .rounds ∷ [] ⌝ }
+{
+    let diagonal = s.d_diag;
+    let left = s.p;
+    let right = s.q;
+    copy(&diagonal, d);
+    copy(&left, p);
+    copy(&right, q);
+    let rounds = s.rounds;
+    told[0] = rounds;
+    let t = s.tested;
+    outcome_number(t)
+}
+
+pub fn tell_same(answer: SameGrid, told: &mut [i64]) -> i64
+    requires { ⌜ length (now told) ≡ 1 ⌝ }
+    ensures { λ r. ⌜ r ≡ sameNumber answer ⌝ }
+    ensures { λ _. ⌜ now (told .exit) ≡ sameTold answer ⌝ }
+{
+    match answer {
+        SameGrid::Same => {
+            told[0] = 1;
+            0
+        }
+        SameGrid::Different => {
+            told[0] = 0;
+            0
+        }
+        SameGrid::Refused(r) => {
+            told[0] = -1;
+            r.answer()
+        }
+    }
+}

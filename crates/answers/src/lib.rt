@@ -1,0 +1,65 @@
+// How the answer of a call is told: a number, and what stands in the caller's slices.
+mod diagonal;
+mod grid;
+mod images;
+mod recip;
+mod transform;
+
+use common::Refusal;
+pub use diagonal::diagonal_lengths;
+pub use diagonal::tell_diagonal;
+pub use diagonal::tell_same;
+pub use grid::class_lengths;
+pub use grid::tell_classes;
+pub use images::image_lengths;
+pub use images::lattice_at;
+pub use images::rotate_lengths;
+pub use images::tell_lengths;
+pub use images::tell_rotated;
+use integer::Checked;
+pub use recip::tell_group;
+pub use transform::transform_lengths;
+ghost use mathlib.Core.Path.{_≡_};
+ghost use lib.IntN.{pos, negsuc};
+ghost use lib.ListN.{length, replicate};
+ghost use Rattle.common.specs.declared.Refusal.the-variants.{WrongLength};
+ghost use Rattle.common.specs.Refusal.{numberOf};
+ghost use Rattle.answers.specs.Told.{Told};
+
+pub fn tell(answer: Checked, out: &mut [i64]) -> i64
+    ensures { λ r. ⌜ Told answer (now (out .entry)) r (now (out .exit)) ⌝ }
+{
+    if out.len() != 1 {
+        common::fill(out, -1);
+        return Refusal::WrongLength.answer();
+    }
+    match answer {
+        Checked::Value(v) => {
+            out[0] = v;
+            0
+        }
+        Checked::Overflow => {
+            out[0] = -1;
+            Refusal::Overflow.answer()
+        }
+        Checked::ZeroDivisor => {
+            out[0] = -1;
+            Refusal::Overflow.answer()
+        }
+    }
+}
+
+// Slices of other lengths: -1 in every place of the four outputs.
+pub fn refuse_four(a: &mut [i64], b: &mut [i64], c: &mut [i64], d: &mut [i64]) -> i64
+    ensures { λ r. ⌜ r ≡ pos (numberOf WrongLength) ⌝ }
+    ensures { λ _. ⌜ now (a .exit) ≡ replicate (length (now (a .entry))) (negsuc 0) ⌝ }
+    ensures { λ _. ⌜ now (b .exit) ≡ replicate (length (now (b .entry))) (negsuc 0) ⌝ }
+    ensures { λ _. ⌜ now (c .exit) ≡ replicate (length (now (c .entry))) (negsuc 0) ⌝ }
+    ensures { λ _. ⌜ now (d .exit) ≡ replicate (length (now (d .entry))) (negsuc 0) ⌝ }
+{
+    common::fill(a, -1);
+    common::fill(b, -1);
+    common::fill(c, -1);
+    common::fill(d, -1);
+    Refusal::WrongLength.answer()
+}

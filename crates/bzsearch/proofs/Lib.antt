@@ -1,0 +1,10 @@
+pub mod Spans
+pub mod Rows
+pub mod Literals
+pub mod Sizes
+pub mod Coordinates
+pub mod Listing
+pub mod AxisNumbers
+pub mod CandidateSet
+pub mod Images
+pub mod LatticeBounds

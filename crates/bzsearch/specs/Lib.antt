@@ -1,0 +1,3 @@
+pub mod Lattice
+pub mod Search
+pub mod SearchView

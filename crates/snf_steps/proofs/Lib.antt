@@ -1,0 +1,14 @@
+pub mod Fitting
+pub mod Remainders
+pub mod Binding
+pub mod Settled
+pub mod Accepted
+pub mod Bezout
+pub mod FittingEntries
+pub mod RowOperations
+pub mod SmallRows
+pub mod Zeroing
+pub mod Clearing
+pub mod Keeping
+pub mod Disturbance
+pub mod Ending

@@ -1,0 +1,10 @@
+pub mod Result
+pub mod Gcd
+pub mod GcdView
+pub mod Elementary
+pub mod Columns
+pub mod ColumnsView
+pub mod Stages
+pub mod StagesView
+pub mod Finalize
+pub mod Settled

@@ -4,6 +4,4 @@ pub mod Reciprocal
 pub mod Outcome
 pub mod Joining
 pub mod Stabilizer
-pub mod Choosing
-pub mod Rising
 mod Examples

@@ -1,3 +1,2 @@
 pub mod Partner
 pub mod IrTriplets
-pub mod Choosing

@@ -31,7 +31,7 @@ pub enum IrTriplets {
 }
 
 // `-a - b`.
-fn third(a: [i64; 3], b: [i64; 3]) -> [i64; 3]
+pub fn third(a: [i64; 3], b: [i64; 3]) -> [i64; 3]
     requires { ⌜ Sized 10000000000000 a ⌝ ∗ ⌜ Sized 10000000000000 b ⌝ }
     ensures { λ r. ⌜ r ≡ items (third (vectorOf a) (vectorOf b)) ⌝ }
 {

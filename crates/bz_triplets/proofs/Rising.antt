@@ -10,14 +10,9 @@ use lib.Dec.{T, eqb→eq, eqb-refl}
 use lib.IntN.{ℤ, pos, negsuc, natAbs}
 use lib.ListN.{length, getD, length-append, List·getD-map}
 use Rattle.integer.specs.Checked.{pick}
-use Rattle.grgrid.specs.Own.{isPlace, ownPlaces}
+use Rattle.grgrid.specs.Own.{isPlace, ownPlaces, ownPoints}
 use Rattle.grgrid.proofs.Lists.{_∈_, Distinct}
 use Rattle.grgrid.proofs.Count.{OneEach, Classified}
-
--- among the first n
-abbrev pub ownPoints : List ℤ → ℕ → List ℕ
-ownPoints l zero = []
-ownPoints l (suc n) = ownPoints l n ++ pick (isPlace (getD l n (pos 0)) n) (n ∷ []) []
 
 abbrev pub Rising : List ℕ → Type 0
 Rising [] = Unit {0}

@@ -15,7 +15,7 @@ use Rattle.float.proofs.Order.{finite-number, numbers, not-lt, lt→not, lt-tra
 use Rattle.float.proofs.Operations.{sub-le}
 use Rattle.common.specs.Matrix.{Axis, X, Y, Z, Vec, side}
 use Rattle.grgrid.proofs.Lists.{_∈_}
-use Rattle.triplet_grid.specs.Choosing.{Found, start, left, closed, tried, nested}
+use Rattle.bz_triplets.specs.Choosing.{Found, start, left, closed, tried, nested}
 
 -- ---- three nested walks are one walk over the choices
 foldl-flat : {A C S : Type 0} (step : S → C → S) (f : A → List C) (s : S) (l : List A) → foldl step s (flatMap f l) ≡ foldl (λ s a. foldl step s (f a)) s l

@@ -1,0 +1,13 @@
+pub mod TableWalks
+pub mod SumLengths
+pub mod AcceptedTriplets
+pub mod FinishedTriplets
+pub mod JoinedList
+pub mod FinishedClasses
+pub mod FinishedList
+pub mod Example
+pub mod ChainSteps
+pub mod ChainLists
+pub mod ChainGrid
+pub mod ChainWhole
+pub mod ChainFinished

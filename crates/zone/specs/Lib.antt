@@ -1,0 +1,4 @@
+pub mod FinishedList
+pub mod Chain
+pub mod ChainView
+pub mod ChainFinished

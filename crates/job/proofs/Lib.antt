@@ -1,0 +1,6 @@
+mod Lists
+mod Words
+pub mod Sections
+pub mod Outcome
+mod Put
+mod Examples

@@ -106,6 +106,39 @@ int64_t zone_neighboring_grid_points(const int64_t *points, size_t points_len, c
                                      const int64_t *map, size_t map_len, const int64_t *d, size_t d_len,
                                      int64_t bz_grid_type, int64_t *out, size_t out_len);
 
+/* The classes of the triplets (q0, q1, q2) with q0 + q1 + q2 = 0 on the grid with diagonal numbers d[3],
+ * N points, under the rotations that keep the point q0, their negatives joined under time reversal as in
+ * zone_reciprocal_point_group: for each point q1 the lowest one of its class, in map_q[N] under these
+ * rotations alone, in map_triplets[N] also where q1 and q2 may be exchanged, if swappable; told[1] is the
+ * number of classes of the latter. 7 and 8 as for zone_reciprocal_point_group; 13, and 3, also for a q0
+ * outside 0..N-1, as above. */
+int64_t zone_ir_triplets_at_q(int64_t q0, const int64_t *d, size_t d_len, const int64_t *rotations,
+                              size_t rotations_len, bool time_reversal, bool swappable,
+                              int64_t *map_triplets, size_t map_triplets_len, int64_t *map_q,
+                              size_t map_q_len, int64_t *told, size_t told_len);
+
+/* For each class of such a class map a triplet of images (q0, q1, q2) in a table of zone_bz_grid_addresses
+ * whose sum is zero or, where no choice of images gives that, of the least squared length that is left
+ * over, which falls only by more than the tolerance. q0 is a point for type 1, a place in the table for
+ * type 2; class_map is map_triplets or map_q of zone_ir_triplets_at_q, and with k places that hold their
+ * own number out has 3 * k places, left and left_length k. left tells 1 for a sum that is zero, 0 for one
+ * that is left over, its squared length in left_length, and -1 for a point without images, with -1 in
+ * the three places of out; else left_length is 0. After a refusal left_length holds -1.0. 9, 13, 3 and
+ * 14 as above. */
+int64_t zone_bz_triplets_at_q(int64_t q0, const int64_t *addresses, size_t addresses_len,
+                              const int64_t *map, size_t map_len, const int64_t *class_map,
+                              size_t class_map_len, const int64_t *d, size_t d_len, const int64_t *q,
+                              size_t q_len, const double *lattice, size_t lattice_len,
+                              int64_t bz_grid_type, int64_t *out, size_t out_len, int64_t *left,
+                              size_t left_len, double *left_length, size_t left_length_len);
+
+/* The listing of a job file, as the program zonelist prints it, for at most 256 points and 1,024 images
+ * (else 13): text holds it, then 0 in every place; told[1] is its number of bytes. 15 for a wrong header,
+ * else the first refusal that the chain of calls meets, and 13 where text has no room: then every place
+ * of text is 0. */
+int64_t zone_list(const uint8_t *job, size_t job_len, uint8_t *text, size_t text_len, int64_t *told,
+                  size_t told_len);
+
 #ifdef __cplusplus
 }
 #endif

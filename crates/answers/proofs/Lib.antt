@@ -6,3 +6,6 @@ pub mod GroupAnswers
 pub mod Diagonals
 pub mod Transforms
 pub mod ImageTables
+pub mod TripletClasses
+pub mod ImageTriplets
+pub mod JobLists

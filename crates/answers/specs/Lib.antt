@@ -4,3 +4,5 @@ pub mod PointGroupTold
 pub mod Diagonals
 pub mod Transforms
 pub mod Images
+pub mod Triplets
+pub mod Lists

@@ -2,8 +2,10 @@
 mod diagonal;
 mod grid;
 mod images;
+mod list;
 mod recip;
 mod transform;
+mod triplets;
 
 use common::Refusal;
 pub use diagonal::diagonal_lengths;
@@ -17,8 +19,15 @@ pub use images::rotate_lengths;
 pub use images::tell_lengths;
 pub use images::tell_rotated;
 use integer::Checked;
+pub use list::tell_listing;
 pub use recip::tell_group;
 pub use transform::transform_lengths;
+pub use triplets::refuse_classes;
+pub use triplets::refuse_triplets;
+pub use triplets::tell_triplet_classes;
+pub use triplets::triplet_class_lengths;
+pub use triplets::triplet_lengths;
+pub use triplets::triplets_number;
 ghost use mathlib.Core.Path.{_≡_};
 ghost use lib.IntN.{pos, negsuc};
 ghost use lib.ListN.{length, replicate};

@@ -1,4 +1,4 @@
-// Runs the points of document 01 that are not proved, one a line.
+// Runs the points of document 01 that it leaves to programs, and the triplets of its listing.
 
 fn print_number(n: i64) {
     if n < 0 {
@@ -53,6 +53,63 @@ fn reciprocal(name: &[u8], rotations: &mut [i64], time_reversal: bool) {
     io::write_all(1, b"\n");
 }
 
+fn print_list(name: &[u8], list: &[i64]) {
+    io::write_all(1, name);
+    let mut i = 0;
+    while i < list.len() {
+        io::write_all(1, b" ");
+        print_number(list[i]);
+        i += 1;
+    }
+    io::write_all(1, b"\n");
+}
+
+// The images of d (2,1,1), identity Q and lattice.
+fn images() {
+    let mut addresses = [0i64; 9];
+    let mut map = [0i64; 3];
+    let mut grg = [0i64; 3];
+    let mut told = [0i64; 3];
+    let answer = zone_c::zone_bz_grid_addresses(
+        &[2, 1, 1],
+        &[1, 0, 0, 0, 1, 0, 0, 0, 1],
+        &[0, 0, 0],
+        &[1.0, 0.0, 0.0, 0.0, 1.0, 0.0, 0.0, 0.0, 1.0],
+        2,
+        &mut addresses,
+        &mut map,
+        &mut grg,
+        &mut told,
+    );
+    print_list(b"images, d (2,1,1):", &[answer]);
+    print_list(b"addresses:", &addresses);
+    print_list(b"dense map:", &map);
+}
+
+// The triplets of the listing, in a dense table of three points with one image each.
+fn triplets() {
+    let mut out = [0i64; 6];
+    let mut left = [0i64; 2];
+    let mut left_length = [0.0f64; 2];
+    let answer = zone_c::zone_bz_triplets_at_q(
+        1,
+        &[0, 0, 0, 0, 0, 1, 0, 0, -1],
+        &[0, 1, 2, 3],
+        &[0, 1, 0],
+        &[1, 1, 3],
+        &[0, 0, 1, 1, 0, 0, 0, 1, 0],
+        &[1.0, 0.0, 0.0, 0.0, 1.0, 0.0, 0.0, 0.0, 1.0],
+        2,
+        &mut out,
+        &mut left,
+        &mut left_length,
+    );
+    print_list(b"triplets, d (1,1,3), q0 = 1:", &[answer]);
+    print_list(b"places:", &out);
+    print_list(b"closed:", &left);
+    round(b"the length left over", left_length[1]);
+}
+
 fn main() {
     round(b"2.5", 2.5);
     round(b"-2.5", -2.5);
@@ -65,4 +122,6 @@ fn main() {
     reciprocal(b"24 rotations, time reversal", &mut list, true);
     let mut list = [0i64; 225];
     reciprocal(b"25 rotations, time reversal", &mut list, true);
+    images();
+    triplets();
 }

@@ -56,6 +56,14 @@ fn same(x: f64, y: f64) -> bool {
     y != y
 }
 
+// Whether the words are x's.
+pub fn is_float(x: f64, high: i64, low: i64) -> bool {
+    let Read::Float(y) = float_of(high, low) else {
+        return false;
+    };
+    same(x, y)
+}
+
 fn float_result(function: usize, x: f64) -> f64 {
     match function {
         ROUND => zone_c::zone_round(x),

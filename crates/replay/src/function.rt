@@ -5,6 +5,7 @@ use crate::matrix_case;
 use crate::slice_case;
 use crate::text;
 use crate::text::Count;
+use crate::triplet_case;
 
 pub const CHECKED_ADD: usize = 0;
 
@@ -75,9 +76,32 @@ fn judge_checked(function: usize, n: [i64; 5], count: usize) -> Verdict {
     Verdict::Unread
 }
 
+fn judge_numbers(function: usize, n: &[i64]) -> Verdict {
+    if function > image_case::NEIGHBORING_GRID_POINTS {
+        return triplet_case::judge_numbers(function, n);
+    }
+    image_case::judge_numbers(function, n)
+}
+
+// A line of many numbers, which n has room for.
+fn judge_line(function: usize, line: &[u8], n: &mut [i64]) -> Verdict {
+    let Count::Read(count) = text::numbers(line, n) else {
+        return Verdict::Unread;
+    };
+    if count > n.len() {
+        return Verdict::Unread;
+    }
+    judge_numbers(function, &n[..count])
+}
+
+fn judge_long(function: usize, line: &[u8]) -> Verdict {
+    let mut n = [0i64; 4096];
+    judge_line(function, line, &mut n)
+}
+
 pub fn judge(function: usize, line: &[u8]) -> Verdict {
     if function > matrix_case::SAME_GRID {
-        return image_case::judge_images(function, line);
+        return judge_long(function, line);
     }
     if function > slice_case::TRANSFORM_ROTATIONS {
         return matrix_case::judge_matrices(function, line);

@@ -5,9 +5,7 @@ use crate::float_case::Read;
 use crate::function::Verdict;
 use crate::function::verdict_of;
 use crate::slice_case;
-use crate::text;
-use crate::text::Count;
-ghost use Prim.Native.Nat.{_≤_, _<_};
+ghost use Prim.Native.Nat.{_≤_};
 ghost use lib.ListN.{length};
 
 pub const BZ_GRID_ADDRESSES: usize = 24;
@@ -17,7 +15,7 @@ pub const ROTATE_BZ_GRID_INDEX: usize = 25;
 pub const NEIGHBORING_GRID_POINTS: usize = 26;
 
 // The slice that stands after the first `count`; an empty one where there is none.
-fn slice_after(n: &[i64], count: usize) -> &[i64] {
+pub fn slice_after(n: &[i64], count: usize) -> &[i64] {
     let at = slice_case::after_slices(n, count);
     if at >= n.len() {
         return &n[at..];
@@ -79,10 +77,12 @@ fn neighboring_grid_points(n: &[i64], out: &mut [i64]) -> Verdict {
 }
 
 // The place after the floats that start at place `at`; the end of n where there are none.
-fn after_floats(n: &[i64], at: usize) -> usize
-    requires { ⌜ at < length (now n) ⌝ }
-    ensures { λ r. ⌜ (at < r) × (r ≤ length (now (n .entry))) ⌝ }
+pub fn after_floats(n: &[i64], at: usize) -> usize
+    ensures { λ r. ⌜ r ≤ length (now (n .entry)) ⌝ }
 {
+    if at >= n.len() {
+        return n.len();
+    }
     let wanted = integer::unsigned_abs(n[at]);
     let room = (n.len() - at - 1) / 2;
     if wanted <= room as u64 {
@@ -107,8 +107,17 @@ fn floats(words: &[i64], out: &mut [f64]) -> bool {
     true
 }
 
+// Whether as many floats as out has start at place `at`, which are then in it.
+pub fn read_floats(n: &[i64], at: usize, out: &mut [f64]) -> bool {
+    let end = after_floats(n, at);
+    if at >= end {
+        return false;
+    }
+    floats(&n[at + 1..end], out)
+}
+
 // The place after the output at place `at`; the end of n where there is none.
-fn after_output(n: &[i64], at: usize) -> usize
+pub fn after_output(n: &[i64], at: usize) -> usize
     ensures { λ r. ⌜ r ≤ length (now (n .entry)) ⌝ }
 {
     if at >= n.len() {
@@ -135,6 +144,21 @@ fn is_output(out: &[i64], n: &[i64], at: usize) -> bool {
     slice_case::is_written(out, &n[at + 1..end])
 }
 
+// The place after the two outputs at place `at`.
+pub fn after_two(n: &[i64], at: usize) -> usize
+    ensures { λ r. ⌜ r ≤ length (now (n .entry)) ⌝ }
+{
+    after_output(n, after_output(n, at))
+}
+
+// Whether a call wrote the two outputs at place `at`.
+pub fn are_two(first: &[i64], second: &[i64], n: &[i64], at: usize) -> bool {
+    if !is_output(first, n, at) {
+        return false;
+    }
+    is_output(second, n, after_output(n, at))
+}
+
 // The tables against the line from place `at` on.
 fn are_outputs(
     addresses: &[i64],
@@ -144,18 +168,14 @@ fn are_outputs(
     n: &[i64],
     at: usize,
 ) -> bool {
-    let second = after_output(n, at);
-    let third = after_output(n, second);
-    let end = after_output(n, third);
-    if !is_output(addresses, n, at) {
+    if !are_two(addresses, map, n, at) {
         return false;
     }
-    if !is_output(map, n, second) {
-        return false;
-    }
+    let third = after_two(n, at);
     if !is_output(grg, n, third) {
         return false;
     }
+    let end = after_output(n, third);
     slice_case::same(told, &n[end..])
 }
 
@@ -208,7 +228,7 @@ fn judge_tables(
     requires { ⌜ at ≤ length (now n) ⌝ }
 {
     let second = after_output(n, at + 2);
-    let third = after_output(n, second);
+    let third = after_two(n, at + 2);
     let a = slice_case::places(n, at + 2, addresses.len());
     let m = slice_case::places(n, second, map.len());
     let g = slice_case::places(n, third, grg.len());
@@ -231,15 +251,18 @@ fn judge_lattice(
     grg: &mut [i64],
 ) -> Verdict {
     let from = slice_case::after_slices(n, 3);
-    if from >= n.len() {
-        return Verdict::Unread;
-    }
-    let at = after_floats(n, from);
     let count = slice_case::places(n, from, held.len());
-    if !floats(&n[from + 1..at], &mut held[..count]) {
+    if !read_floats(n, from, &mut held[..count]) {
         return Verdict::Unread;
     }
-    judge_tables(n, &held[..count], at, addresses, map, grg)
+    judge_tables(
+        n,
+        &held[..count],
+        after_floats(n, from),
+        addresses,
+        map,
+        grg,
+    )
 }
 
 fn judge_bz_grid_addresses(n: &[i64]) -> Verdict {
@@ -257,7 +280,7 @@ fn judge_neighbours(n: &[i64], out: &mut [i64]) -> Verdict {
     neighboring_grid_points(n, &mut out[..end])
 }
 
-fn judge_numbers(function: usize, n: &[i64]) -> Verdict {
+pub fn judge_numbers(function: usize, n: &[i64]) -> Verdict {
     if function == BZ_GRID_ADDRESSES {
         return judge_bz_grid_addresses(n);
     }
@@ -269,19 +292,4 @@ fn judge_numbers(function: usize, n: &[i64]) -> Verdict {
         return Verdict::Unread;
     }
     rotate_bz_grid_index(n[0], &n[1..])
-}
-
-fn judge_line(function: usize, line: &[u8], n: &mut [i64]) -> Verdict {
-    let Count::Read(count) = text::numbers(line, n) else {
-        return Verdict::Unread;
-    };
-    if count > n.len() {
-        return Verdict::Unread;
-    }
-    judge_numbers(function, &n[..count])
-}
-
-pub fn judge_images(function: usize, line: &[u8]) -> Verdict {
-    let mut n = [0i64; 4096];
-    judge_line(function, line, &mut n)
 }

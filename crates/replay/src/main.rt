@@ -6,6 +6,7 @@ mod image_case;
 mod matrix_case;
 mod slice_case;
 mod text;
+mod triplet_case;
 
 use function::Verdict;
 
@@ -117,4 +118,6 @@ fn main() {
         image_case::NEIGHBORING_GRID_POINTS,
         b"neighboring_grid_points",
     );
+    replay_file(triplet_case::IR_TRIPLETS_AT_Q, b"ir_triplets_at_q");
+    replay_file(triplet_case::BZ_TRIPLETS_AT_Q, b"bz_triplets_at_q");
 }

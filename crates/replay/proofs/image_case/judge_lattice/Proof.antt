@@ -7,50 +7,32 @@ use Rattle.replay.proofs.image_case.judge_lattice.Tie as tie
 after-slices-requires : tie.Need-after-slices-requires
 after-slices-requires c κs = search needs
 
-returns : tie.Need-returns
-returns c = search needs
-
-after-floats-requires : tie.Need-after-floats-requires
-after-floats-requires c κs = search needs
-
 places-requires : tie.Need-places-requires
 places-requires c κs = search needs
 
-add-floats : tie.Need-add-floats
-add-floats c = search needs
+slice-relend-prefix-read-floats : tie.Need-slice-relend-prefix-read-floats
+slice-relend-prefix-read-floats c = search needs
 
-mul-floats : tie.Need-mul-floats
-mul-floats c = search needs
+slice-aggregate-read-floats : tie.Need-slice-aggregate-read-floats
+slice-aggregate-read-floats c = sym (length-take-le _ _ (search needs))
 
-sub-floats : tie.Need-sub-floats
-sub-floats c = search needs
-
-part-floats-start : tie.Need-part-floats-start
-part-floats-start c = search needs
-
-part-floats-end : tie.Need-part-floats-end
-part-floats-end c = search needs
-
-slice-relend-prefix-floats : tie.Need-slice-relend-prefix-floats
-slice-relend-prefix-floats c = search needs
-
-slice-aggregate-floats : tie.Need-slice-aggregate-floats
-slice-aggregate-floats c = sym (length-take-le _ _ (search needs))
-
-floats-requires : tie.Need-floats-requires
-floats-requires c κs = search needs
+read-floats-requires : tie.Need-read-floats-requires
+read-floats-requires c κs = search needs
 
 same-length : tie.Need-same-length
 same-length c = search needs
 
-returns-2 : tie.Need-returns-2
-returns-2 c = search needs
+returns : tie.Need-returns
+returns c = search needs
 
 slice-reshare-prefix-judge-tables : tie.Need-slice-reshare-prefix-judge-tables
 slice-reshare-prefix-judge-tables c = search needs
 
 slice-aggregate-judge-tables : tie.Need-slice-aggregate-judge-tables
 slice-aggregate-judge-tables c = sym (length-take-le _ _ (search needs))
+
+after-floats-requires : tie.Need-after-floats-requires
+after-floats-requires c κs = search needs
 
 judge-tables-requires : tie.Need-judge-tables-requires
 judge-tables-requires c κs = search needs
@@ -67,32 +49,26 @@ same-length-4 c = search needs
 same-length-5 : tie.Need-same-length-5
 same-length-5 c = search needs
 
-returns-3 : tie.Need-returns-3
-returns-3 c = search needs
+returns-2 : tie.Need-returns-2
+returns-2 c = search needs
 
 pub judge-lattice-spec : {M : Type 1} → statement M
 judge-lattice-spec =
     tie.close
     (tie.spec
     after-slices-requires
-    returns
-    after-floats-requires
     places-requires
-    add-floats
-    mul-floats
-    sub-floats
-    part-floats-start
-    part-floats-end
-    slice-relend-prefix-floats
-    slice-aggregate-floats
-    floats-requires
+    slice-relend-prefix-read-floats
+    slice-aggregate-read-floats
+    read-floats-requires
     same-length
-    returns-2
+    returns
     slice-reshare-prefix-judge-tables
     slice-aggregate-judge-tables
+    after-floats-requires
     judge-tables-requires
     same-length-2
     same-length-3
     same-length-4
     same-length-5
-    returns-3)
+    returns-2)

@@ -10,8 +10,11 @@ add-after-output c = search needs
 after-output-requires : tie.Need-after-output-requires
 after-output-requires c κs = search needs
 
-after-output-requires-2 : tie.Need-after-output-requires-2
-after-output-requires-2 c κs = search needs
+add-after-two : tie.Need-add-after-two
+add-after-two c = search needs
+
+after-two-requires : tie.Need-after-two-requires
+after-two-requires c κs = search needs
 
 add-places : tie.Need-add-places
 add-places c = search needs
@@ -64,7 +67,8 @@ judge-tables-spec =
     (tie.spec
     add-after-output
     after-output-requires
-    after-output-requires-2
+    add-after-two
+    after-two-requires
     add-places
     places-requires
     places-requires-2

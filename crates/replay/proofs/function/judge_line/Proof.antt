@@ -1,8 +1,8 @@
 use mathlib.Core.Path.{sym}
 use lib.Seq.{length-take-le}
 use borrow.Author.Needs.{needs}
-use Rattle.replay.proofs.image_case.judge_line.Statement.{statement}
-use Rattle.replay.proofs.image_case.judge_line.Tie as tie
+use Rattle.replay.proofs.function.judge_line.Statement.{statement}
+use Rattle.replay.proofs.function.judge_line.Tie as tie
 
 numbers-requires : tie.Need-numbers-requires
 numbers-requires c κs = search needs

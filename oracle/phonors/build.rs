@@ -25,7 +25,7 @@ struct Version {
     edits: &'static [[&'static str; 2]],
 }
 
-const VERSIONS: [Version; 4] = [
+const VERSIONS: [Version; 5] = [
     Version {
         name: "snf3x3_counted",
         module: "snf3x3",
@@ -82,6 +82,52 @@ const VERSIONS: [Version; 4] = [
             [
                 "        }\n        Ok(bz_map[gp as usize])",
                 "        }\n        *fallback = true;\n        Ok(bz_map[gp as usize])",
+            ],
+        ],
+    },
+    Version {
+        name: "triplet_grid_watched",
+        module: "triplet_grid",
+        edits: &[
+            [
+                "use crate::bzgrid;",
+                "use crate::bzgrid;\nuse crate::watched::{Walked, Watched};",
+            ],
+            [
+                "fn bz_triplets_at_q_type1(\n    triplets: &mut [[i64; 3]],\n    grid_point: i64,\n    bz_grid_addresses: &[Vec3I],\n    bz_map: &[i64],",
+                "fn bz_triplets_at_q_type1(\n    walked: &mut Walked,\n    triplets: &mut [[i64; 3]],\n    grid_point: i64,\n    bz_grid_addresses: Watched<'_, Vec3I>,\n    bz_map: Watched<'_, i64>,",
+            ],
+            [
+                "fn bz_triplets_at_q_type2(\n    triplets: &mut [[i64; 3]],\n    grid_point: i64,\n    bz_grid_addresses: &[Vec3I],\n    bz_map: &[i64],",
+                "fn bz_triplets_at_q_type2(\n    walked: &mut Walked,\n    triplets: &mut [[i64; 3]],\n    grid_point: i64,\n    bz_grid_addresses: Watched<'_, Vec3I>,\n    bz_map: Watched<'_, i64>,",
+            ],
+            [
+                "pub fn bz_triplets_at_q(\n    grid_point: i64,\n    bz_grid_addresses: &[Vec3I],\n    bz_map: &[i64],",
+                "pub fn bz_triplets_at_q(\n    walked: &mut Walked,\n    grid_point: i64,\n    bz_grid_addresses: Watched<'_, Vec3I>,\n    bz_map: Watched<'_, i64>,",
+            ],
+            [
+                "bz_triplets_at_q_type1(\n            &mut triplets,",
+                "bz_triplets_at_q_type1(\n            walked,\n            &mut triplets,",
+            ],
+            [
+                "bz_triplets_at_q_type2(\n            &mut triplets,",
+                "bz_triplets_at_q_type2(\n            walked,\n            &mut triplets,",
+            ],
+            [
+                "bz_map[num_bzgp + gp2_idx] + 1;\n\n        let mut min_d2: f64 = -1.0;",
+                "bz_map[num_bzgp + gp2_idx] + 1;\n\n        if walked.empty([n0, n1, n2]) {\n            continue;\n        }\n        let mut min_d2: f64 = -1.0;",
+            ],
+            [
+                "let r2 = bz_map[gp2_idx]..bz_map[gp2_idx + 1];\n",
+                "let r2 = bz_map[gp2_idx]..bz_map[gp2_idx + 1];\n        if walked.empty([&r0, &r1, &r2].map(|r| r.end - r.start)) {\n            continue;\n        }\n",
+            ],
+            [
+                "            }\n        }\n    }\n}\n\n/// Dense-layout (type 2)",
+                "            }\n        }\n        let [x, y, z] = triplets[i].map(|image| bz_grid_addresses[image as usize]);\n        walked.leave(add3(x, y, z), min_d2);\n    }\n}\n\n/// Dense-layout (type 2)",
+            ],
+            [
+                "            }\n        }\n    }\n}\n\n/// Find symmetry-reduced BZ triplets",
+                "            }\n        }\n        let [x, y, z] = triplets[i].map(|image| bz_grid_addresses[image as usize]);\n        walked.leave(add3(x, y, z), min_d2);\n    }\n}\n\n/// Find symmetry-reduced BZ triplets",
             ],
         ],
     },

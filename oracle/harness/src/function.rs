@@ -32,6 +32,9 @@ pub trait Function {
     /// far as the file has room.
     const VECTORS: usize = 64;
 
+    /// Its last slices that hold floats, which stand there as their bits.
+    const FLOATS: usize = 0;
+
     /// Inputs of the bench: few enough for those of a small function to stay in
     /// the cache.
     const TIMED: usize = 64;

@@ -14,7 +14,8 @@ use crate::{port, tests};
 /// Places of an output whose length hangs on a diagonal outside the limits.
 const ANY_PLACES: usize = 4;
 
-fn points(d: &[i64]) -> usize {
+/// Places of an output that has one for each point of a lent diagonal.
+pub fn lent_points(d: &[i64]) -> usize {
     tests::fixed(d)
         .and_then(tests::points)
         .unwrap_or(ANY_PLACES)
@@ -90,7 +91,7 @@ impl Function for IrGridMap {
     type Input = MapInput;
 
     fn outputs(input: &MapInput) -> Outputs {
-        Outputs::slices(&[points(&input.d)], 1)
+        Outputs::slices(&[lent_points(&input.d)], 1)
     }
 
     fn port(input: &MapInput, outputs: &mut Outputs) -> i64 {
@@ -155,7 +156,7 @@ impl Function for AllGridAddresses {
     type Input = GridInput;
 
     fn outputs(input: &GridInput) -> Outputs {
-        Outputs::slices(&[3 * points(&input.d)], 0)
+        Outputs::slices(&[3 * lent_points(&input.d)], 0)
     }
 
     fn port(input: &GridInput, outputs: &mut Outputs) -> i64 {

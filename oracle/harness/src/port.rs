@@ -3,6 +3,10 @@
 //! to both: that is proved there, so the wrappers ask nothing of their callers.
 #![allow(clippy::too_many_arguments)]
 
+mod triplets;
+
+pub use triplets::*;
+
 extern "C" {
     fn zone_checked_add(a: i64, b: i64, told: *mut i64, told_len: usize) -> i64;
     fn zone_checked_sub(a: i64, b: i64, told: *mut i64, told_len: usize) -> i64;

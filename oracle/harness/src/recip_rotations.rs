@@ -19,8 +19,8 @@ const PLACES: usize = 9 * RECIPROCAL_ROTATIONS;
 /// A list of rotations and flags.
 #[derive(Debug)]
 pub struct ListInput<const FLAGS: usize> {
-    rotations: Vec<i64>,
-    flags: [bool; FLAGS],
+    pub rotations: Vec<i64>,
+    pub flags: [bool; FLAGS],
 }
 
 impl<const FLAGS: usize> Input for ListInput<FLAGS> {
@@ -58,6 +58,14 @@ impl<const FLAGS: usize> Input for ListInput<FLAGS> {
     }
 }
 
+/// The number of a refusal.
+pub fn number(error: ReciprocalRotationsError) -> i64 {
+    match error {
+        ReciprocalRotationsError::TooManyRotations => TOO_MANY_ROTATIONS,
+        ReciprocalRotationsError::TooManyForInversion => TOO_MANY_FOR_INVERSION,
+    }
+}
+
 /// Tests the call, makes it, and hands its list over.
 fn answer(
     rotations: &[i64],
@@ -68,10 +76,7 @@ fn answer(
         let rotations = tests::matrices(rotations)?;
         tests::length(slices[0].len() == PLACES && told.len() == 1)?;
         tests::limit(tests::rotations_fit(&rotations, ROTATION_ENTRY))?;
-        let list = counted(|| call(&rotations))?.map_err(|error| match error {
-            ReciprocalRotationsError::TooManyRotations => TOO_MANY_ROTATIONS,
-            ReciprocalRotationsError::TooManyForInversion => TOO_MANY_FOR_INVERSION,
-        })?;
+        let list = counted(|| call(&rotations))?.map_err(number)?;
         let numbers = list.as_flattened().as_flattened();
         slices[0].fill(REFUSED_PLACE);
         slices[0][..numbers.len()].copy_from_slice(numbers);

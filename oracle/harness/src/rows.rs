@@ -2,19 +2,25 @@
 
 use crate::bench::{self, Times};
 use crate::bz_grid_addresses::*;
+use crate::bz_triplets_at_q::*;
+use crate::chain::*;
 use crate::floats::*;
 use crate::function::Function;
 use crate::grgrid::*;
+use crate::inputs::lent_classes::ClassesInput;
 use crate::inputs::lent_images::ImagesInput;
 use crate::inputs::lent_neighbours::NeighboursInput;
 use crate::inputs::lent_rotations::RotateInput;
+use crate::inputs::lent_triplets::TripletsInput;
 use crate::integers::*;
+use crate::ir_triplets_at_q::*;
 use crate::neighboring_grid_points::*;
 use crate::recip_rotations::*;
 use crate::rotate_bz_grid_index::*;
 use crate::same_grid::*;
 use crate::snf3x3::*;
 use crate::transform_rotations::*;
+use crate::zone_list::*;
 use crate::{compare, vectors};
 
 /// What the commands do with one function.
@@ -22,9 +28,9 @@ pub struct Row {
     pub name: &'static str,
     /// Runs random cases from a seed and counts the differences.
     pub compare: fn(cases: u64, seed: u64) -> u64,
-    /// The function's lines of the vectors, from a seed.
-    pub vectors: fn(seed: u64) -> Vec<String>,
-    pub bench: fn() -> Times,
+    /// The function's lines of the vectors, from a seed, if it has any.
+    pub vectors: Option<fn(seed: u64) -> Vec<String>>,
+    pub bench: Option<fn() -> Times>,
 }
 
 impl Row {
@@ -32,8 +38,17 @@ impl Row {
         Row {
             name: F::NAME,
             compare: compare::run::<F>,
-            vectors: vectors::lines::<F>,
-            bench: bench::run::<F>,
+            vectors: Some(vectors::lines::<F>),
+            bench: Some(bench::run::<F>),
+        }
+    }
+
+    /// Of calls that are only compared: each by itself has its vectors and its bench.
+    const fn compared<F: Function>() -> Row {
+        Row {
+            vectors: None,
+            bench: None,
+            ..Row::of::<F>()
         }
     }
 }
@@ -66,6 +81,10 @@ pub static ROWS: &[Row] = &[
     Row::of::<BzGridAddresses>(),
     Row::of::<RotateBzGridIndex>(),
     Row::of::<NeighboringGridPoints>(),
+    Row::of::<IrTripletsAtQ>(),
+    Row::of::<BzTripletsAtQ>(),
+    Row::compared::<Chain>(),
+    Row::compared::<ZoneList>(),
 ];
 
 /// A line of the bench for a function on other inputs: FUNCTION:INPUTS. It is
@@ -94,5 +113,17 @@ pub static VARIANTS: &[Variant] = &[
     }),
     ("neighboring_grid_points:type_2", || {
         bench::run_on::<NeighboringGridPoints>(NeighboursInput::dense)
+    }),
+    ("ir_triplets_at_q:swapped", || {
+        bench::run_on::<IrTripletsAtQ>(ClassesInput::swapped)
+    }),
+    ("ir_triplets_at_q:unswapped", || {
+        bench::run_on::<IrTripletsAtQ>(ClassesInput::unswapped)
+    }),
+    ("bz_triplets_at_q:type_1", || {
+        bench::run_on::<BzTripletsAtQ>(TripletsInput::sparse)
+    }),
+    ("bz_triplets_at_q:type_2", || {
+        bench::run_on::<BzTripletsAtQ>(TripletsInput::dense)
     }),
 ];

@@ -67,7 +67,7 @@ pub fn typical(random: &mut Random, sizes: &[i64]) -> Vec<i64> {
 
 #[derive(Debug)]
 pub struct MatrixInput {
-    a: Vec<i64>,
+    pub a: Vec<i64>,
 }
 
 impl MatrixInput {

@@ -2,6 +2,7 @@
 //! that replays them where no Rust is at hand. A file a function.
 
 use crate::function::{Function, Input, Line};
+use crate::inputs::floats::words;
 use crate::random::Random;
 
 /// What the replaying program holds: a line, so that it has under 4,096 numbers;
@@ -56,11 +57,21 @@ fn line<F: Function>(input: &F::Input) -> Option<String> {
     let mut line = Line::default();
     input.write(&mut line);
     line.number(answer);
-    for slice in &outputs.slices {
-        if slice.len() > LISTED {
-            line.numbers(&[slice.len() as i64, sum(slice)]);
+    let numbers = outputs.slices.len() - F::FLOATS;
+    for (k, slice) in outputs.slices.iter().enumerate() {
+        let places = if k < numbers {
+            slice.clone()
         } else {
-            line.slice(slice);
+            slice
+                .iter()
+                .flat_map(|&bits| words(f64::from_bits(bits as u64)))
+                .collect()
+        };
+        line.number(slice.len() as i64);
+        if slice.len() > LISTED {
+            line.number(sum(&places));
+        } else {
+            line.numbers(&places);
         }
     }
     line.numbers(&outputs.told);

@@ -25,7 +25,10 @@ fn run(given: &[String]) -> Result<usize, String> {
     let seed = arguments::number("SEED", seed)?;
     let mut cases = 0;
     for row in ROWS {
-        let lines = (row.vectors)(seed);
+        let Some(lines) = row.vectors else {
+            continue;
+        };
+        let lines = lines(seed);
         cases += lines.len();
         let file = Path::new(folder).join(row.name);
         fs::write(&file, vectors::text(seed, &lines))

@@ -3,13 +3,14 @@
 
 use phonors::common::{det_i, matmul_i, transpose_i, MatI, Vec3I, IDENTITY};
 use phonors::snf3x3_measured::snf3x3;
+use phonors::transform_rotations::transform_rotations;
 
 use crate::inputs::grids;
 use crate::inputs::groups::{self, conjugate, CUBIC, HEXAGONAL};
 use crate::inputs::lent::repeated;
 use crate::inputs::matrices::{self, adjugate, diag, elementary, is_within};
 use crate::inputs::tolerance;
-use crate::limits::{Q_ENTRY, ROTATIONS, TRANSFORMED_ENTRY};
+use crate::limits::{Q_ENTRY, ROTATIONS, ROTATION_ENTRY, TRANSFORMED_ENTRY};
 use crate::panics::counted;
 use crate::random::Random;
 use crate::tests::points;
@@ -24,7 +25,7 @@ pub struct Transform {
 
 /// Cells that large groups keep: the primitive, the face-centred and the
 /// body-centred one of the cubic lattice, and one of the hexagonal.
-const CELLS: [MatI; 4] = [
+pub const CELLS: [MatI; 4] = [
     IDENTITY,
     [[0, 1, 1], [1, 0, 1], [1, 1, 0]],
     [[-1, 1, 1], [1, -1, 1], [1, 1, -1]],
@@ -125,6 +126,11 @@ fn plain(random: &mut Random) -> Transform {
         let d = diagonal(random);
         return built(random, d);
     }
+    kept_grid(random)
+}
+
+/// A group on a grid that it keeps.
+fn kept_grid(random: &mut Random) -> Transform {
     loop {
         let group: &[MatI] = if random.coin() { &CUBIC } else { &HEXAGONAL };
         let [x, y, z] = grids::diagonal(random);
@@ -136,22 +142,49 @@ fn plain(random: &mut Random) -> Transform {
     }
 }
 
-/// The members of a group that keep the matrix A, that is A·R·A⁻¹ is whole, with
-/// what the diagonalising makes of it, if that is within the limits.
-fn kept(random: &mut Random, group: &[MatI], mut a: MatI) -> Option<Transform> {
+/// A group on a grid that it keeps, or a subgroup of it. The rotations are the grid's own
+/// operations, as the Rust makes them, within the limits.
+pub fn grid_group(random: &mut Random) -> Transform {
+    loop {
+        let plain = kept_grid(random);
+        let mut given = rebased(random, plain);
+        if random.coin() {
+            let count = random.below(SHORT);
+            let members = (0..count).map(|_| random.pick(&given.rotations));
+            given.rotations = groups::closure(&members.collect::<Vec<MatI>>());
+        }
+        let Ok(rotations) = transform_rotations(&given.rotations, given.d, given.q) else {
+            continue;
+        };
+        if rotations.iter().all(|r| is_within(r, ROTATION_ENTRY)) {
+            return Transform { rotations, ..given };
+        }
+    }
+}
+
+/// The members of a group that keep the matrix A, that is A·R·A⁻¹ is whole, and the
+/// matrix after steps from the left: they leave the members, and lead the walk of the
+/// diagonalising to another Q.
+pub fn keeping(random: &mut Random, group: &[MatI], mut a: MatI) -> (Vec<MatI>, MatI) {
     let (det, adjugate) = (det_i(&a), adjugate(&a));
     let keeps = |rotation: &&MatI| {
         let product = matmul_i(&matmul_i(&a, rotation), &adjugate);
         product.iter().flatten().all(|entry| entry % det == 0)
     };
     let rotations = group.iter().filter(keeps).copied().collect();
-    // Steps from the left leave them, and lead the walk to another Q.
     for _ in 0..random.below(STEPS + 1) {
         let next = matmul_i(&elementary(random).matrix, &a);
         if is_within(&next, Q_ENTRY) {
             a = next;
         }
     }
+    (rotations, a)
+}
+
+/// The members of a group that keep a matrix, with what the diagonalising makes of it,
+/// if that is within the limits.
+fn kept(random: &mut Random, group: &[MatI], a: MatI) -> Option<Transform> {
+    let (rotations, a) = keeping(random, group, a);
     // In the version of the Rust that tells an overflow in every build.
     let answer = counted(|| snf3x3(a)).ok()?.ok()?;
     let fits = points(answer.d_diag).is_ok() && is_within(&answer.q, Q_ENTRY);

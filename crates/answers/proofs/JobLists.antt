@@ -15,10 +15,9 @@ use Rattle.common.specs.declared.Refusal.the-variants.{WrongLength}
 use Rattle.common.specs.declared.Tested.{Tested}
 use Rattle.common.specs.declared.Tested.the-variants as tested
 use Rattle.common.specs.Refusal.{numberOf}
-use Rattle.common.specs.Tested.{require}
-use Rattle.triplet_grid.specs.IrTriplets.{after}
+use Rattle.common.specs.Tested.{require, after}
 use Rattle.zone.specs.declared.Finished.{Finished}
-use Rattle.zone.specs.Chain.{Rooms}
+use Rattle.zone_steps.specs.Steps.{Rooms}
 use Rattle.zone_list.specs.declared.Listing.{Listing}
 use Rattle.zone_list.specs.declared.Listing.the-variants.{Bytes, Refused}
 use Rattle.zone_list.specs.List.{answerFor, printTests, printAnswer, finished, text, listAnswer, listText}

@@ -8,8 +8,8 @@ use lib.ListN.{replicate}
 use Rattle.integer.specs.Checked.{pick}
 use Rattle.common.specs.declared.Refusal.the-variants.{WrongLength}
 use Rattle.common.specs.Refusal.{numberOf}
-use Rattle.zone.specs.Chain.{Rooms}
-use Rattle.zone.specs.ChainView.{rooms}
+use Rattle.zone_steps.specs.Steps.{Rooms}
+use Rattle.zone_steps.specs.StepsView.{rooms}
 use Rattle.zone_list.specs.declared.Listing.{Listing}
 use Rattle.zone_list.specs.declared.Listing.the-variants.{Bytes, Refused}
 use Rattle.zone_list.specs.List.{listAnswer, listText}

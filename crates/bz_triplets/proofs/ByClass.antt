@@ -11,13 +11,7 @@ use lib.IntN.{ℤ, pos, negsuc}
 use lib.Ieee.{Float}
 use lib.ListN.{length, getD, set, take, drop, length-append, length-drop, length-set}
 use lib.Seq.{length-take-le, take-all, take-at, take-suc-set, sets-eq}
-use lib.Signed.{mag}
-use mir.Syntax.{w64}
-use mir.Val.{toZ, ofZ}
-use mir.Facts.{toZ-pos}
-use borrow.Author.Tests.{eq-eqb, ne-eqb}
 use Rattle.integer.specs.Checked.{pick}
-use Rattle.integer.proofs.Fits.{held-is}
 use Rattle.grgrid.specs.Own.{isPlace, ownPlaces, ownPoints}
 use Rattle.grgrid.proofs.Lists.{_∈_}
 use Rattle.grgrid.proofs.Numbers.{own-more, own-same}
@@ -29,18 +23,6 @@ use Rattle.bz_triplets.specs.Choosing.{start, left, closed}
 use Rattle.bz_triplets.specs.BzTriplets.{State, readEach, placesOf, markOf, lengthOf, tripletList, marks, lengths}
 use Rattle.bz_triplets.specs.TripletsView.{foundBy, choiceOf, stateOf, stepPlace, Room}
 use Rattle.bz_triplets.proofs.Rising.{own-points}
-
--- ---- the test of an entry, on its bits
-module _ (z : ℤ) (n : ℕ) where
-  pub entry-is : mag z < 0x8000000000000000 → n < 0x8000000000000000 → ofZ w64 z ≡ n → z ≡ pos n
-  entry-is f h e = sym (held-is z f) ∙ ap (toZ w64) e ∙ toZ-pos w64 h
-
-  pub entry-place : z ≡ pos n → isPlace z n ≡ true
-  entry-place e = ap (λ z. isPlace z n) e ∙ eq-eqb n n refl
-
-pub entry-other : (z : ℤ) (n : ℕ) → (ofZ w64 z ≡ n → ⊥) → isPlace z n ≡ false
-entry-other (pos m) n h = ne-eqb m n h
-entry-other (negsuc m) n h = refl
 
 -- ---- the three places of a triplet, one after the other
 pub places-stored : (t : Triplet) (at : ℕ) (out : List ℤ) → at + 3 ≤ length out → {a b c : ℤ} → a ≡ stepPlace (t .step) (t .x) → b ≡ stepPlace (t .step) (t .y) → c ≡ stepPlace (t .step) (t .z)

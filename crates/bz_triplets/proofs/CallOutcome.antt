@@ -24,7 +24,7 @@ use Rattle.common.specs.declared.Refusal.{Refusal}
 use Rattle.common.specs.declared.Refusal.the-variants.{WrongLength, OutsideLimits, OutsideTable}
 use Rattle.common.specs.declared.Tested.{Tested}
 use Rattle.common.specs.declared.Tested.the-variants.{Accepted, Refused}
-use Rattle.common.proofs.Tests.{passed}
+use Rattle.common.proofs.Tests.{passed, not-accepted}
 use Rattle.grgrid.specs.Sides.{GridFits}
 use Rattle.grgrid.specs.Own.{ownPlaces, ownPoints}
 use Rattle.grgrid.proofs.Folding.{index-lt}
@@ -32,11 +32,10 @@ use Rattle.bzgrid.specs.declared.GridType.{GridType}
 use Rattle.bzgrid.specs.declared.GridType.the-variants.{Sparse, Dense, Unknown}
 use Rattle.bzgrid.specs.BzGridAddresses.{gridType}
 use Rattle.bzsearch.specs.Lattice.{latticeFits}
-use Rattle.bztable.proofs.NeighbourCall.{not-accepted}
-use Rattle.bztable.specs.Reading.{Read, got, outside, inside, _then_, wholeAddresses, addressOf}
+use Rattle.bztable.specs.Reading.{Read, got, outside, _then_, wholeAddresses, addressOf, testsAfter, listOf}
 use Rattle.bz_triplets.specs.declared.BzTriplets.{BzTriplets}
 use Rattle.bz_triplets.specs.declared.BzTriplets.the-variants as answer
-use Rattle.bz_triplets.specs.BzTriplets.{State, Walk, walkOf, pointOf, tripletOf, tripletAt, readEach, inputTests, tripletsRead, statesOf, testsAfter, tripletList, marks, lengths, lengthsFor, answerFor, bzTripletTests, bzTripletsAnswer, tripletsWritten, leftWritten, leftLengthWritten}
+use Rattle.bz_triplets.specs.BzTriplets.{State, Walk, walkOf, pointOf, tripletOf, tripletAt, readEach, inputTests, tripletsRead, tripletList, marks, lengths, lengthsFor, answerFor, bzTripletTests, bzTripletsAnswer, tripletsWritten, leftWritten, leftLengthWritten}
 use Rattle.bz_triplets.specs.TripletsView.{Room}
 
 pub not-outside : {A : Type 0} {x : A} → got x ≡ outside → ⊥
@@ -60,20 +59,13 @@ point-below d g Sparse h a0 = h
 point-below d g Dense h a0 = lt-of-lt-of-le (index-lt d (record { positive = g .positive }) a0) (le-trans (g .few) (lit≤ tt))
 point-below d g Unknown h a0 = h
 
--- ---- a read whose outcome is known
-pub inside-true : {A : Type 0} {r : Bool} (x : A) {y : Read A} → r ≡ true → inside r x ≡ y → got x ≡ y
-inside-true x h e = ap (λ r. inside r x) (sym h) ∙ e
-
-pub inside-false : {A : Type 0} {r : Bool} (x : A) {y : Read A} → r ≡ false → inside r x ≡ y → outside ≡ y
-inside-false x h e = ap (λ r. inside r x) (sym h) ∙ e
-
 -- what a walk over R leaves
 module _ {B : Type 0} (f : List State → B) where
   none : (R : Read (List State)) → outside ≡ (R then λ l. got (f l)) → R ≡ outside
   none (got l) e = absurd (not-outside (sym e))
   none outside e = refl
 
-  all : (R : Read (List State)) {x : B} → got x ≡ (R then λ l. got (f l)) → (x ≡ f (statesOf R)) × (testsAfter Accepted R ≡ Accepted)
+  all : (R : Read (List State)) {x : B} → got x ≡ (R then λ l. got (f l)) → (x ≡ f (listOf R)) × (testsAfter Accepted R ≡ Accepted)
   all (got l) e = (cc, refl)
   all outside e = absurd (not-outside e)
 
@@ -134,7 +126,7 @@ module _ (i : Input) where
   abbrev pub Meets : Tested → List ℤ → List ℤ → List Float → Type 0
   Meets r x y z =
       (r ≡ tests (i .t))
-      × ((r ≡ Accepted → x ≡ tripletList (statesOf (R (i .t)))) × ((r ≡ Accepted → y ≡ marks (statesOf (R (i .t)))) × (r ≡ Accepted → z ≡ lengths (statesOf (R (i .t))))))
+      × ((r ≡ Accepted → x ≡ tripletList (listOf (R (i .t)))) × ((r ≡ Accepted → y ≡ marks (listOf (R (i .t)))) × (r ≡ Accepted → z ≡ lengths (listOf (R (i .t))))))
 
   after : {s : Tested} → inputs ≡ s → (x : Read (List State)) → R (i .t) ≡ x → testsAfter s x ≡ tests (i .t)
   unfolding bzTripletTests
@@ -167,8 +159,8 @@ module _ (i : Input) where
       pub tests-written : {x y : List ℤ} {z : List Float} → got x ≡ (each i g w a0 p then λ l. got (tripletList l)) → got y ≡ (each i g w a0 p then λ l. got (marks l)) → got z ≡ (each i g w a0 p then λ l. got (lengths l)) → Meets Accepted x y z
       tests-written ex ey ez = (sym (all tripletList (each i g w a0 p) ex .1) ∙ after e (each i g w a0 p) walked, (λ _. from-all tripletList ex, (λ _. from-all marks ey, λ _. from-all lengths ez)))
         where
-          from-all : {B : Type 0} (f : List State → B) {x : B} → got x ≡ (each i g w a0 p then λ l. got (f l)) → x ≡ f (statesOf (R (i .t)))
-          from-all f h = all f (each i g w a0 p) h .0 ∙ ap (λ x. f (statesOf x)) (sym walked)
+          from-all : {B : Type 0} (f : List State → B) {x : B} → got x ≡ (each i g w a0 p then λ l. got (f l)) → x ≡ f (listOf (R (i .t)))
+          from-all f h = all f (each i g w a0 p) h .0 ∙ ap (λ x. f (listOf x)) (sym walked)
 
   -- ---- the call, which is given the type u
   module _ (u : ℤ) where
@@ -180,11 +172,11 @@ module _ (i : Input) where
         × (z ≡ leftLengthWritten (i .q0) (i .addresses) (i .map) (i .classes) (i .d) (i .q) (i .lattice) u (i .n) (i .m) (i .l))))
 
     module _ (e : i .t ≡ gridType u) {x y : List ℤ} {z : List Float} where
-      answered : (r : Tested) → r ≡ tests (i .t) → x ≡ outputOf r (i .n) (tripletList (statesOf (R (i .t)))) → y ≡ outputOf r (i .m) (marks (statesOf (R (i .t)))) → z ≡ lengthsFor r (i .l) (lengths (statesOf (R (i .t)))) → Answers (answerFor r) x y z
+      answered : (r : Tested) → r ≡ tests (i .t) → x ≡ outputOf r (i .n) (tripletList (listOf (R (i .t)))) → y ≡ outputOf r (i .m) (marks (listOf (R (i .t)))) → z ≡ lengthsFor r (i .l) (lengths (listOf (R (i .t)))) → Answers (answerFor r) x y z
       unfolding bzTripletsAnswer tripletsWritten leftWritten leftLengthWritten
       answered r f ex ey ez =
           let g : r ≡ tests (gridType u) = f ∙ ap tests e in
-          (ap answerFor g, (ex ∙ (λ j. outputOf (g j) (i .n) (tripletList (statesOf (R (e j))))), (ey ∙ (λ j. outputOf (g j) (i .m) (marks (statesOf (R (e j))))), ez ∙ (λ j. lengthsFor (g j) (i .l) (lengths (statesOf (R (e j))))))))
+          (ap answerFor g, (ex ∙ (λ j. outputOf (g j) (i .n) (tripletList (listOf (R (e j))))), (ey ∙ (λ j. outputOf (g j) (i .m) (marks (listOf (R (e j))))), ez ∙ (λ j. lengthsFor (g j) (i .l) (lengths (listOf (R (e j))))))))
 
       pub call-written : {s : Tested} → Meets s x y z → s ≡ Accepted → Answers answer.Written x y z
       call-written m h = answered Accepted (sym h ∙ m .0) (m .1 .0 h) (m .1 .1 .0 h) (m .1 .1 .1 h)

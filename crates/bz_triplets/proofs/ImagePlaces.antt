@@ -5,7 +5,6 @@ use mathlib.Core.List.{List}
 use Prim.Native.Nat.{ℕ, _+_, _<_}
 use lib.Dec.{lit<}
 use lib.IntN.{ℤ}
-use borrow.Author.Tests.{not-true, not-false}
 use Rattle.integer.proofs.Test.{fails}
 use Rattle.bztable.specs.Reading.{Read, got, outside, inside, _then_, placeAt}
 use Rattle.bz_triplets.specs.declared.choices.Places.{Places}
@@ -13,14 +12,6 @@ use Rattle.bz_triplets.specs.declared.classes.Bounds.{Bounds}
 use Rattle.bz_triplets.specs.declared.choices.Step.the-variants as step
 use Rattle.bz_triplets.specs.declared.choices.Triplet.{Triplet}
 use Rattle.bz_triplets.specs.TripletsView.{boundsAt, boundsView, PlacesFit, TripletFits}
-
--- what was read, by the code's test
-module _ {A : Type 0} (r : Bool) (a : A) {x : Read A} (e : inside r a ≡ x) where
-  pub view-failed : not r ≡ true → x ≡ outside
-  view-failed h = sym e ∙ ap (λ r. inside r a) (not-true r h)
-
-  pub view-right : not r ≡ false → x ≡ got a
-  view-right h = sym e ∙ ap (λ r. inside r a) (not-false r h)
 
 -- three reads one after the other
 module _ {A B C D : Type 0} (f : A → B → C → Read D) where
@@ -52,9 +43,9 @@ module _ {A B C D : Type 0} (f : A → B → C → Read D) (r s t : Bool) (a : A
 abbrev pair : ℕ → ℕ → ℕ × ℕ
 pair s e = (s, e)
 
--- what is made of the two bounds of a range, by the code's record of both
-pub made : {A : Type 0} (f : ℕ → ℕ → A) (b : Bounds) (map : List ℤ) (k : ℕ) → boundsView b ≡ boundsAt map k → inside (b .inside) (f (b .from) (b .to)) ≡ (placeAt map k then λ s. placeAt map (k + 1) then λ e. got (f s e))
-made {A} f b map k h = by-record (b .inside) ∙ ap (λ z. z then on) h ∙ by-reads (placeAt map k) (placeAt map (k + 1))
+-- what is made of the two bounds of a range, by the code's record of both and what stands for its place k
+pub made : {A : Type 0} (f : ℕ → ℕ → A) (b : Bounds) (map : List ℤ) (k : ℕ) {j : ℕ} → j ≡ k → boundsView b ≡ boundsAt map j → inside (b .inside) (f (b .from) (b .to)) ≡ (placeAt map k then λ s. placeAt map (k + 1) then λ e. got (f s e))
+made {A} f b map k e h = by-record (b .inside) ∙ ap (λ z. z then on) (h ∙ ap (boundsAt map) e) ∙ by-reads (placeAt map k) (placeAt map (k + 1))
   where
     on : ℕ × ℕ → Read A
     on p = got (f (p .0) (p .1))

@@ -2,12 +2,11 @@
 use mathlib.Core.Path.{_≡_, refl, sym, _∙_, ap}
 use mathlib.Core.Bool.{Bool, true, false, _&&_}
 use mathlib.Core.List.{List, []}
-use Prim.Native.Nat.{ℕ, _^_, _≤_}
-use native.Mathlib.Omega.{arith}
-use lib.Dec.{T, le→leb, lt→ltb}
-use lib.IntN.{ℤ, pos, negsuc, natAbs, _+ℤ_}
+use Prim.Native.Nat.{ℕ, _≤_}
+use lib.Dec.{T}
+use lib.IntN.{ℤ, pos, natAbs, _+ℤ_}
 use lib.ListN.{getD}
-use lib.Ieee.{Float, binary64, inFloat}
+use lib.Ieee.{Float}
 use mir.Syntax.{w64}
 use mir.Val.{SFits}
 use Rattle.integer.specs.Checked.{pick}
@@ -42,12 +41,6 @@ module _ {a b c : List ℤ} (h : Sized 10000000000000 a × (Sized 10000000000000
 
     pub sum-size : natAbs (held (held (held (getD a n (pos 0)) +ℤ held (getD b n (pos 0))) +ℤ held (getD c n (pos 0)))) ≤ 30000000000000
     sum-size = rw sum-is (let f = h .0 in let g = h .1 .0 in let k = h .1 .1 in plain-within {v = getD a n (pos 0) +ℤ getD b n (pos 0) +ℤ getD c n (pos 0)} (search (plain, p-sized) depth 12) tt)
-
--- exact as a float
-pub whole-float : (z : ℤ) → natAbs z ≤ 9007199254740992 → T (inFloat binary64 z)
-unfolding inFloat
-whole-float (pos n) h = le→leb n (2 ^ 53) (omega arith)
-whole-float (negsuc n) h = lt→ltb n (2 ^ 53) (omega arith)
 
 -- ---- a triplet, while the walk goes on
 view-by : (b : Bool) (s : State) → T b → inside b s ≡ got s

@@ -5,7 +5,7 @@ use Prim.Native.Nat.{ℕ, zero, suc, _+_, _*_, _-_}
 use lib.Dec.{eqb}
 use lib.IntN.{ℤ, pos, negsuc, natAbs, _+ℤ_}
 use lib.ListN.{length, replicate}
-use lib.Ieee.{Float, binary64, sub, div, neg, ofInt, lt}
+use lib.Ieee.{Float, binary64, sub, div, ofInt, lt}
 use Rattle.integer.specs.Same.{same}
 use Rattle.common.specs.Matrix.{Vec, Mat, side, vector, entry, matrix, mapVec, mapMat, allAxes, productOver, applyOver}
 use Rattle.common.specs.Array.{sidesOf, matrixOf, items}
@@ -14,7 +14,7 @@ use Rattle.common.specs.Limits.{matrixWithin, diagonalFits, pointFits}
 use Rattle.common.specs.Tested.{require, outputOf}
 use Rattle.common.specs.declared.Tested.{Tested}
 use Rattle.common.specs.declared.Tested.the-variants.{Accepted, Refused}
-use Rattle.common.specs.declared.Refusal.the-variants.{OutsideLimits, BadGridType, WrongLength, OutsideTable}
+use Rattle.common.specs.declared.Refusal.the-variants.{OutsideLimits, BadGridType, WrongLength}
 use Rattle.grgrid.specs.Grid.{size, index}
 use Rattle.grgrid.specs.Own.{ownPlaces, ownPoints}
 use Rattle.bzgrid.specs.declared.GridType.{GridType}
@@ -23,7 +23,7 @@ use Rattle.bzsearch.specs.Lattice.{bzTolerance, latticeFits}
 use Rattle.bzsearch.specs.Search.{lengthSquared}
 use Rattle.bzgrid.specs.Table.{listed}
 use Rattle.bzgrid.specs.BzGridAddresses.{gridType, isKnown}
-use Rattle.bztable.specs.Reading.{Read, got, outside, _then_, wholeAddresses, addressAt, addressOf, placeAt}
+use Rattle.bztable.specs.Reading.{Read, got, outside, _then_, wholeAddresses, addressAt, addressOf, placeAt, testsAfter, listOf}
 use Rattle.bz_triplets.specs.declared.BzTriplets.{BzTriplets}
 use Rattle.bz_triplets.specs.declared.BzTriplets.the-variants as answer
 use Rattle.triplet_grid.specs.Partner.{third}
@@ -164,15 +164,6 @@ module _ (q0 : ℤ) (addresses map classes d : List ℤ) (q : List (List ℤ)) (
   unfolding tripletOf lqdInv
   tripletsRead = addressOf addresses q0 then λ a0. readEach (tripletAt a0) (ownPoints classes (length classes))
 
-abbrev pub statesOf : Read (List State) → List State
-statesOf (got l) = l
-statesOf outside = []
-
-abbrev pub testsAfter : Tested → Read (List State) → Tested
-testsAfter Accepted (got l) = Accepted
-testsAfter Accepted outside = Refused OutsideTable
-testsAfter (Refused r) l = Refused r
-
 abbrev pub answerFor : Tested → BzTriplets
 answerFor Accepted = answer.Written
 answerFor (Refused r) = answer.Refused r
@@ -192,7 +183,7 @@ module _ (q0 : ℤ) (addresses map classes d : List ℤ) (q : List (List ℤ)) (
   tests = bzTripletTests q0 addresses map classes d q lattice (gridType t) n m l
 
   abbrev states : List State
-  states = statesOf (tripletsRead q0 addresses map classes d q lattice (gridType t))
+  states = listOf (tripletsRead q0 addresses map classes d q lattice (gridType t))
 
   unfoldable pub bzTripletsAnswer : BzTriplets
   unfolding bzTripletTests

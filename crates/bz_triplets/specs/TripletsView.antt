@@ -20,7 +20,7 @@ use Rattle.bz_triplets.specs.declared.choices.Triplet.{Triplet}
 use Rattle.bz_triplets.specs.declared.choices.Places.{Places}
 use Rattle.bz_triplets.specs.declared.choices.Measure.{Measure}
 use Rattle.bz_triplets.specs.declared.classes.Bounds.{Bounds}
-use Rattle.bz_triplets.specs.Choosing.{Found, start, left, closed}
+use Rattle.bz_triplets.specs.Choosing.{start, left, closed}
 use Rattle.bz_triplets.specs.BzTriplets.{State, Walk, placeIn}
 
 -- a row of lattice · Q over the diagonal numbers

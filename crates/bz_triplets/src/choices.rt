@@ -8,7 +8,7 @@ ghost use Rattle.bzsearch.specs.SearchView.{floatNine};
 ghost use Rattle.bztable.specs.Reading.{got, outside};
 ghost use Rattle.bz_triplets.specs.Choosing.{start, nested};
 ghost use Rattle.bz_triplets.specs.BzTriplets.{squaredDistance, sumOf, isZero, triedSum, tryAt, placeIn};
-ghost use Rattle.bz_triplets.specs.TripletsView.{foundBy, choiceOf, tripletView, placesIn, walkBy, shorter, isOver, GoesOn, Open, PlacesFit, TripletFits};
+ghost use Rattle.bz_triplets.specs.TripletsView.{foundBy, choiceOf, tripletView, placesIn, walkBy, shorter, isOver, Open, PlacesFit, TripletFits};
 
 // What one step tells of its triplet: the sum closed, or the squared length that is left over, or there was no choice.
 pub enum Step {

@@ -27,9 +27,9 @@ ghost use Rattle.grgrid.specs.Grid.{size};
 ghost use Rattle.grgrid.specs.Sides.{sides, GridFits};
 ghost use Rattle.bzsearch.specs.Lattice.{bzTolerance, latticeFits};
 ghost use Rattle.bzsearch.specs.SearchView.{floatNine};
-ghost use Rattle.bztable.specs.Reading.{wholeAddresses};
+ghost use Rattle.bztable.specs.Reading.{wholeAddresses, listOf};
 ghost use Rattle.bz_triplets.specs.declared.BzTriplets.the-variants.{Refused};
-ghost use Rattle.bz_triplets.specs.BzTriplets.{lqdInv, pointOf, isDense, inputTests, tripletsRead, statesOf, tripletList, marks, lengths, bzTripletTests, bzTripletsAnswer, tripletsWritten, leftWritten, leftLengthWritten};
+ghost use Rattle.bz_triplets.specs.BzTriplets.{lqdInv, pointOf, isDense, inputTests, tripletsRead, tripletList, marks, lengths, bzTripletTests, bzTripletsAnswer, tripletsWritten, leftWritten, leftLengthWritten};
 ghost use Rattle.bz_triplets.specs.TripletsView.{rowOver};
 
 pub enum BzTriplets {
@@ -67,22 +67,17 @@ fn measure_of(lattice: [[f64; 3]; 3], q: [[i64; 3]; 3], d: [i64; 3]) -> Measure
     }
 }
 
-fn is_thrice(n: usize, k: usize) -> bool
-    ensures { λ r. ⌜ r ≡ eqb n (k * 3) ⌝ }
-{
-    if n % 3 != 0 {
-        return false;
-    }
-    n / 3 == k
-}
-
 fn lengths_fit(addresses: &[i64], own: usize, triplets: usize, left: usize, lengths: usize) -> bool
     ensures { λ r. ⌜ r ≡ wholeAddresses (now (addresses .entry)) && (eqb triplets (own * 3) && (eqb left own && eqb lengths own)) ⌝ }
 {
     if !reading::whole_addresses(addresses) {
         return false;
     }
-    common::all_three(is_thrice(triplets, own), left == own, lengths == own)
+    common::all_three(
+        common::is_thrice(triplets, own),
+        left == own,
+        lengths == own,
+    )
 }
 
 fn limits_fit(d: [i64; 3], q: [[i64; 3]; 3], lattice: [[f64; 3]; 3]) -> bool
@@ -178,9 +173,9 @@ fn triplet_tests(
     left_length: &mut [f64],
 ) -> Tested
     ensures { λ r. ⌜ r ≡ bzTripletTests q0 (now (addresses .entry)) (now (map .entry)) (now («class_map» .entry)) d q lattice t (length (now (out .entry))) (length (now (left .entry))) (length (now («left_length» .entry))) ⌝ }
-    ensures { λ r. ⌜ (r ≡ Accepted → now (out .exit) ≡ tripletList (statesOf (tripletsRead q0 (now (addresses .entry)) (now (map .entry)) (now («class_map» .entry)) d q lattice t))) ⌝ }
-    ensures { λ r. ⌜ (r ≡ Accepted → now (left .exit) ≡ marks (statesOf (tripletsRead q0 (now (addresses .entry)) (now (map .entry)) (now («class_map» .entry)) d q lattice t))) ⌝ }
-    ensures { λ r. ⌜ (r ≡ Accepted → now («left_length» .exit) ≡ lengths (statesOf (tripletsRead q0 (now (addresses .entry)) (now (map .entry)) (now («class_map» .entry)) d q lattice t))) ⌝ }
+    ensures { λ r. ⌜ (r ≡ Accepted → now (out .exit) ≡ tripletList (listOf (tripletsRead q0 (now (addresses .entry)) (now (map .entry)) (now («class_map» .entry)) d q lattice t))) ⌝ }
+    ensures { λ r. ⌜ (r ≡ Accepted → now (left .exit) ≡ marks (listOf (tripletsRead q0 (now (addresses .entry)) (now (map .entry)) (now («class_map» .entry)) d q lattice t))) ⌝ }
+    ensures { λ r. ⌜ (r ≡ Accepted → now («left_length» .exit) ≡ lengths (listOf (tripletsRead q0 (now (addresses .entry)) (now (map .entry)) (now («class_map» .entry)) d q lattice t))) ⌝ }
 {
     let n = out.len();
     let m = left.len();

@@ -1,6 +1,6 @@
 -- The two layouts of an image table, from the list of images of each point, and how either is read.
 use mathlib.Core.List.{List, [], _∷_, _++_, map}
-use Prim.Native.Nat.{ℕ, zero, suc, _+_, _*_, _-_}
+use Prim.Native.Nat.{ℕ, suc, _+_, _*_, _-_}
 use lib.IntN.{ℤ, pos}
 use lib.ListN.{length, set, replicate, take, drop}
 use Rattle.common.specs.Matrix.{Vec, mapVec}

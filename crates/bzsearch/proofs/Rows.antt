@@ -9,9 +9,9 @@ use lib.IntN.{ℤ, pos, natAbs}
 use lib.ListN.{getD}
 use lib.Ieee.{Float, binary64, sub, lt}
 use Rattle.integer.specs.Checked.{pick}
-use Rattle.common.specs.Matrix.{Vec, X, Y}
+use Rattle.common.specs.Matrix.{Vec, X, Y, origin}
 use Rattle.common.specs.Array.{along, vectorOf, items, Sized}
-use Rattle.bzsearch.specs.Search.{Search, Numbers, numberAt, rows, outside, chosen, lineAt, planeAt, boxAt, origin, distance, lower}
+use Rattle.bzsearch.specs.Search.{Search, Numbers, numberAt, rows, outside, chosen, lineAt, planeAt, boxAt, distance, lower}
 use Rattle.bzsearch.specs.SearchView.{Room}
 
 pub joined : {A S : Type 0} (f : S → A → S) (a : S) (l m : List A) {b e : S} → b ≡ foldl f a l → e ≡ foldl f b m → e ≡ foldl f a (l ++ m)

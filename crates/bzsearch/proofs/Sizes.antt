@@ -1,13 +1,12 @@
 -- The limits of what a search is made from, as sizes.
 use mathlib.Core.Path.{_≡_, refl, sym, subst}
 use mathlib.Core.List.{List, [], _∷_}
-use Prim.Native.Nat.{ℕ, zero, suc, _^_, _≤_, zero-le}
+use Prim.Native.Nat.{ℕ, zero, suc, _≤_, zero-le}
 use native.Mathlib.Nat.{le-of-eq, le-trans, lt-of-le-of-lt}
 use native.Mathlib.Omega.{arith}
-use lib.Dec.{T, lit≤, lit<, le→leb, lt→ltb, eqb→eq}
+use lib.Dec.{T, lit≤, lit<, eqb→eq}
 use lib.IntN.{ℤ, pos, negsuc, natAbs, _*ℤ_, _-ℤ_}
 use lib.ListN.{length, getD, List·getD-eq-default}
-use lib.Ieee.{binary64, inFloat}
 use mir.Facts.{toZ-ofZ}
 use Rattle.integer.proofs.Fits.{held}
 use Rattle.integer.proofs.Plain.{plain, p-atom, plain-within}
@@ -45,12 +44,6 @@ module _ (d : List ℤ) (t : T (diagonalFits d)) where
   side-whole X = above (along d X) (side-0 d t)
   side-whole Y = above (along d Y) (side-1 d t)
   side-whole Z = above (along d Z) (side-2 d t)
-
--- a whole number that is exact as a float
-pub whole-float : (z : ℤ) → natAbs z ≤ 16 → T (inFloat binary64 z)
-unfolding inFloat
-whole-float (pos n) h = le→leb n (2 ^ 53) (omega arith)
-whole-float (negsuc n) h = lt→ltb n (2 ^ 53) (omega arith)
 
 pub sized-up : {j k : ℕ} {l : List ℤ} → j ≤ k → Sized j l → Sized k l
 sized-up h f = record { each = λ n. le-trans (f .each n) h }

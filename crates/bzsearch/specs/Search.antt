@@ -9,7 +9,7 @@ use lib.Ieee.{Float, binary64, add, sub, mul, div, neg, ofInt, ofBits, toSigned,
 use Rattle.integer.specs.Checked.{pick}
 use Rattle.float.specs.Rounding.{nintOf, floorOf, ceilOf}
 use Rattle.float.specs.Sqrt.{sqrtOf}
-use Rattle.common.specs.Matrix.{Axis, Vec, Mat, side, vector, mapMat, allAxes, dot, applyOver, _▹_, det, inverse}
+use Rattle.common.specs.Matrix.{Axis, Vec, Mat, side, vector, mapMat, allAxes, dot, applyOver, _▹_, det, inverse, origin}
 use Rattle.common.specs.FloatMatrix.{floats}
 use Rattle.grgrid.specs.Grid.{address, double}
 use Rattle.bzsearch.specs.Lattice.{bzTolerance, dualLengths}
@@ -57,9 +57,6 @@ lengthSquared v = dot floats (side v) (side v)
 
 unfoldable pub distance : Search → Vec Float → Vec ℤ → Float
 distance s s0 m = lengthSquared (applyOver floats (s .lattice) (moved s0 m))
-
-abbrev pub origin : Vec ℤ
-origin = vector (λ k. pos 0)
 
 -- ---- the range of m along an axis, which holds every candidate that can lower the least length or be kept
 pub record Span : Type 0 where

@@ -14,13 +14,13 @@ use lib.Seq.{getD-set-same, getD-set-other, split-at, length-take-le}
 use borrow.Author.Tests.{eqb-true, eqb-false}
 use Rattle.integer.specs.Divides.{Divides, Congruent}
 use Rattle.integer.proofs.Divides.{divides-trans}
-use Rattle.common.specs.Matrix.{Axis, Vec, side}
+use Rattle.common.specs.Matrix.{Axis, Vec, side, origin}
 use Rattle.common.proofs.Matrix.{side-vector}
 use Rattle.grgrid.specs.Grid.{size, index}
 use Rattle.grgrid.proofs.Lists.{_∈_}
 use Rattle.grgrid.proofs.Folding.{Sides, index-lt, same-index, index-same}
 use Rattle.bzgrid.specs.declared.GridType.the-variants.{Sparse}
-use Rattle.bzsearch.specs.Search.{Search, images, origin, rows}
+use Rattle.bzsearch.specs.Search.{Search, images, rows}
 use Rattle.bzgrid.specs.Table.{Image, imageOf, imagesAt, sparse, doubled, placed, sparseMap, addressList, others, listed}
 use Rattle.bzgrid.specs.BzGridAddresses.{padded}
 use Rattle.bztable.specs.Access.{numberIn, imagePlaces}

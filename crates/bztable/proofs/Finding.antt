@@ -7,23 +7,23 @@ use native.Mathlib.Nat.{lt-of-lt-of-le}
 use native.Mathlib.Numerals.{add-one}
 use native.Mathlib.Omega.{arith}
 use lib.IntN.{ℤ}
-use borrow.Author.Tests.{not-true, not-false}
 use Rattle.integer.specs.Checked.{pick}
-use Rattle.common.specs.Matrix.{Vec}
+use Rattle.common.specs.Matrix.{Vec, sameVector}
 use Rattle.common.specs.Array.{vectorOf}
 use Rattle.bztable.specs.declared.reading.Address.{Address}
 use Rattle.bztable.specs.declared.reading.Found as code-found
 use Rattle.bztable.specs.declared.reading.Found.the-variants as code-found-at
-use Rattle.bztable.specs.Reading.{Read, got, outside, inside, _then_, Found, here, nowhere, addressAt, sameAddress, find}
+use Rattle.bztable.specs.Reading.{Read, got, outside, inside, _then_, Found, here, nowhere, addressAt, find}
 use Rattle.bztable.specs.ReadingView.{addressView, FoundBelow}
+use Rattle.bztable.proofs.Inside.{view-failed, view-right}
 
 -- ---- an address that was read, by the code's test
 module _ (r : Address) {x : Read (Vec ℤ)} (e : addressView r ≡ x) where
   pub read-failed : not (r .inside) ≡ true → x ≡ outside
-  read-failed h = sym e ∙ ap (λ t. inside t (vectorOf (r .numbers))) (not-true (r .inside) h)
+  read-failed h = view-failed (r .inside) (vectorOf (r .numbers)) e h
 
   pub read-right : not (r .inside) ≡ false → x ≡ got (vectorOf (r .numbers))
-  read-right h = sym e ∙ ap (λ t. inside t (vectorOf (r .numbers))) (not-false (r .inside) h)
+  read-right h = view-right (r .inside) (vectorOf (r .numbers)) e h
 
 -- ---- a place that was found, below a higher bound
 pub found-below : {j k : ℕ} (r : code-found.Found) → j ≤ k → FoundBelow j r → FoundBelow k r
@@ -35,10 +35,10 @@ found-below code-found-at.Outside h f = tt
 module _ (l : List ℤ) (a : Vec ℤ) (i to : ℕ) where
   module _ (h : i < to) where
     abbrev on : Vec ℤ → Read Found
-    on b = pick (sameAddress b a) (got (here i)) (find l a (i + 1) (to - (i + 1)))
+    on b = pick (sameVector b a) (got (here i)) (find l a (i + 1) (to - (i + 1)))
 
     step : {x : Read (Vec ℤ)} → addressAt l i ≡ x → find l a i (to - i) ≡ (x then on)
-    step e = ap (find l a i) (more i to h) ∙ ap (λ j. addressAt l i then λ b. pick (sameAddress b a) (got (here i)) (find l a j (to - (i + 1)))) (sym (add-one i)) ∙ ap (λ x. x then on) e
+    step e = ap (find l a i) (more i to h) ∙ ap (λ j. addressAt l i then λ b. pick (sameVector b a) (got (here i)) (find l a j (to - (i + 1)))) (sym (add-one i)) ∙ ap (λ x. x then on) e
       where
         more : (i to : ℕ) → i < to → to - i ≡ suc (to - (i + 1))
         more i to h = omega arith
@@ -47,10 +47,10 @@ module _ (l : List ℤ) (a : Vec ℤ) (i to : ℕ) where
     find-outside e = step e
 
     module _ (b : Vec ℤ) (e : addressAt l i ≡ got b) where
-      pub find-here : sameAddress b a ≡ true → find l a i (to - i) ≡ got (here i)
+      pub find-here : sameVector b a ≡ true → find l a i (to - i) ≡ got (here i)
       find-here t = step e ∙ ap (λ t. pick t (got (here i)) (find l a (i + 1) (to - (i + 1)))) t
 
-      pub find-on : sameAddress b a ≡ false → find l a i (to - i) ≡ find l a (i + 1) (to - (i + 1))
+      pub find-on : sameVector b a ≡ false → find l a i (to - i) ≡ find l a (i + 1) (to - (i + 1))
       find-on t = step e ∙ ap (λ t. pick t (got (here i)) (find l a (i + 1) (to - (i + 1)))) t
 
   pub find-end : to ≤ i → find l a i (to - i) ≡ got nowhere

@@ -1,16 +1,16 @@
 -- The tables of an accepted call: of either type, and whatever their padding, each point's images stand at its places, and no address stands twice.
 use mathlib.Core.Path.{_≡_, sym, _∙_, ap, subst}
-use mathlib.Core.List.{List, map as mapList, map-map, map-id, Memᴰ·map as map-in, Memᴰ·of-map as of-map}
+use mathlib.Core.List.{List, map as mapList, Memᴰ·map as map-in, Memᴰ·of-map as of-map}
 use Prim.Native.Nat.{ℕ, _-_, _<_}
 use lib.Dec.{T}
 use lib.IntN.{ℤ, negsuc}
-use lib.ListN.{length, replicate, length-map}
+use lib.ListN.{length, replicate}
 use Rattle.common.specs.Matrix.{Vec}
 use Rattle.grgrid.specs.Grid.{size, index}
 use Rattle.grgrid.proofs.Lists.{_∈_, Distinct}
 use Rattle.bzgrid.specs.declared.GridType.{GridType}
 use Rattle.bzsearch.specs.Search.{Search, images}
-use Rattle.bzgrid.specs.Table.{Image, imageOf, imagesAt, addressList, pointList}
+use Rattle.bzgrid.specs.Table.{Image, imagesAt, addressList, pointList}
 use Rattle.bzgrid.specs.BzGridAddresses.{isKnown, tableOf, mapOf, allFound, padded}
 use Rattle.bztable.specs.Access.{numberIn, imagePlaces}
 use Rattle.bztable.specs.Reading.{tripleAt}

@@ -1,6 +1,6 @@
 -- Laws of the reads of a table.
 use mathlib.Core.Path.{_≡_, refl, sym, _∙_, ap}
-use mathlib.Core.Bool.{true, false}
+use mathlib.Core.Bool.{true, false, Bool, not}
 use mathlib.Core.List.{List, []}
 use Prim.Native.Nat.{ℕ, zero, suc, _+_, _/_, _<_, _≤_, zero-le}
 use native.Mathlib.Nat.{lt-of-le-of-lt}
@@ -12,17 +12,30 @@ use mir.Syntax.{w64}
 use mir.Val.{SFits, Fits}
 use mir.Facts.{toZ-ofZ}
 use lib.ListN.{length, getD}
-use borrow.Author.Tests.{ltb-true, ltb-false, lt-ltb, le-ltb, le-leb, lt-leb}
+use borrow.Author.Tests.{ltb-true, ltb-false, lt-ltb, le-ltb, le-leb, lt-leb, not-true, not-false}
 use Rattle.integer.proofs.Test.{fails}
 use Rattle.integer.proofs.Fits.{held}
-use Rattle.common.specs.Matrix.{Axis, Vec, Mat, X, Y, Z, side, vector, entry}
+use Rattle.common.specs.Matrix.{Axis, Vec, Mat, X, Y, Z, side, vector, entry, origin}
 use Rattle.common.specs.Array.{vectorOf, items, rows, rowAt, Sized, SizedRows}
 use Rattle.common.specs.Limits.{within, allWithin, matrixWithin}
 use Rattle.common.proofs.Matrix.{axes-of}
 use Rattle.common.proofs.Bounds.{entry-within, matrix-sizes}
 use Rattle.grgrid.proofs.Sizes.{sized-items}
-use Rattle.bzsearch.specs.Search.{origin}
-use Rattle.bztable.specs.Reading.{Read, got, outside, _then_, placeOf, placeAt, near, tripleAt, addressAt}
+use Rattle.bztable.specs.Reading.{Read, got, outside, _then_, placeOf, placeAt, near, tripleAt, addressAt, inside}
+
+-- ---- what was read, by the code's test
+pub inside-true : {A : Type 0} {r : Bool} (a : A) {x : Read A} → r ≡ true → inside r a ≡ x → got a ≡ x
+inside-true a h e = ap (λ r. inside r a) (sym h) ∙ e
+
+pub inside-false : {A : Type 0} {r : Bool} (a : A) {x : Read A} → r ≡ false → inside r a ≡ x → outside ≡ x
+inside-false a h e = ap (λ r. inside r a) (sym h) ∙ e
+
+module _ {A : Type 0} (r : Bool) (a : A) {x : Read A} (e : inside r a ≡ x) where
+  pub view-failed : not r ≡ true → x ≡ outside
+  view-failed h = sym (inside-false a (not-true r h) e)
+
+  pub view-right : not r ≡ false → x ≡ got a
+  view-right h = sym (inside-true a (not-false r h) e)
 
 -- ---- numbers that were asked for or read
 pub negative : (z : ℤ) → ltZ z (pos 0) ≡ true → z ≡ negsuc (mag z)

@@ -22,8 +22,8 @@ use Rattle.bzgrid.specs.declared.GridType.{GridType}
 use Rattle.bztable.specs.declared.neighbours.Neighbours.{Neighbours}
 use Rattle.bztable.specs.declared.neighbours.Neighbours.the-variants as answer
 use Rattle.bzgrid.specs.BzGridAddresses.{gridType}
-use Rattle.bztable.specs.Reading.{Read, got, outside, inside, wholeAddresses}
-use Rattle.bztable.specs.Neighbours.{allNeighbours, readFor, listOf, testsAfter, answerFor, inputTests, neighboursRead, neighbourTests, neighboursAnswer, neighboursWritten}
+use Rattle.bztable.specs.Reading.{Read, got, outside, inside, wholeAddresses, testsAfter, listOf}
+use Rattle.bztable.specs.Neighbours.{allNeighbours, readFor, answerFor, inputTests, neighboursRead, neighbourTests, neighboursAnswer, neighboursWritten}
 
 -- ---- whether n is a·b
 module _ (n a b : ℕ) where
@@ -61,9 +61,6 @@ input-accepted points offsets addresses d t n e =
     let f = passed (diagonalFits d) OutsideLimits _ (c .1) in
     let g = passed (allWithin 1000 offsets) OutsideLimits _ (f .1) in
     record { places = eqb-true n (points * (length offsets / 3)) (c .0); grid = holds (f .0); steps = holds (g .0) }
-
-pub not-accepted : {r : Refusal} → Refused r ≡ Accepted → ⊥
-not-accepted e = let z : _≡_ {A = ℕ} 0 1 = cc in omega arith
 
 -- ---- the walk
 module _ (points offsets addresses map d : List ℤ) (t : GridType) (n : ℕ) where

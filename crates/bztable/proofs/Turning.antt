@@ -8,7 +8,7 @@ use lib.Dec.{T}
 use lib.IntN.{ℤ}
 use Rattle.integer.proofs.Test.{holds, and-l, and-r}
 use Rattle.integer.specs.Checked.{pick}
-use Rattle.common.specs.Matrix.{Vec}
+use Rattle.common.specs.Matrix.{Vec, sameVector}
 use Rattle.common.specs.Array.{matrixOf}
 use Rattle.common.specs.Limits.{matrixWithin, diagonalFits, shiftFits}
 use Rattle.common.specs.declared.Tested.the-variants as tests
@@ -19,7 +19,7 @@ use Rattle.bzgrid.specs.declared.GridType.{GridType}
 use Rattle.bzgrid.specs.declared.GridType.the-variants.{Sparse}
 use Rattle.bztable.specs.declared.rotate.Rotated.the-variants as answer
 use Rattle.bzgrid.specs.BzGridAddresses.{gridType}
-use Rattle.bztable.specs.Reading.{Read, got, outside, _then_, Found, here, wholeAddresses, addressAt, sameAddress, find}
+use Rattle.bztable.specs.Reading.{Read, got, outside, _then_, Found, here, wholeAddresses, addressAt, find}
 use Rattle.bztable.specs.Rotate.{amongRange, amongImages, told, answerAfter, rotateTests, rotateRead, rotateAnswer}
 
 -- ---- the call
@@ -61,14 +61,14 @@ module _ (l m : List ℤ) (a : Vec ℤ) (p n : ℕ) where
   others = amongRange l m a (8 * n + p) n
 
   abbrev fromFirst : Vec ℤ → Read Found
-  fromFirst b = pick (sameAddress b a) (got (here p)) others
+  fromFirst b = pick (sameVector b a) (got (here p)) others
 
   pub first-outside : addressAt l p ≡ outside → outside ≡ amongImages l m a Sparse p n
   first-outside e = ap (λ x. x then fromFirst) (sym e)
 
   module _ {b : Vec ℤ} (e : addressAt l p ≡ got b) where
-    pub first-found : sameAddress b a ≡ true → got (here p) ≡ amongImages l m a Sparse p n
+    pub first-found : sameVector b a ≡ true → got (here p) ≡ amongImages l m a Sparse p n
     first-found f = ap (λ t. pick t (got (here p)) others) (sym f) ∙ ap (λ x. x then fromFirst) (sym e)
 
-    pub first-passed : sameAddress b a ≡ false → others ≡ amongImages l m a Sparse p n
+    pub first-passed : sameVector b a ≡ false → others ≡ amongImages l m a Sparse p n
     first-passed f = ap (λ t. pick t (got (here p)) others) (sym f) ∙ ap (λ x. x then fromFirst) (sym e)

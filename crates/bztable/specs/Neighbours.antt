@@ -12,7 +12,7 @@ use Rattle.common.specs.Limits.{allWithin, diagonalFits}
 use Rattle.common.specs.Tested.{require, outputOf}
 use Rattle.common.specs.declared.Tested.{Tested}
 use Rattle.common.specs.declared.Tested.the-variants.{Accepted, Refused}
-use Rattle.common.specs.declared.Refusal.the-variants.{OutsideLimits, BadGridType, WrongLength, OutsideTable}
+use Rattle.common.specs.declared.Refusal.the-variants.{OutsideLimits, BadGridType, WrongLength}
 use Rattle.grgrid.specs.Grid.{index}
 use Rattle.bzgrid.specs.declared.GridType.{GridType}
 use Rattle.bzgrid.specs.declared.GridType.the-variants.{Sparse, Dense, Unknown}
@@ -20,7 +20,7 @@ use Rattle.bztable.specs.declared.neighbours.Neighbours.{Neighbours}
 use Rattle.bztable.specs.declared.neighbours.Neighbours.the-variants as answer
 use Rattle.bzgrid.specs.Table.{doubled, empty}
 use Rattle.bzgrid.specs.BzGridAddresses.{gridType, isKnown}
-use Rattle.bztable.specs.Reading.{Read, got, outside, _then_, Found, here, nowhere, wholeAddresses, tripleAt, addressOf, placeAt, find}
+use Rattle.bztable.specs.Reading.{Read, got, outside, _then_, Found, here, nowhere, wholeAddresses, tripleAt, addressOf, placeAt, find, testsAfter, listOf}
 
 abbrev pub moved : Vec ℤ → Vec ℤ → Vec ℤ
 moved a o = vector (λ k. side a k +ℤ side o k)
@@ -73,15 +73,6 @@ module _ (t : GridType) (d : Vec ℕ) (offsets addresses map : List ℤ) where
 abbrev pub readFor : ℕ → Read (List ℤ) → Read (List ℤ)
 readFor zero r = got []
 readFor (suc n) r = r
-
-abbrev pub listOf : Read (List ℤ) → List ℤ
-listOf (got l) = l
-listOf outside = []
-
-abbrev pub testsAfter : Tested → Read (List ℤ) → Tested
-testsAfter Accepted (got l) = Accepted
-testsAfter Accepted outside = Refused OutsideTable
-testsAfter (Refused r) l = Refused r
 
 abbrev pub answerFor : Tested → Neighbours
 answerFor Accepted = answer.Written

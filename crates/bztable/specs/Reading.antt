@@ -1,15 +1,17 @@
 -- How an image table is read. It may hold anything: a read is inside the slice and the limits, or `outside`, which is refusal 14.
 use mathlib.Core.Bool.{Bool, true, false, _&&_}
-use mathlib.Core.List.{List}
+use mathlib.Core.List.{List, []}
 use Prim.Native.Nat.{ℕ, zero, suc, _*_, _/_, _%_}
 use lib.Dec.{ltb, leb, eqb}
 use lib.IntN.{ℤ, pos, negsuc}
 use lib.ListN.{length, getD}
-use Rattle.integer.specs.Same.{same}
 use Rattle.integer.specs.Checked.{pick}
-use Rattle.common.specs.Matrix.{Vec, side, allAxes}
+use Rattle.common.specs.Matrix.{Vec, side, allAxes, sameVector}
 use Rattle.common.specs.Array.{vectorOf, rowAt}
 use Rattle.common.specs.Limits.{within}
+use Rattle.common.specs.declared.Tested.{Tested}
+use Rattle.common.specs.declared.Tested.the-variants.{Accepted, Refused}
+use Rattle.common.specs.declared.Refusal.the-variants.{OutsideTable}
 
 pub data Read (A : Type 0) : Type 0 where
   got : A → Read A
@@ -23,6 +25,17 @@ outside then f = outside
 abbrev pub inside : {A : Type 0} → Bool → A → Read A
 inside true a = got a
 inside false a = outside
+
+-- the tests of a call that then reads
+abbrev pub testsAfter : {A : Type 0} → Tested → Read A → Tested
+testsAfter Accepted (got l) = Accepted
+testsAfter Accepted outside = Refused OutsideTable
+testsAfter (Refused r) l = Refused r
+
+-- what was read
+abbrev pub listOf : {A : Type 0} → Read (List A) → List A
+listOf (got l) = l
+listOf outside = []
 
 -- ---- addresses, three numbers each
 abbrev pub wholeAddresses : List ℤ → Bool
@@ -56,10 +69,7 @@ pub data Found : Type 0 where
   here : ℕ → Found
   nowhere : Found
 
-abbrev pub sameAddress : Vec ℤ → Vec ℤ → Bool
-sameAddress a b = allAxes (λ k. same (side a k) (side b k))
-
 -- the first of the n places from i on that holds address a
 abbrev pub find : List ℤ → Vec ℤ → ℕ → ℕ → Read Found
 find l a i zero = got nowhere
-find l a i (suc n) = addressAt l i then λ b. pick (sameAddress b a) (got (here i)) (find l a (suc i) n)
+find l a i (suc n) = addressAt l i then λ b. pick (sameVector b a) (got (here i)) (find l a (suc i) n)

@@ -4,7 +4,7 @@ use mathlib.Core.List.{List}
 use Prim.Native.Nat.{ℕ, _+_, _*_, _-_}
 use lib.IntN.{ℤ, pos}
 use Rattle.integer.specs.Checked.{pick}
-use Rattle.common.specs.Matrix.{Vec, Mat, _▹_}
+use Rattle.common.specs.Matrix.{Vec, Mat, _▹_, sameVector}
 use Rattle.common.specs.Array.{vectorOf, sidesOf, matrixOf}
 use Rattle.common.specs.Limits.{matrixWithin, diagonalFits, shiftFits}
 use Rattle.common.specs.Tested.{require}
@@ -17,7 +17,7 @@ use Rattle.bzgrid.specs.declared.GridType.the-variants.{Sparse, Dense, Unknown}
 use Rattle.bztable.specs.declared.rotate.Rotated.{Rotated}
 use Rattle.bztable.specs.declared.rotate.Rotated.the-variants.{Image, Fallback, Refused}
 use Rattle.bzgrid.specs.BzGridAddresses.{gridType, isKnown}
-use Rattle.bztable.specs.Reading.{Read, got, outside, _then_, Found, here, nowhere, wholeAddresses, addressAt, addressOf, placeAt, sameAddress, find}
+use Rattle.bztable.specs.Reading.{Read, got, outside, _then_, Found, here, nowhere, wholeAddresses, addressAt, addressOf, placeAt, find}
 
 -- double, rotate, halve toward zero
 abbrev pub turned : Mat ℤ → Vec ℤ → Vec ℤ → Vec ℤ
@@ -31,7 +31,7 @@ module _ (addresses map : List ℤ) (a : Vec ℤ) where
 
   -- a sparse table has the first image at place p, and the counts of the others after the doubled mesh
   abbrev pub amongImages : GridType → (p n : ℕ) → Read Found
-  amongImages Sparse p n = addressAt addresses p then λ b. pick (sameAddress b a) (got (here p)) (amongRange (8 * n + p) n)
+  amongImages Sparse p n = addressAt addresses p then λ b. pick (sameVector b a) (got (here p)) (amongRange (8 * n + p) n)
   amongImages Dense p n = amongRange p 0
   amongImages Unknown p n = outside
 

@@ -8,18 +8,18 @@ use common::Tested;
 use grgrid::Grid;
 ghost use mathlib.Core.Path.{_≡_};
 ghost use mathlib.Core.Bool.{_||_};
-ghost use Prim.Native.Nat.{_*_, _/_, _≤_, _<_};
+ghost use Prim.Native.Nat.{_*_, _/_, _<_};
 ghost use lib.Dec.{T, eqb};
 ghost use lib.ListN.{length};
 ghost use Rattle.common.specs.Array.{vectorOf, items, Sized};
 ghost use Rattle.common.specs.Limits.{allWithin};
 ghost use Rattle.common.specs.declared.Tested.the-variants.{Accepted};
 ghost use Rattle.grgrid.specs.Sides.{sides};
-ghost use Rattle.bztable.specs.Reading.{inside};
+ghost use Rattle.bztable.specs.Reading.{inside, listOf};
 ghost use Rattle.bztable.specs.ReadingView.{placeView, PlaceBelow};
 ghost use Rattle.bzgrid.specs.Walked.{MeshFits};
 ghost use Rattle.bzgrid.specs.BzGridAddresses.{isKnown};
-ghost use Rattle.bztable.specs.Neighbours.{moved, sparseNeighbour, imageAmong, denseNeighbour, neighbour, neighboursFrom, allNeighbours, inputTests, neighboursRead, listOf, neighbourTests, neighboursAnswer, neighboursWritten};
+ghost use Rattle.bztable.specs.Neighbours.{moved, sparseNeighbour, imageAmong, denseNeighbour, neighbour, neighboursFrom, allNeighbours, inputTests, neighboursRead, neighbourTests, neighboursAnswer, neighboursWritten};
 
 pub enum Neighbours {
     Written,

@@ -1,9 +1,8 @@
 // How image tables are read. They may hold anything, so every read is tested.
 ghost use mathlib.Core.Path.{_≡_};
-ghost use mathlib.Core.Bool.{_&&_};
 ghost use Prim.Native.Nat.{_-_};
 ghost use Rattle.common.specs.Array.{vectorOf, Sized};
-ghost use Rattle.bztable.specs.Reading.{sameAddress, wholeAddresses, addressAt, addressOf, placeOf, placeAt, find};
+ghost use Rattle.bztable.specs.Reading.{wholeAddresses, addressAt, addressOf, placeOf, placeAt, find};
 ghost use Rattle.bztable.specs.ReadingView.{addressView, placeView, PlaceBelow, foundView, FoundBelow};
 
 // Three numbers that were read, zeros where they lie outside.
@@ -89,12 +88,6 @@ pub fn place_at(map: &[i64], i: usize) -> Place
     Place::Outside
 }
 
-pub fn is_same(a: [i64; 3], b: [i64; 3]) -> bool
-    ensures { λ r. ⌜ r ≡ sameAddress (vectorOf a) (vectorOf b) ⌝ }
-{
-    common::all_three(a[0] == b[0], a[1] == b[1], a[2] == b[2])
-}
-
 // The first place from `from` on and below `to` that holds address a.
 pub fn find(addresses: &[i64], a: [i64; 3], from: usize, to: usize) -> Found
     ensures { λ r. ⌜ foundView r ≡ find (now (addresses .entry)) (vectorOf a) from (to - from) ⌝ }
@@ -107,7 +100,7 @@ pub fn find(addresses: &[i64], a: [i64; 3], from: usize, to: usize) -> Found
             return Found::Outside;
         }
         let n = b.numbers;
-        if is_same(n, a) {
+        if common::same_row(n, a) {
             return Found::At(i);
         }
         i += 1;

@@ -84,7 +84,7 @@ fn among_sparse(a: [i64; 3], p: usize, n: usize, addresses: &[i64], map: &[i64])
         return Found::Outside;
     }
     let b = first.numbers;
-    if reading::is_same(b, a) {
+    if common::same_row(b, a) {
         return Found::At(p);
     }
     among_range(a, 8 * n + p, n, addresses, map)

@@ -6,8 +6,8 @@ use native.Mathlib.Omega.{arith}
 use borrow.Author.Tests.{not-true, not-false}
 use Rattle.common.specs.declared.Refusal.{Refusal}
 use Rattle.common.specs.declared.Tested.{Tested}
-use Rattle.common.specs.declared.Tested.the-variants.{Accepted}
-use Rattle.common.specs.Tested.{require}
+use Rattle.common.specs.declared.Tested.the-variants.{Accepted, Refused}
+use Rattle.common.specs.Tested.{require, after}
 
 -- a test of two parts, of which the first is known
 pub first-holds : {a : Bool} (b : Bool) → a ≡ true → b ≡ a && b
@@ -31,9 +31,13 @@ module _ {r t : Bool} (e : r ≡ t) where
   pub goes-on : {b c : Bool} → not r ≡ false → c ≡ b → c ≡ t && b
   goes-on {b} h f = f ∙ first-holds b (yes h)
 
+pub not-accepted : {r : Refusal} → Refused r ≡ Accepted → ⊥
+not-accepted e = let z : _≡_ {A = ℕ} 0 1 = cc in omega arith
+
 pub passed : (t : Bool) (r : Refusal) (rest : Tested) → require t r rest ≡ Accepted → (t ≡ true) × (rest ≡ Accepted)
 passed true r rest e = (refl, e)
-passed false r rest e = let z : _≡_ {A = ℕ} 0 1 = cc in absurd (never z)
-  where
-    never : _≡_ {A = ℕ} 0 1 → ⊥
-    never z = omega arith
+passed false r rest e = absurd (not-accepted e)
+
+pub both-accepted : (s t : Tested) → after s t ≡ Accepted → (s ≡ Accepted) × (t ≡ Accepted)
+both-accepted Accepted t e = (refl, e)
+both-accepted (Refused r) t e = absurd (not-accepted e)

@@ -1,6 +1,5 @@
 -- Vectors and matrices of f64, as the code holds them. Sums, differences and products are IEEE 754's, each rounded, in the Rust's order.
-use mathlib.Core.List.{List, [], _∷_}
-use Prim.Native.Nat.{ℕ}
+use mathlib.Core.List.{List, []}
 use lib.IntN.{ℤ, pos}
 use lib.ListN.{getD}
 use lib.Ieee.{Float, nan, binary64, add, sub, mul, ofInt}

@@ -3,6 +3,7 @@
 use mathlib.Core.Bool.{Bool, _&&_}
 use mathlib.Core.List.{List, _∷_}
 use lib.IntN.{ℤ, pos, negℤ, _+ℤ_, _*ℤ_, _-ℤ_}
+use Rattle.integer.specs.Same.{same}
 
 pub data Axis : Type 0 where
   X Y Z : Axis
@@ -132,6 +133,12 @@ diagonal v = diagonalOver integers v
 
 abbrev pub scalar : ℤ → Mat ℤ
 scalar x = diagonal (vector (λ k. x))
+
+abbrev pub origin : Vec ℤ
+origin = vector (λ k. pos 0)
+
+abbrev pub sameVector : Vec ℤ → Vec ℤ → Bool
+sameVector v w = allAxes (λ k. same (side v k) (side w k))
 
 abbrev pub identity : Mat ℤ
 identity = scalar (pos 1)

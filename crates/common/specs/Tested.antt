@@ -14,6 +14,11 @@ abbrev pub require : Bool → Refusal → Tested → Tested
 require true r rest = rest
 require false r rest = Refused r
 
+-- the first refusal of two groups of tests
+abbrev pub after : Tested → Tested → Tested
+after Accepted t = t
+after (Refused r) t = Refused r
+
 -- an output of n places: l, or -1 everywhere
 abbrev pub outputOf : Tested → ℕ → List ℤ → List ℤ
 outputOf Accepted n l = l

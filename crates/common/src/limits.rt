@@ -2,10 +2,10 @@
 ghost use mathlib.Core.Path.{_≡_};
 ghost use mathlib.Core.Bool.{_&&_};
 ghost use Prim.Native.Nat.{_*_, _≤_};
-ghost use lib.Dec.{leb};
+ghost use lib.Dec.{leb, eqb};
 ghost use lib.IntN.{natAbs};
-ghost use Rattle.common.specs.Matrix.{allAxes};
-ghost use Rattle.common.specs.Array.{along, matrixOf};
+ghost use Rattle.common.specs.Matrix.{allAxes, sameVector};
+ghost use Rattle.common.specs.Array.{along, matrixOf, vectorOf};
 ghost use Rattle.common.specs.Limits.{within, allWithin, matrixWithin, rotationsFit, wholeMatrices, sideFits, diagonalFits, halfFits, shiftFits, pointFits};
 
 // By its two ends, which for a known k is one comparison.
@@ -38,6 +38,12 @@ pub fn row_within(a: [i64; 3], k: u64) -> bool
     all_three(within(a[0], k), within(a[1], k), within(a[2], k))
 }
 
+pub fn same_row(a: [i64; 3], b: [i64; 3]) -> bool
+    ensures { λ r. ⌜ r ≡ sameVector (vectorOf a) (vectorOf b) ⌝ }
+{
+    all_three(a[0] == b[0], a[1] == b[1], a[2] == b[2])
+}
+
 pub fn matrix_within(m: [[i64; 3]; 3], k: u64) -> bool
     ensures { λ r. ⌜ r ≡ matrixWithin k (matrixOf m) ⌝ }
 {
@@ -45,6 +51,15 @@ pub fn matrix_within(m: [[i64; 3]; 3], k: u64) -> bool
     let y = m[1];
     let z = m[2];
     all_three(row_within(x, k), row_within(y, k), row_within(z, k))
+}
+
+pub fn is_thrice(n: usize, k: usize) -> bool
+    ensures { λ r. ⌜ r ≡ eqb n (k * 3) ⌝ }
+{
+    if n % 3 != 0 {
+        return false;
+    }
+    n / 3 == k
 }
 
 pub fn whole_matrices(list: &[i64]) -> bool

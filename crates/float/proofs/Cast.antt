@@ -5,7 +5,7 @@ use mathlib.Core.Bool.{Bool, true, false, not}
 use Prim.Native.Nat.{ℕ, zero, suc, _+_, _-_, _*_, _/_, _^_, _≤_, _<_, min}
 use native.Mathlib.Nat.{lt-irrefl, mul-le-mul-right, le-div-iff-mul-le, mul-div-cancel}
 use native.Mathlib.Omega.{arith}
-use lib.Dec.{T, T-not, leb→le, lt→ltb}
+use lib.Dec.{T, T-not, leb→le, le→leb, lt→ltb}
 use lib.Pow.{pow-mono}
 use lib.IntN.{ℤ, pos, negsuc, negℤ, natAbs}
 use lib.Signed.{leZ}
@@ -71,6 +71,12 @@ pub in-float : (z : ℤ) → T (leZ (negsuc (2 ^ 53 - 1)) z) → T (leZ z (pos (
 unfolding inFloat
 in-float (pos n) h k = k
 in-float (negsuc n) h k = lt→ltb n (2 ^ 53) (omega (arith, leb→le n (2 ^ 53 - 1) h))
+
+-- a whole number of at most 2 ^ 53 is exact as a float
+pub whole-float : (z : ℤ) {k : ℕ} → natAbs z ≤ k → k ≤ 2 ^ 53 → T (inFloat binary64 z)
+unfolding inFloat
+whole-float (pos n) h b = le→leb n (2 ^ 53) (omega arith)
+whole-float (negsuc n) h b = lt→ltb n (2 ^ 53) (omega arith)
 
 -- ---- abs and is_finite
 abs-fits : (s : Bool) (m : ℕ) (e : ℤ) → T (fits binary64 (fin s m e)) → T (fits binary64 (fin false m e))

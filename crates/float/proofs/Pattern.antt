@@ -1,7 +1,7 @@
 -- The bits of an f64 as a number. A pattern n below 2 ^ 63 has the exponent's field n / 2 ^ 52 and the digits n % 2 ^ 52.
 use mathlib.Core.Path.{_≡_, refl, sym, ap, _∙_, subst}
 use mathlib.Core.Logic.{inl, inr}
-use mathlib.Core.Bool.{Bool, true, false, not, cond}
+use mathlib.Core.Bool.{Bool, true, false, not, cond, _&&_}
 use Prim.Native.Nat.{ℕ, zero, suc, _+_, _-_, _*_, _/_, _%_, _^_, _≤_, _<_}
 use native.Mathlib.Nat.{lt-irrefl, mul-assoc, mul-right-comm, mul-one, mod-lt, mod-eq-of-lt, div-eq-of-lt-le, pow-succ'}
 use native.Mathlib.Omega.{arith}
@@ -153,3 +153,21 @@ module _ (x : Float) (fx : T (fits binary64 x)) (p : T (positive x)) where
       (mul-assoc (2 ^ 52 + d) (2 ^ k) (2 ^ 52) ∙ ap (λ (z : ℕ). (2 ^ 52 + d) * z) (sym (pow-add 2 k 52) ∙ ap (λ (z : ℕ). 2 ^ z) ex) ∙ ap (λ (z : ℕ). z * 2 ^ (n / 2 ^ 52 + 51)) ed)
       (times x false ((2 ^ 52 + d) * 2 ^ k) (2 ^ 1074) (2 ^ 52)
       (subst (λ (z : Float). HasValue z false ((2 ^ 52 + d) * 2 ^ k) (2 ^ 1074)) (ap (ofBits binary64) en ∙ back) (pattern-normal k d (omega arith) (mod-lt n (pow-pos 52)))))
+
+-- ---- a pattern is a NaN's by its exponent and its digits
+pub no-digits : (a b : Bool) → b ≡ true → T (not (a && not b))
+no-digits true b e = rw e tt
+no-digits false b e = tt
+
+pub other-exponent : (a b : Bool) → a ≡ false → T (not (a && not b))
+other-exponent a b e = rw e tt
+
+is-nan : (x : Float) → T (isNan x) → x ≡ nan
+unfolding isNan
+is-nan nan e = refl
+is-nan (inf s) e = absurd e
+is-nan (fin s m d) e = absurd e
+
+pub nan-pattern : (b : ℕ) → eqb (b % 0x8000000000000000 / 0x10000000000000) 2047 ≡ true → eqb (b % 0x10000000000000) 0 ≡ false → ofBits binary64 b ≡ nan
+unfolding nanBits
+nan-pattern b e d = is-nan (ofBits binary64 b) (rw (← nanBits-is binary64 b, e, d) tt)

@@ -4,7 +4,7 @@ ghost use mathlib.Core.Bool.{true, false};
 ghost use Prim.Native.Nat.{_+_, _*_, _^_, _<_, _≤_};
 ghost use lib.Dec.{T};
 ghost use lib.IntN.{pos};
-ghost use lib.Ieee.{Float, binary64, fin, fits, lt, ofInt, toSigned};
+ghost use lib.Ieee.{Float, binary64, fin, fits, lt, ofInt, toSigned, ofBits};
 ghost use lib.Ieee.Exact.{HasValue};
 ghost use lib.Ieee.Positive.{positive};
 ghost use lib.Ieee.Scale.{finite};
@@ -20,6 +20,19 @@ const EXACT: i64 = 0x20_0000_0000_0000;
 
 // 2^52, the leading one of an f64's 53 binary digits.
 const LEADING: u64 = 0x10_0000_0000_0000;
+
+// The f64 of a bit pattern, a NaN's too.
+pub fn of_bits(bits: u64) -> f64
+    ensures { λ r. ⌜ r ≡ ofBits binary64 bits ⌝ }
+{
+    if bits % 0x8000_0000_0000_0000 / LEADING == 2047 {
+        if bits % LEADING != 0 {
+            return 0.0 / 0.0;
+        }
+        return f64::from_bits(bits);
+    }
+    f64::from_bits(bits)
+}
 
 // `floor` of an x between 0 and 2^52.
 fn small_floor(x: f64) -> f64

@@ -9,9 +9,9 @@ use Rattle.integer.proofs.Polynomial.{Expr, con, add, mul}
 use Rattle.integer.proofs.Reify.{ring, reify, zero-by, _∗_, _⊹_, eq-by}
 use Rattle.integer.proofs.Divides.{divides-quot}
 use Rattle.integer.proofs.Congruence.{congruent-by, congruent-is, congruent-refl, congruent-add}
-use Rattle.common.specs.Matrix.{Axis, X, Y, Z, Vec, Mat, side, vector, entry, mapVec, _·_, diagonal, identity, negate, _▹_, entries}
+use Rattle.common.specs.Matrix.{Axis, X, Y, Z, Vec, Mat, side, vector, entry, mapVec, _·_, diagonal, identity, negate, _▹_, entries, origin}
 use Rattle.common.proofs.Matrix.{same-vector, at-entry, sides, column, solveVec, 𝔸, 𝔹, _⊡_, applyE, diagonal-product, product-diagonal, negate-product, product-negate, apply-product, apply-identity}
-use Rattle.grgrid.specs.Grid.{size, index, address, double, half, halve, rotate}
+use Rattle.grgrid.specs.Grid.{size, index, address, double, half, halve, rotate, carry}
 use Rattle.grgrid.proofs.Group.{Action}
 use Rattle.grgrid.proofs.Folding.{Sides, Agree, agree-by, index-lt, index-address, address-agree, same-index}
 
@@ -54,10 +54,7 @@ moved a t = vector (λ k. side a k +ℤ side t k)
 agree-moved : {d : Vec ℕ} {u v : Vec ℤ} → Agree d u v → (t : Vec ℤ) → Agree d (moved u t) (moved v t)
 agree-moved {d} {u} {v} a t = agree-by (λ k. side u k +ℤ side t k) (λ k. side v k +ℤ side t k) (λ k. congruent-add (a .at k) (congruent-refl (pos (side d k)) (side t k)))
 
-abbrev pub unshifted : Vec ℤ
-unshifted = vector (λ k. pos 0)
-
-moved-none : (a : Vec ℤ) → moved a unshifted ≡ a
+moved-none : (a : Vec ℤ) → moved a origin ≡ a
 moved-none a = same-vector {g = side a} (λ k. +ℤ-idr (side a k))
 
 -- M carries the shift to itself but for whole steps
@@ -96,7 +93,7 @@ module _ {ps : Vec ℤ} {M : Mat ℤ} (s : Shifts ps M) where
   shifts-product {K} r = record { by = moved (M ▹ r .by) (s .by); is = apply-product M K ps ∙ ap (λ v. M ▹ v) (r .is) ∙ shifts-double (r .by) }
 
 abbrev shifts-identity : (ps : Vec ℤ) → Shifts ps identity
-shifts-identity ps = record { by = unshifted; is = apply-identity ps ∙ sym (same-vector {g = side ps} (λ k. +ℤ-idl (side ps k))) }
+shifts-identity ps = record { by = origin; is = apply-identity ps ∙ sym (same-vector {g = side ps} (λ k. +ℤ-idl (side ps k))) }
 
 -- ---- the action
 module _ (d : Vec ℕ) (s : Sides d) (ps : Vec ℤ) where
@@ -120,14 +117,12 @@ module _ (d : Vec ℕ) (s : Sides d) (ps : Vec ℤ) where
           (movedE (applyE 𝔸 (movedE (applyE 𝔹 (column 18)) (column 21))) (column 24)) tt
 
 -- ---- without a shift
-abbrev pub carry : Vec ℕ → Mat ℤ → ℕ → ℕ
-carry d M p = index d (M ▹ address d p)
+abbrev pub shifts-none : (M : Mat ℤ) → Shifts origin M
+shifts-none M = record { by = origin; is = solveVec (entries M []) (applyE 𝔸 (vector (λ k. con (pos 0)))) (doubleE (vector (λ k. con (pos 0))) (vector (λ k. con (pos 0)))) tt }
 
-abbrev pub shifts-none : (M : Mat ℤ) → Shifts unshifted M
-shifts-none M = record { by = unshifted; is = solveVec (entries M []) (applyE 𝔸 (vector (λ k. con (pos 0)))) (doubleE (vector (λ k. con (pos 0))) (vector (λ k. con (pos 0)))) tt }
-
-pub rotate-plain : (d : Vec ℕ) (M : Mat ℤ) (p : ℕ) → rotate d unshifted M p ≡ carry d M p
+pub rotate-plain : (d : Vec ℕ) (M : Mat ℤ) (p : ℕ) → rotate d origin M p ≡ carry d M p
+unfolding carry
 rotate-plain d M p = rotate-moves (shifts-none M) d p ∙ ap (index d) (moved-none (M ▹ address d p))
 
 pub carry-action : (d : Vec ℕ) → Sides d → {P : Mat ℤ → Type 0} → ((M : Mat ℤ) → P M → Acts d M) → Action _·_ identity (size d) (carry d) P
-carry-action d s {P} w = subst (λ act. Action _·_ identity (size d) act P) (λ t M p. rotate-plain d M p t) (rotate-action d s unshifted w (λ M k. shifts-none M))
+carry-action d s {P} w = subst (λ act. Action _·_ identity (size d) act P) (λ t M p. rotate-plain d M p t) (rotate-action d s origin w (λ M k. shifts-none M))

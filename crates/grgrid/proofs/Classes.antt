@@ -4,13 +4,13 @@ use mathlib.Core.Logic.{_↔_}
 use mathlib.Core.List.{List, map}
 use lib.IntN.{ℤ}
 use Prim.Native.Nat.{ℕ, _<_}
-use Rattle.common.specs.Matrix.{Vec, Mat, _·_, identity}
-use Rattle.grgrid.specs.Grid.{size, rotate}
+use Rattle.common.specs.Matrix.{Vec, Mat, _·_, identity, origin}
+use Rattle.grgrid.specs.Grid.{size, rotate, carry}
 use Rattle.grgrid.specs.ClassMap.{classMap, classes}
 use Rattle.grgrid.proofs.Lists.{_∈_}
 use Rattle.grgrid.proofs.Group.{Group, Orbit, Keeps, orbit-steps, orbit-equiv, keeps-group}
 use Rattle.grgrid.proofs.Folding.{Sides}
-use Rattle.grgrid.proofs.Acting.{Acts, Shifts, unshifted, carry, shifts-none, rotate-plain, rotate-action, carry-action}
+use Rattle.grgrid.proofs.Acting.{Acts, Shifts, shifts-none, rotate-plain, rotate-action, carry-action}
 use Rattle.grgrid.proofs.Count.{Classified, pass-classified}
 use Rattle.grgrid.proofs.MatrixGroup.{MatrixGroup, grouped}
 
@@ -22,17 +22,17 @@ module _ (d : Vec ℕ) (s : Sides d) where
     shifted-classes ps t = pass-classified (orbit-equiv g (rotate-action d s ps w t)) (map (rotate d ps) l) (orbit-steps (size d) l i)
 
     -- without a shift
-    pub plain-classes : Classified (size d) (Orbit (carry d) P) (classMap d unshifted l) (classes d unshifted l)
+    pub plain-classes : Classified (size d) (Orbit (carry d) P) (classMap d origin l) (classes d origin l)
     plain-classes =
-        subst (λ act. Classified (size d) (Orbit act P) (classMap d unshifted l) (classes d unshifted l))
-        (λ t M p. rotate-plain d M p t) (shifted-classes unshifted (λ M k. shifts-none M))
+        subst (λ act. Classified (size d) (Orbit act P) (classMap d origin l) (classes d origin l))
+        (λ t M p. rotate-plain d M p t) (shifted-classes origin (λ M k. shifts-none M))
 
   module _ {l : List (Mat ℤ)} (m : MatrixGroup l) (w : (M : Mat ℤ) → M ∈ l → Acts d M) where
     -- of the list of demand 3
-    pub group-classes : Classified (size d) (Orbit (carry d) (λ M. M ∈ l)) (classMap d unshifted l) (classes d unshifted l)
+    pub group-classes : Classified (size d) (Orbit (carry d) (λ M. M ∈ l)) (classMap d origin l) (classes d origin l)
     group-classes = plain-classes (grouped m) w l (λ M. (λ k. k, λ k. k))
 
     -- of a list of those that keep q
     pub keeping-classes : (q : ℕ) → q < size d → (k : List (Mat ℤ)) → ((M : Mat ℤ) → (M ∈ k) ↔ Keeps (carry d) (λ M. M ∈ l) q M)
-        → Classified (size d) (Orbit (carry d) (Keeps (carry d) (λ M. M ∈ l) q)) (classMap d unshifted k) (classes d unshifted k)
+        → Classified (size d) (Orbit (carry d) (Keeps (carry d) (λ M. M ∈ l) q)) (classMap d origin k) (classes d origin k)
     keeping-classes q h k i = plain-classes (keeps-group (grouped m) (carry-action d s w) q h) (λ M j. w M (j .0)) k i

@@ -3,10 +3,9 @@ use mathlib.Core.Path.{_≡_, refl}
 use mathlib.Core.List.{List, [], _∷_}
 use Prim.Native.Nat.{ℕ}
 use lib.IntN.{ℤ, pos, negsuc}
-use Rattle.common.specs.Matrix.{Vec, Mat, identity, inversion}
+use Rattle.common.specs.Matrix.{Vec, Mat, identity, inversion, origin}
 use Rattle.grgrid.specs.Grid.{index, rotate}
 use Rattle.grgrid.specs.ClassMap.{classMap, classes}
-use Rattle.grgrid.proofs.Acting.{unshifted}
 
 pub record Row : Type 0 where
   pub computed : List ℕ
@@ -28,10 +27,10 @@ table =
     record { computed = index d113 (record { x = pos 0; y = pos 0; z = negsuc 0 }) ∷ []; stated = 2 ∷ [] }
     -- halving downwards would give 1
     ∷ record { computed = rotate (record { x = 2; y = 2; z = 1 }) (record { x = pos 1; y = pos 0; z = pos 0 }) exchange 0 ∷ []; stated = 0 ∷ [] }
-    ∷ record { computed = classMap d113 unshifted (identity ∷ inversion ∷ []); stated = 0 ∷ 1 ∷ 1 ∷ [] }
-    ∷ record { computed = classes d113 unshifted (identity ∷ inversion ∷ []) ∷ []; stated = 2 ∷ [] }
-    ∷ record { computed = classMap d113 unshifted []; stated = 0 ∷ 1 ∷ 2 ∷ [] }
-    ∷ record { computed = classes d113 unshifted [] ∷ []; stated = 3 ∷ [] }
+    ∷ record { computed = classMap d113 origin (identity ∷ inversion ∷ []); stated = 0 ∷ 1 ∷ 1 ∷ [] }
+    ∷ record { computed = classes d113 origin (identity ∷ inversion ∷ []) ∷ []; stated = 2 ∷ [] }
+    ∷ record { computed = classMap d113 origin []; stated = 0 ∷ 1 ∷ 2 ∷ [] }
+    ∷ record { computed = classes d113 origin [] ∷ []; stated = 3 ∷ [] }
     ∷ []
 
 points : Right table

@@ -7,9 +7,14 @@ use native.Mathlib.Nat.{le-refl}
 use native.Mathlib.Omega.{arith}
 use native.Mathlib.Numerals.{add-one}
 use lib.Dec.{ltb, eqb}
-use lib.IntN.{ℤ, pos}
+use lib.IntN.{ℤ, pos, negsuc}
 use lib.ListN.{length, getD, set, length-map, List·getD-map}
-use borrow.Author.Tests.{lt-ltb, le-ltb}
+use lib.Signed.{mag}
+use mir.Syntax.{w64}
+use mir.Val.{toZ, ofZ}
+use mir.Facts.{toZ-pos}
+use borrow.Author.Tests.{lt-ltb, le-ltb, eq-eqb, ne-eqb}
+use Rattle.integer.proofs.Fits.{held-is}
 use Rattle.common.specs.Matrix.{Vec, Mat}
 use Rattle.grgrid.specs.Grid.{size, rotate}
 use Rattle.grgrid.specs.ClassMap.{firstLower, number, pass, kept, classMap, classes}
@@ -81,3 +86,15 @@ module _ (l : List ℤ) (n : ℕ) where
 
   pub own-same : isPlace (getD l n (pos 0)) n ≡ false → ownPlaces l n ≡ ownPlaces l (n + 1)
   own-same e = sym (next false e)
+
+-- ---- the test of an entry, on its bits
+module _ (z : ℤ) (n : ℕ) where
+  pub entry-is : mag z < 0x8000000000000000 → n < 0x8000000000000000 → ofZ w64 z ≡ n → z ≡ pos n
+  entry-is f h e = sym (held-is z f) ∙ ap (toZ w64) e ∙ toZ-pos w64 h
+
+  pub entry-place : z ≡ pos n → isPlace z n ≡ true
+  entry-place e = ap (λ z. isPlace z n) e ∙ eq-eqb n n refl
+
+pub entry-other : (z : ℤ) (n : ℕ) → (ofZ w64 z ≡ n → ⊥) → isPlace z n ≡ false
+entry-other (pos m) n h = ne-eqb m n h
+entry-other (negsuc m) n h = refl

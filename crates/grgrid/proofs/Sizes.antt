@@ -1,5 +1,5 @@
 -- Sizes of addresses and rotations, so that no step of a rotation leaves 64 bits.
-use mathlib.Core.List.{List, [], _∷_}
+use mathlib.Core.List.{List, []}
 use Prim.Native.Nat.{ℕ, zero, suc, _*_, _-_, _/_, _<_, _≤_}
 use native.Mathlib.Nat.{div-le-self, mod-le}
 use native.Mathlib.Omega.{arith}

@@ -43,3 +43,8 @@ halve a ps = vector (λ k. half (side a k -ℤ side ps k))
 unfoldable pub rotate : Vec ℕ → Vec ℤ → Mat ℤ → ℕ → ℕ
 unfolding index address
 rotate d ps m p = index d (halve (m ▹ double (address d p) ps) ps)
+
+-- where an operation carries a point: by addresses, without shift
+unfoldable pub carry : Vec ℕ → Mat ℤ → ℕ → ℕ
+unfolding index address
+carry d m p = index d (m ▹ address d p)

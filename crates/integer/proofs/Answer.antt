@@ -10,7 +10,6 @@ use mir.Facts.{toZ-ofZ}
 use native.Mathlib.Omega.{arith}
 use Rattle.integer.specs.Division.{Divisible}
 use Rattle.integer.specs.Checked.{fits64, pick, checked, divided}
-use Rattle.integer.specs.declared.Checked.{Checked}
 use Rattle.integer.specs.declared.Checked.the-variants.{Value, Overflow, ZeroDivisor}
 use Rattle.integer.proofs.Fits.{held}
 use Rattle.integer.proofs.Quotient.{zero-bits, nonzero-size}

@@ -1,13 +1,13 @@
 -- Congruence modulo d: an equivalence that sums, products and negatives keep, and that holds exactly between numbers of one remainder.
-use mathlib.Core.Path.{_≡_, sym, _∙_, ap}
+use mathlib.Core.Path.{_≡_, sym}
 use mathlib.Core.List.{[], _∷_}
-use lib.IntN.{ℤ, pos, negsuc, negℤ, natAbs, _+ℤ_, _*ℤ_, _-ℤ_}
+use lib.IntN.{ℤ, pos, negsuc, negℤ, natAbs, _+ℤ_, _*ℤ_}
 use Prim.Native.Nat.{zero, _<_}
 use Rattle.integer.specs.Division.{divEuclid, remEuclid}
-use Rattle.integer.specs.Divides.{Divides, Congruent}
+use Rattle.integer.specs.Divides.{Congruent}
 use Rattle.integer.proofs.Reify.{ring, reify, zero-by, _∗_, _⊹_, eq-by}
 use Rattle.integer.proofs.Division.{div-rem-euclid, rem-euclid-nonneg, rem-euclid-lt, euclid-unique}
-use Rattle.integer.proofs.Divides.{divides-comb, divides-zero}
+use Rattle.integer.proofs.Divides.{divides-comb}
 
 -- a = b + k·d
 pub congruent-by : {d a b : ℤ} (k : ℤ) → a ≡ b +ℤ k *ℤ d → Congruent d a b

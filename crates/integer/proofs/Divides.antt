@@ -10,7 +10,7 @@ use native.Mathlib.Omega.{arith}
 use Rattle.integer.specs.Division.{divEuclid, remEuclid}
 use Rattle.integer.specs.Divides.{Divides, IsGcd}
 use Rattle.integer.proofs.Ring.{sub-eq-zero, *ℤ-assoc}
-use Rattle.integer.proofs.Reify.{ring, reify, zero-by, _∗_, _⊹_, eq-by}
+use Rattle.integer.proofs.Reify.{ring, reify, zero-by, _∗_, eq-by}
 use Rattle.integer.proofs.Size.{abs-mul, abs-zero}
 use Rattle.integer.proofs.Division.{SameSign, quot-rem, quot-unique, div-rem-euclid, euclid-unique}
 

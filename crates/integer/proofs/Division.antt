@@ -1,16 +1,15 @@
 -- Division of whole numbers, toward zero (`quotZ`, `remZ`) and Euclidean: each has a quotient and a remainder, the remainder is bounded, and there is one such
 -- pair; and what one is to the other.
-use mathlib.Core.Path.{_≡_, refl, sym, _∙_, ap, ap₂, subst}
+use mathlib.Core.Path.{_≡_, refl, sym, _∙_, ap, subst}
 use mathlib.Core.List.{[], _∷_}
 use lib.IntN.{ℤ, pos, negsuc, negℤ, natAbs, _+ℤ_, _*ℤ_, _-ℤ_, negℤ-negℤ, negℤ-+ℤ}
 use lib.Signed.{_<ℤ_, quotZ, remZ}
-use Prim.Native.Nat.{ℕ, zero, suc, _+_, _*_, _-_, _/_, _%_, _≤_, _<_}
+use Prim.Native.Nat.{ℕ, zero, suc, _+_, _*_, _-_, _/_, _%_, _<_}
 use native.Mathlib.Nat.{div-add-mod', mod-lt}
 use native.Mathlib.Omega.{arith}
 use Rattle.integer.specs.Division.{divEuclid, remEuclid}
 use Rattle.integer.proofs.Ring.{neg-*ℤ, sub-eq-zero}
 use Rattle.integer.proofs.Reify.{ring, reify, zero-by, _∗_, _⊹_, eq-by}
-use Rattle.integer.specs.Parts.{up, dn}
 use Rattle.integer.proofs.Parts.{ints, sum, difference, negative}
 use Rattle.integer.proofs.Order.{NonNeg, nonneg-dn, neg-up, pos-dn, parts-nonneg}
 use Rattle.integer.proofs.Size.{abs-neg, abs-mul, abs-zero, abs-between, abs-parts}

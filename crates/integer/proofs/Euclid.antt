@@ -1,7 +1,7 @@
 -- The code's way from the quotient and remainder toward zero to Euclid's, branch by branch.
-use mathlib.Core.Path.{_≡_, _∙_, ap₂}
+use mathlib.Core.Path.{_≡_, _∙_}
 use mathlib.Core.Bool.{true, false}
-use lib.IntN.{ℤ, pos, natAbs, _+ℤ_, _-ℤ_}
+use lib.IntN.{ℤ, pos, _+ℤ_, _-ℤ_}
 use lib.Signed.{_<ℤ_, ltZ, quotZ, remZ, ltZ-yes}
 use Prim.Native.Nat.{_<_}
 use native.Mathlib.Omega.{arith}

@@ -1,11 +1,10 @@
 -- Worked examples, which hold the definitions of specs/ fast.
 use mathlib.Core.Path.{_≡_, refl}
-use mathlib.Core.Bool.{Bool, true, false}
+use mathlib.Core.Bool.{true, false}
 use lib.IntN.{ℤ, pos, negsuc, negℤ, _+ℤ_, _*ℤ_}
 use lib.Signed.{quotZ, remZ}
 use Rattle.integer.specs.Division.{divEuclid, remEuclid}
 use Rattle.integer.specs.Checked.{fits64, checked, divided}
-use Rattle.integer.specs.declared.Checked.{Checked}
 use Rattle.integer.specs.declared.Checked.the-variants.{Value, Overflow, ZeroDivisor}
 use Rattle.integer.proofs.Fits.{least, largest}
 

@@ -1,7 +1,7 @@
 -- Order on ℤ where products occur: a fact x ≤ℤ y is that y - x is not negative; what is not negative is closed under sum and product; and the ring solver says
 -- that what was summed up is the goal's difference: `le-by (slack h ⊠ slack k ⊞ slack< l) (ring ..)`.
 use mathlib.Core.Path.{_≡_, refl, subst}
-use lib.IntN.{ℤ, pos, negsuc, negℤ, _+ℤ_, _*ℤ_, _-ℤ_}
+use lib.IntN.{ℤ, pos, negsuc, _+ℤ_, _*ℤ_, _-ℤ_}
 use lib.Signed.{_≤ℤ_, _<ℤ_, nonNeg}
 use lib.Dec.{T, ltb→lt}
 use Prim.Native.Nat.{ℕ, suc, _≤_, _<_}

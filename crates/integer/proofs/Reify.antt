@@ -6,7 +6,7 @@ use lib.IntN.{ℤ, pos, negsuc, negℤ, _+ℤ_, _*ℤ_, _-ℤ_, +ℤ-invr, zero-
 use Rattle.integer.proofs.Ring.{sub-eq-zero}
 use lib.Dec.{T, eqb}
 use Prim.Native.Nat.{ℕ, zero, suc, _+_, _*_}
-use Rattle.integer.proofs.Polynomial.{Expr, var, con, add, sub, mul, neg, eval, agree, nth, solve}
+use Rattle.integer.proofs.Polynomial.{Expr, var, con, add, mul, neg, eval, agree, nth, solve}
 
 -- x stands in ρ
 pub data At : ℤ → List ℤ → Type 0 where

@@ -1,13 +1,10 @@
--- Numbers of several bytes, signed words, and the floats of patterns.
-use mathlib.Core.Path.{_≡_, refl, sym, _∙_, ap, ap₂}
-use mathlib.Core.Bool.{Bool, true, false, not, _&&_}
+-- Numbers of several bytes, and signed words.
+use mathlib.Core.Path.{_≡_, sym, _∙_, ap, ap₂}
 use mathlib.Core.List.{List}
-use Prim.Native.Nat.{ℕ, suc, _+_, _*_, _-_, _%_, _/_, _^_, _<_, _≤_}
+use Prim.Native.Nat.{ℕ, suc, _+_, _*_, _-_, _^_, _<_, _≤_}
 use native.Mathlib.Nat.{pow-succ', pow-le-pow-right, lt-of-lt-of-le}
 use native.Mathlib.Omega.{arith}
-use lib.Dec.{T, eqb, lit<}
-use lib.Ieee.{Float, nan, inf, fin, binary64, ofBits, nanBits, isNan}
-use lib.Ieee.Bits.{nanBits-is}
+use lib.Dec.{lit<}
 use lib.IntN.{pos, _-ℤ_}
 use lib.ListN.{getD}
 use mir.Syntax.{w64}
@@ -46,21 +43,3 @@ module _ {w : ℕ} (h : w < 0x100000000) where
 
   pub negative-word : held (toZ w64 w -ℤ pos 0x100000000) ≡ pos w -ℤ pos 0x100000000
   negative-word = toZ-ofZ negative-fits ∙ ap (λ z. z -ℤ pos 0x100000000) held-word
-
--- ---- a pattern is a NaN's by its exponent and its digits
-pub no-digits : (a b : Bool) → b ≡ true → T (not (a && not b))
-no-digits true b e = rw e tt
-no-digits false b e = tt
-
-pub other-exponent : (a b : Bool) → a ≡ false → T (not (a && not b))
-other-exponent a b e = rw e tt
-
-is-nan : (x : Float) → T (isNan x) → x ≡ nan
-unfolding isNan
-is-nan nan e = refl
-is-nan (inf s) e = absurd e
-is-nan (fin s m d) e = absurd e
-
-pub nan-pattern : (b : ℕ) → eqb (b % 0x8000000000000000 / 0x10000000000000) 2047 ≡ true → eqb (b % 0x10000000000000) 0 ≡ false → ofBits binary64 b ≡ nan
-unfolding nanBits
-nan-pattern b e d = is-nan (ofBits binary64 b) (rw (← nanBits-is binary64 b, e, d) tt)

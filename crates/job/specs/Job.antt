@@ -1,5 +1,5 @@
 -- The job file: little-endian 32-bit words, of which a header of eight says where A, the rotations and the lattice stand. Sections may overlap and stand at any byte from 32 on.
-use mathlib.Core.Bool.{Bool, true, false, _&&_}
+use mathlib.Core.Bool.{Bool, false, _&&_}
 use mathlib.Core.List.{List, _++_}
 use Prim.Native.Nat.{ℕ, zero, suc, _+_, _*_, _-_, _%_}
 use lib.Dec.{eqb, leb, ltb}

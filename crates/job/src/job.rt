@@ -4,7 +4,6 @@ use common::Tested;
 ghost use mathlib.Core.Path.{_≡_};
 ghost use mathlib.Core.Bool.{true};
 ghost use Prim.Native.Nat.{_+_, _*_, _^_, _≤_, _<_};
-ghost use lib.Ieee.{ofBits, binary64};
 ghost use lib.ListN.{length};
 ghost use Rattle.job.specs.Job.{littleEndian, word, signed, float, signedWords, floats, header, sectionFits, numbersFit, sectionsFit, jobFits, jobOf, rotationsWritten, accepted, refused};
 
@@ -60,24 +59,11 @@ fn signed(w: usize) -> i64
     w as i64 - 0x1_0000_0000
 }
 
-// The float of a bit pattern, a NaN's too.
-fn of_bits(bits: u64) -> f64
-    ensures { λ r. ⌜ r ≡ ofBits binary64 bits ⌝ }
-{
-    if bits % 0x8000_0000_0000_0000 / 0x10_0000_0000_0000 == 2047 {
-        if bits % 0x10_0000_0000_0000 != 0 {
-            return 0.0 / 0.0;
-        }
-        return f64::from_bits(bits);
-    }
-    f64::from_bits(bits)
-}
-
 fn float(bytes: &[u8], at: usize) -> f64
     requires { ⌜ at + 8 ≤ length (now bytes) ⌝ }
     ensures { λ r. ⌜ r ≡ float (now (bytes .entry)) at ⌝ }
 {
-    of_bits(little_endian(bytes, at, 8))
+    float::of_bits(little_endian(bytes, at, 8))
 }
 
 // As many signed words as out has places, from byte `at` on.

@@ -1,9 +1,8 @@
 // The text that a job prints, written into a lent slice.
 use common::Refusal;
 ghost use mathlib.Core.Path.{_≡_};
-ghost use mathlib.Core.List.{[], _∷_};
+ghost use mathlib.Core.List.{[]};
 ghost use Prim.Native.Nat.{_*_, _/_};
-ghost use lib.IntN.{pos};
 ghost use lib.ListN.{length, replicate};
 ghost use Rattle.bzsearch.specs.Search.{rows};
 ghost use Rattle.job.specs.Listing.{decimal, number, spaced, line, tripletLine, listing, refusal};

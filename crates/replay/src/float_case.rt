@@ -26,23 +26,12 @@ pub enum Read {
     Malformed,
 }
 
-// The float of a bit pattern, a NaN's too.
-fn of_bits(bits: u64) -> f64 {
-    if bits % 0x8000_0000_0000_0000 / 0x10_0000_0000_0000 == 2047 {
-        if bits % 0x10_0000_0000_0000 != 0 {
-            return 0.0 / 0.0;
-        }
-        return f64::from_bits(bits);
-    }
-    f64::from_bits(bits)
-}
-
 pub fn float_of(high: i64, low: i64) -> Read {
     let h = integer::unsigned_abs(high);
     let l = integer::unsigned_abs(low);
     if h <= 0xffff_ffff {
         if l <= 0xffff_ffff {
-            return Read::Float(of_bits(h * 0x1_0000_0000 + l));
+            return Read::Float(float::of_bits(h * 0x1_0000_0000 + l));
         }
     }
     Read::Malformed

@@ -1,22 +1,22 @@
 -- Comparing two answers by what the call returned of them.
-use mathlib.Core.Path.{_≡_, refl, sym}
+use mathlib.Core.Path.{_≡_, refl}
 use Prim.Native.Nat.{ℕ}
 use native.Mathlib.Omega.{arith}
 use lib.IntN.{ℤ}
 use Rattle.integer.specs.Checked.{pick}
 use Rattle.common.specs.declared.Refusal.{Refusal}
 use Rattle.common.specs.declared.Tested.the-variants.{Accepted, Refused}
-use Rattle.common.specs.Matrix.{Vec}
+use Rattle.common.specs.Matrix.{Vec, sameVector}
 use Rattle.common.specs.Array.{vectorOf}
 use Rattle.snf3x3.specs.declared.SameGrid.the-variants as same
 use Rattle.snf3x3.specs.Snf3x3.{Answer, refused, diagonalised}
 use Rattle.snf3x3.specs.Written.{written}
-use Rattle.snf3x3.specs.SameGrid.{sameNumbers, sameAs, sameGrid}
+use Rattle.snf3x3.specs.SameGrid.{sameAs, sameGrid}
 
 never : _≡_ {A = ℕ} 0 1 → ⊥
 never e = omega arith
 
-pub numbers-compared : (d : Vec ℤ) (w : Answer) → written w .tested ≡ Accepted → sameAs d w ≡ pick (sameNumbers d (vectorOf (written w .«d_diag»))) same.Same same.Different
+pub numbers-compared : (d : Vec ℤ) (w : Answer) → written w .tested ≡ Accepted → sameAs d w ≡ pick (sameVector d (vectorOf (written w .«d_diag»))) same.Same same.Different
 numbers-compared d (refused r) e = let z : _≡_ {A = ℕ} 0 1 = cc in absurd (never z)
 numbers-compared d (diagonalised v p q n) e = refl
 

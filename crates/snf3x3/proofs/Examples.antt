@@ -3,9 +3,8 @@ use mathlib.Core.Path.{_≡_, refl}
 use mathlib.Core.List.{List, [], _∷_}
 use Prim.Native.Nat.{ℕ}
 use lib.IntN.{ℤ, pos, negsuc}
-use Rattle.common.specs.declared.Refusal.the-variants.{Singular, Overflow}
 use Rattle.common.specs.Refusal.{numberOf}
-use Rattle.common.specs.Matrix.{Vec, Mat, entries, diagonal}
+use Rattle.common.specs.Matrix.{Mat, entries, diagonal}
 use Rattle.common.specs.IntegerMatrix.{productFits, detFits}
 use Rattle.snf_steps.specs.Result.{Result, ok, overflow}
 use Rattle.snf_steps.specs.Gcd.{Euclid, step, euclid, extendedGcd}

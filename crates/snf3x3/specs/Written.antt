@@ -1,6 +1,6 @@
 -- What the call returns for each answer: a refusal leaves -1 in every place.
-use mathlib.Core.List.{List, []}
-use lib.IntN.{ℤ, pos, negsuc}
+use mathlib.Core.List.{[]}
+use lib.IntN.{pos, negsuc}
 use lib.ListN.{replicate}
 use Rattle.common.specs.declared.Tested.the-variants.{Accepted, Refused}
 use Rattle.common.specs.Matrix.{entries}

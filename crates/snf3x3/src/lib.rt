@@ -9,11 +9,12 @@ ghost use mathlib.Core.Path.{_≡_};
 ghost use mathlib.Core.Bool.{true};
 ghost use Prim.Native.Nat.{_≤_};
 ghost use Rattle.common.specs.Array.{vectorOf, matrixOf};
+ghost use Rattle.common.specs.Matrix.{sameVector};
 ghost use Rattle.snf_steps.specs.Result.{_then_, fitting};
 ghost use Rattle.snf_steps.specs.StagesView.{threeOf, tripleOf, outcomeOf};
 ghost use Rattle.snf3x3.specs.Snf3x3 as walk;
 ghost use Rattle.snf3x3.specs.Written.{written};
-ghost use Rattle.snf3x3.specs.SameGrid.{sameNumbers, sameAs, sameGrid};
+ghost use Rattle.snf3x3.specs.SameGrid.{sameAs, sameGrid};
 ghost use Rattle.snf3x3.specs.declared.SameGrid.the-variants as same;
 ghost use Rattle.integer.specs.Checked.{pick};
 
@@ -115,16 +116,10 @@ pub enum SameGrid {
     Refused(Refusal),
 }
 
-fn same_numbers(d: [i64; 3], e: [i64; 3]) -> bool
-    ensures { λ r. ⌜ r ≡ sameNumbers (vectorOf d) (vectorOf e) ⌝ }
-{
-    common::all_three(d[0] == e[0], d[1] == e[1], d[2] == e[2])
-}
-
 fn compared(d: [i64; 3], e: [i64; 3]) -> SameGrid
-    ensures { λ r. ⌜ r ≡ pick (sameNumbers (vectorOf d) (vectorOf e)) same.Same same.Different ⌝ }
+    ensures { λ r. ⌜ r ≡ pick (sameVector (vectorOf d) (vectorOf e)) same.Same same.Different ⌝ }
 {
-    if same_numbers(d, e) {
+    if common::same_row(d, e) {
         SameGrid::Same
     } else {
         SameGrid::Different

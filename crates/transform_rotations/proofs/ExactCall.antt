@@ -1,29 +1,28 @@
 -- What the tests and the output of the call say of each rotation.
-use mathlib.Core.Path.{_≡_, refl, sym, _∙_, ap}
+use mathlib.Core.Path.{_≡_, refl, _∙_, ap}
 use mathlib.Core.Logic.{⊎-elim}
 use mathlib.Core.Bool.{_&&_}
 use mathlib.Core.List.{List, [], _∷_, map, List·Memᴰ·head as here, List·Memᴰ·tail as there, List·Memᴰ·not-nil as not-nil, List·Memᴰ·cases-cons as cases}
 use Prim.Native.Nat.{ℕ}
 use lib.Dec.{T, leb}
 use lib.IntN.{ℤ, pos, negsuc, natAbs}
-use lib.ListN.{length}
 use Rattle.integer.proofs.Test.{and-l, and-r, and-in, holds, is-true}
 use Rattle.common.specs.Matrix.{Axis, X, Y, Z, Vec, Mat, side, entries, diagonal}
 use Rattle.common.specs.Array.{along, vectorOf, sidesOf, matrixOf, matrices, flat}
 use Rattle.common.specs.Limits.{sideFits, diagonalFits}
-use Rattle.common.specs.Tested.{require, outputOf}
+use Rattle.common.specs.Tested.{require, outputOf, after}
 use Rattle.common.specs.declared.Tested.{Tested}
-use Rattle.common.specs.declared.Tested.the-variants.{Accepted, Refused}
+use Rattle.common.specs.declared.Tested.the-variants.{Accepted}
 use Rattle.common.specs.declared.Refusal.the-variants.{SymmetryBroken}
 use Rattle.common.proofs.Matrix.{axes-of, same-vector}
-use Rattle.common.proofs.Tests.{passed}
+use Rattle.common.proofs.Tests.{passed, both-accepted}
 use Rattle.grgrid.specs.Grid.{size}
 use Rattle.grgrid.proofs.Lists.{_∈_}
 use Rattle.grgrid.proofs.Folding.{Sides}
 use Rattle.grgrid.proofs.Acting.{grid}
 use Rattle.grgrid.proofs.Accepted.{grid-fits}
 use Rattle.transform_rotations.specs.Transform.{transformD, isWhole, rounded}
-use Rattle.transform_rotations.specs.TransformRotations.{allWhole, transformedList, inputTests, after, transformTests, transformWritten}
+use Rattle.transform_rotations.specs.TransformRotations.{allWhole, transformedList, inputTests, transformTests, transformWritten}
 
 -- ---- the diagonal numbers
 pub sides-fit : (d : List ℤ) → T (diagonalFits d) → (k : Axis) → T (sideFits (side (vectorOf d) k))
@@ -57,23 +56,18 @@ module _ (d : Vec ℤ) (q : Mat ℤ) where
   list-flat (r ∷ l) = ap (entries (rounded (transformD d q r))) (list-flat l)
 
 -- ---- the tests
-after-first : (s t : Tested) → after s t ≡ Accepted → s ≡ Accepted
-after-first Accepted t e = refl
-after-first (Refused r) t e = e
-
 module _ (rotations d : List ℤ) (q : List (List ℤ)) (n : ℕ) where
   abbrev whole : Tested
   whole = require (allWhole (vectorOf d) (matrixOf q) (matrices rotations)) SymmetryBroken Accepted
 
   pub tests-input : transformTests rotations d q n ≡ Accepted → inputTests rotations d q n ≡ Accepted
   unfolding transformTests
-  tests-input e = after-first (inputTests rotations d q n) whole e
+  tests-input e = both-accepted (inputTests rotations d q n) whole e .0
 
   pub tests-whole : transformTests rotations d q n ≡ Accepted → T (allWhole (vectorOf d) (matrixOf q) (matrices rotations))
   unfolding transformTests
   tests-whole e =
-      holds (passed (allWhole (vectorOf d) (matrixOf q) (matrices rotations)) SymmetryBroken Accepted
-      (ap (λ s. after s whole) (sym (after-first (inputTests rotations d q n) whole e)) ∙ e) .0)
+      holds (passed (allWhole (vectorOf d) (matrixOf q) (matrices rotations)) SymmetryBroken Accepted (both-accepted (inputTests rotations d q n) whole e .1) .0)
 
   pub whole-tests : inputTests rotations d q n ≡ Accepted → T (allWhole (vectorOf d) (matrixOf q) (matrices rotations)) → transformTests rotations d q n ≡ Accepted
   unfolding transformTests

@@ -4,13 +4,13 @@ use mathlib.Core.List.{List, [], _∷_}
 use Prim.Native.Nat.{ℕ}
 use lib.Dec.{leb, eqb}
 use lib.IntN.{ℤ, pos}
-use lib.Ieee.{Float, binary64, ofInt, eq}
+use lib.Ieee.{binary64, ofInt, eq}
 use lib.ListN.{length}
 use Rattle.common.specs.Matrix.{Vec, Mat, entries, detOver}
 use Rattle.common.specs.Array.{vectorOf, matrixOf, matrices}
 use Rattle.common.specs.FloatMatrix.{floats}
 use Rattle.common.specs.Limits.{allWithin, matrixWithin, wholeMatrices, diagonalFits}
-use Rattle.common.specs.Tested.{require, outputOf}
+use Rattle.common.specs.Tested.{require, outputOf, after}
 use Rattle.common.specs.declared.Tested.{Tested}
 use Rattle.common.specs.declared.Tested.the-variants.{Accepted, Refused}
 use Rattle.common.specs.declared.Refusal.the-variants.{OutsideLimits, SingularQ, SymmetryBroken, WrongLength}
@@ -41,10 +41,6 @@ inputTests rotations d q n =
     (require (eqb n (length rotations)) WrongLength
     (require (allWithin 100 rotations && (matrixWithin 1000 (matrixOf q) && diagonalFits d)) OutsideLimits
     (require (not (singularQ (matrixOf q))) SingularQ Accepted))))
-
-abbrev pub after : Tested → Tested → Tested
-after Accepted t = t
-after (Refused r) t = Refused r
 
 unfoldable pub transformTests : List ℤ → List ℤ → List (List ℤ) → ℕ → Tested
 unfolding inputTests

@@ -16,12 +16,12 @@ use Rattle.common.specs.Array.{number, vectorOf, items, rows, matrixOf, matrixA
 use Rattle.common.specs.Limits.{allWithin}
 use Rattle.common.proofs.Matrix.{same-matrix}
 use Rattle.common.proofs.Reading.{length-flat, read-flat, matrices-flat, read-small}
-use Rattle.grgrid.specs.Grid.{index, address}
+use Rattle.grgrid.specs.Grid.{index, address, carry}
 use Rattle.grgrid.proofs.Lists.{_∈_}
 use Rattle.recip_rotations.specs.Flat.{laid}
 use Rattle.recip_rotations.proofs.Blocks.{from-more, length-from, laid-over, laid-copy}
 use Rattle.recip_rotations.proofs.Sizes.{within-flat}
-use Rattle.triplet_grid.specs.Partner.{carry, keeping, stabilizer}
+use Rattle.triplet_grid.specs.Partner.{keeping, stabilizer}
 
 -- ---- a list with l laid over its front
 module _ (before : List ℤ) (l : List (Mat ℤ)) where

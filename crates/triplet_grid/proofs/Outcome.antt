@@ -10,7 +10,7 @@ use borrow.Author.Tests.{eqb-true}
 use Rattle.integer.proofs.Test.{holds, and-l, and-r, is-true}
 use Rattle.common.specs.Array.{sidesOf, matrices}
 use Rattle.common.specs.Limits.{wholeMatrices, rotationsFit, diagonalFits, pointFits}
-use Rattle.common.specs.Tested.{outputOf}
+use Rattle.common.specs.Tested.{outputOf, after}
 use Rattle.common.specs.declared.Refusal.{Refusal}
 use Rattle.common.specs.declared.Refusal.the-variants.{OutsideLimits, WrongLength}
 use Rattle.common.specs.declared.Tested.{Tested}
@@ -19,7 +19,7 @@ use Rattle.common.proofs.Tests.{passed}
 use Rattle.grgrid.specs.Grid.{size}
 use Rattle.grgrid.specs.ClassMap.{kept}
 use Rattle.recip_rotations.specs.PointGroup.{roomTests}
-use Rattle.triplet_grid.specs.IrTriplets.{mapTriplets, inputTests, after, tripletTests, classesAt, answerFor, irTripletsAnswer, mapTripletsWritten, mapQWritten}
+use Rattle.triplet_grid.specs.IrTriplets.{mapTriplets, inputTests, tripletTests, classesAt, answerFor, irTripletsAnswer, mapTripletsWritten, mapQWritten}
 use Rattle.triplet_grid.specs.declared.IrTriplets.{IrTriplets}
 
 pub record InputAccepted (q0 : ℤ) (d rotations : List ℤ) (n m : ℕ) : Type 0 where

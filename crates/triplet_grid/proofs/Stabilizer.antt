@@ -12,7 +12,7 @@ use Rattle.integer.proofs.Polynomial.{Expr, sub, neg}
 use Rattle.integer.proofs.Congruence.{congruent-add, congruent-neg}
 use Rattle.common.specs.Matrix.{Vec, Mat, side, vector, _·_, identity, negate, _▹_, entries}
 use Rattle.common.proofs.Matrix.{sides, column, solveVec, 𝔸, applyE}
-use Rattle.grgrid.specs.Grid.{size, index, address}
+use Rattle.grgrid.specs.Grid.{size, index, address, carry}
 use Rattle.grgrid.specs.ClassMap.{classes, kept}
 use Rattle.grgrid.proofs.Lists.{_∈_}
 use Rattle.grgrid.proofs.Pass.{Equiv}
@@ -24,7 +24,7 @@ use Rattle.grgrid.proofs.Classes.{plain-classes}
 use Rattle.grgrid.proofs.Count.{Classified}
 use Rattle.recip_rotations.specs.PointGroup.{joins, pointGroup}
 use Rattle.recip_rotations.proofs.Told.{unique-distinct, told-group}
-use Rattle.triplet_grid.specs.Partner.{carry, keeping, stabilizer, third, partner}
+use Rattle.triplet_grid.specs.Partner.{keeping, stabilizer, third, partner}
 use Rattle.triplet_grid.specs.IrTriplets.{mapQ, mapTriplets, classesAt}
 use Rattle.triplet_grid.proofs.Joining.{Partner, Joined, Meets, joined-meets, triplet-classes}
 

@@ -10,7 +10,7 @@ use lib.IntN.{ℤ, pos, natAbs}
 use lib.ListN.{length, getD, set, length-map, List·getD-map}
 use lib.Signed.{ltZ}
 use Rattle.integer.specs.Checked.{pick}
-use Rattle.common.specs.Matrix.{Vec, Mat}
+use Rattle.common.specs.Matrix.{Vec, Mat, origin}
 use Rattle.common.specs.Array.{vectorOf, items}
 use Rattle.grgrid.specs.Grid.{size, index, address, rotate}
 use Rattle.grgrid.specs.ClassMap.{classMap, kept}
@@ -20,7 +20,7 @@ use Rattle.grgrid.proofs.Pass.{pass-own}
 use Rattle.grgrid.proofs.Numbers.{own-kept}
 use Rattle.recip_rotations.specs.PointGroup.{pointGroup}
 use Rattle.triplet_grid.specs.Partner.{stabilizer, third, partner}
-use Rattle.triplet_grid.specs.IrTriplets.{noShift, Numbered, lowerOf, swappedNumber, numbersOf, mapTriplets, classesAt}
+use Rattle.triplet_grid.specs.IrTriplets.{Numbered, lowerOf, swappedNumber, numbersOf, mapTriplets, classesAt}
 
 pub numbers-of : (classes : List ℕ) {l : List ℤ} → l ≡ map pos classes → map natAbs l ≡ classes
 numbers-of classes e = ap (map natAbs) e ∙ map-map natAbs pos classes ∙ map-id classes
@@ -35,7 +35,7 @@ numbered d ps ms e =
 
 pub classes-numbered : (q0 : ℕ) (d : Vec ℕ) (ms : List (Mat ℤ)) (time : Bool) {l : List ℤ} → l ≡ map pos (classesAt q0 d ms time) → Numbered (size d) l
 unfolding classesAt
-classes-numbered q0 d ms time e = numbered d noShift (stabilizer d q0 (pointGroup ms time false)) e
+classes-numbered q0 d ms time e = numbered d origin (stabilizer d q0 (pointGroup ms time false)) e
 
 pub numbered-at : {n : ℕ} {l : List ℤ} → Numbered n l → (p : ℕ) → getD l p (pos 0) ≡ pos (getD (map natAbs l) p 0)
 numbered-at {n} {l} h p = ap (λ l. getD l p (pos 0)) (h .natural) ∙ List·getD-map pos (map natAbs l) p 0

@@ -7,10 +7,10 @@ use lib.Dec.{eqb, ltb}
 use lib.IntN.{ℤ, pos, natAbs}
 use lib.ListN.{getD}
 use Rattle.integer.specs.Checked.{pick}
-use Rattle.common.specs.Matrix.{Vec, Mat, vector}
+use Rattle.common.specs.Matrix.{Vec, Mat, origin}
 use Rattle.common.specs.Array.{sidesOf, matrices}
 use Rattle.common.specs.Limits.{wholeMatrices, rotationsFit, diagonalFits, pointFits}
-use Rattle.common.specs.Tested.{require, outputOf}
+use Rattle.common.specs.Tested.{require, outputOf, after}
 use Rattle.common.specs.declared.Tested.{Tested}
 use Rattle.common.specs.declared.Tested.the-variants.{Accepted, Refused}
 use Rattle.common.specs.declared.Refusal.the-variants.{OutsideLimits, WrongLength}
@@ -22,13 +22,10 @@ use Rattle.triplet_grid.specs.declared.IrTriplets.{IrTriplets}
 use Rattle.triplet_grid.specs.declared.IrTriplets.the-variants as answer
 use Rattle.triplet_grid.specs.Partner.{stabilizer, partner}
 
-abbrev pub noShift : Vec ℤ
-noShift = vector (λ k. pos 0)
-
 -- the class map of the operations that keep q0
 unfoldable pub mapQ : Vec ℕ → ℕ → List (Mat ℤ) → List ℕ
 unfolding classMap stabilizer
-mapQ d q0 l = classMap d noShift (stabilizer d q0 l)
+mapQ d q0 l = classMap d origin (stabilizer d q0 l)
 
 -- ---- with swapping, a class and that of its partners become one, under the lower number
 abbrev pub lowerOf : ℕ → ℕ → ℕ
@@ -53,10 +50,6 @@ inputTests q0 d rotations n m =
     (require (eqb n (size (sidesOf d)) && eqb m (size (sidesOf d))) WrongLength
     (require (pointFits q0 (pos (size (sidesOf d)))) OutsideLimits
     (require (rotationsFit 100000 rotations) OutsideLimits Accepted))))
-
-abbrev pub after : Tested → Tested → Tested
-after Accepted t = t
-after (Refused r) t = Refused r
 
 unfoldable pub tripletTests : ℤ → List ℤ → List ℤ → Bool → ℕ → ℕ → Tested
 unfolding inputTests roomTests

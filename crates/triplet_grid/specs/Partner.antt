@@ -4,13 +4,8 @@ use Prim.Native.Nat.{ℕ}
 use lib.Dec.{eqb}
 use lib.IntN.{ℤ, negℤ, _-ℤ_}
 use Rattle.integer.specs.Checked.{pick}
-use Rattle.common.specs.Matrix.{Vec, Mat, side, vector, _▹_}
-use Rattle.grgrid.specs.Grid.{index, address}
-
--- where an operation carries a point: by addresses, without shift
-unfoldable pub carry : Vec ℕ → Mat ℤ → ℕ → ℕ
-unfolding index address
-carry d m p = index d (m ▹ address d p)
+use Rattle.common.specs.Matrix.{Vec, Mat, side, vector}
+use Rattle.grgrid.specs.Grid.{index, address, carry}
 
 abbrev pub keeping : Vec ℕ → ℕ → List (Mat ℤ) → List (Mat ℤ)
 keeping d q0 [] = []

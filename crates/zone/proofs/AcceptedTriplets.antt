@@ -11,10 +11,11 @@ use lib.Ieee.{Float}
 use lib.ListN.{length}
 use Rattle.common.specs.Matrix.{Vec}
 use Rattle.common.specs.Array.{sidesOf, matrices}
-use Rattle.common.specs.Tested.{outputOf}
+use Rattle.common.specs.Tested.{outputOf, after}
 use Rattle.common.specs.declared.Tested.{Tested}
 use Rattle.common.specs.declared.Tested.the-variants.{Accepted, Refused}
 use Rattle.common.specs.declared.Refusal.{Refusal}
+use Rattle.common.proofs.Tests.{not-accepted}
 use Rattle.grgrid.specs.Grid.{size, index}
 use Rattle.grgrid.specs.ClassMap.{kept}
 use Rattle.grgrid.proofs.Lists.{_∈_}
@@ -24,22 +25,19 @@ use Rattle.bzgrid.specs.declared.GridType.the-variants.{Sparse, Dense, Unknown}
 use Rattle.bzsearch.specs.Search.{rows, numbersFrom}
 use Rattle.bzgrid.specs.Table.{Image, others}
 use Rattle.bzgrid.specs.BzGridAddresses.{gridType, mapOf}
-use Rattle.bztable.specs.Reading.{Read, got, outside, tripleAt, placeAt, addressAt}
+use Rattle.bztable.specs.Reading.{Read, got, outside, tripleAt, placeAt, addressAt, testsAfter, listOf}
 use Rattle.bztable.specs.Access.{numberIn, imagePlaces}
 use Rattle.bztable.proofs.TableRead.{sparse-start}
 use Rattle.bzsearch.proofs.Listing.{length-rows}
-use Rattle.triplet_grid.specs.IrTriplets.{inputTests, after, tripletTests, mapTriplets, classesAt, irTripletsAnswer}
+use Rattle.triplet_grid.specs.IrTriplets.{inputTests, tripletTests, mapTriplets, classesAt, irTripletsAnswer}
 use Rattle.triplet_grid.specs.IrTriplets as class
 use Rattle.triplet_grid.specs.declared.IrTriplets.the-variants as class-answer
 use Rattle.triplet_grid.proofs.Outcome.{InputAccepted, input-accepted}
-use Rattle.bz_triplets.specs.BzTriplets.{State, firstOf, pointOf, tripletList, tripletsRead, statesOf, testsAfter, answerFor, bzTripletTests, bzTripletsAnswer, tripletsWritten}
+use Rattle.bz_triplets.specs.BzTriplets.{State, firstOf, pointOf, tripletList, tripletsRead, answerFor, bzTripletTests, bzTripletsAnswer, tripletsWritten}
 use Rattle.bz_triplets.specs.BzTriplets as triplet
 use Rattle.bz_triplets.specs.declared.BzTriplets.the-variants as answer
 use Rattle.zone.specs.FinishedList.{Starts}
 use Rattle.zone.proofs.TableWalks.{Counts, not-got, then-got, place-got, address-got}
-
-not-accepted : (r : Refusal) → Refused r ≡ Accepted → ⊥
-not-accepted r e = let z : _≡_ {A = ℕ} 0 1 = cc in omega arith
 
 -- ---- the class call takes a point of the grid
 module _ (q0 : ℤ) (d rotations : List ℤ) (timeReversal swappable : Bool) (n m : ℕ) {k : ℤ} (e : irTripletsAnswer q0 d rotations timeReversal swappable n m ≡ class-answer.Classes k) where
@@ -60,7 +58,7 @@ module _ (q0 : ℤ) (d rotations : List ℤ) (timeReversal swappable : Bool) (n 
     where
       go : (t : Tested) → inputTests q0 d rotations n m ≡ t → after t (roomTests (matrices rotations) timeReversal false) ≡ Accepted → inputTests q0 d rotations n m ≡ Accepted
       go Accepted p e = p
-      go (Refused r) p e = absurd (not-accepted r e)
+      go (Refused r) p e = absurd (not-accepted e)
 
 -- ---- the counts of a map
 pub map-counts : (t : GridType) (d : Vec ℕ) (g : ℕ → List Image) (r : List ℤ) (p : ℕ) → p < size d → Counts t (mapOf t d g ++ r) (size d) p
@@ -132,9 +130,9 @@ module _ (q0 : ℤ) (addresses map classes d : List ℤ) (q : List (List ℤ)) (
     where
       go : (x : Tested) (r : Read (List State)) → testsAfter x r ≡ Accepted → (s : List State) × (r ≡ got s)
       go Accepted (got s) e = (s, refl)
-      go Accepted outside e = absurd (not-accepted _ e)
-      go (Refused r) s e = absurd (not-accepted r e)
+      go Accepted outside e = absurd (not-accepted e)
+      go (Refused r) s e = absurd (not-accepted e)
 
   pub triplets-accepted : TripletsAccepted q0 addresses map classes d q lattice t n m l
   unfolding tripletsWritten
-  triplets-accepted = record { states = all-read .0; read = all-read .1; written = ap₂ (λ x r. outputOf x n (tripletList (statesOf r))) passed (all-read .1) }
+  triplets-accepted = record { states = all-read .0; read = all-read .1; written = ap₂ (λ x r. outputOf x n (tripletList (listOf r))) passed (all-read .1) }

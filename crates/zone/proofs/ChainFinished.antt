@@ -1,22 +1,20 @@
 -- Demand 3 of the chain: an accepted chain has made the five calls, each accepted and each given what those before it left.
-use mathlib.Core.Path.{_≡_, refl, sym, _∙_, ap, ap₂, subst}
-use mathlib.Core.Bool.{Bool, true, false}
+use mathlib.Core.Path.{_≡_, refl, sym, _∙_, ap, subst}
+use mathlib.Core.Bool.{true}
 use mathlib.Core.List.{List, List·Memᴰ·head as here}
 use Prim.Native.Nat.{ℕ, zero, suc, _+_, _*_, _-_, _<_}
 use native.Mathlib.Nat.{not-suc-le-zero}
-use native.Mathlib.Omega.{arith}
 use lib.Dec.{T, leb}
 use lib.IntN.{ℤ, pos, negsuc, natAbs}
-use lib.Ieee.{Float}
-use lib.ListN.{length, getD, take, length-map}
+use lib.ListN.{length, take, length-map}
 use lib.Signed.{nonNeg}
 use Rattle.common.specs.Matrix.{Vec, Mat}
-use Rattle.common.specs.Array.{sidesOf, matrixOf, matrixAt, matrices, items, rows}
+use Rattle.common.specs.Array.{matrixOf, matrixAt, matrices, items, rows}
 use Rattle.common.specs.declared.Refusal.the-variants.{WrongLength}
 use Rattle.common.specs.declared.Tested.{Tested}
 use Rattle.common.specs.declared.Tested.the-variants.{Accepted, Refused}
-use Rattle.common.proofs.Tests.{passed}
-use Rattle.grgrid.specs.Grid.{size}
+use Rattle.common.proofs.Tests.{passed, not-accepted, both-accepted}
+use Rattle.common.specs.Tested.{after}
 use Rattle.grgrid.proofs.Lists.{_∈_}
 use Rattle.snf3x3.specs.Snf3x3.{Answer, refused, diagonalised, snf3x3}
 use Rattle.snf3x3.specs.Written.{written}
@@ -36,25 +34,24 @@ use Rattle.bzgrid.specs.BzGridAddresses.{gridType, isKnown, bzAnswer, addresses
 use Rattle.bztable.specs.Reading.{tripleAt, addressOf}
 use Rattle.bztable.specs.Access.{numberIn, imagePlaces}
 use Rattle.bztable.proofs.AcceptedCall.{CallAccepted, call-accepted, call-stands, call-found}
-use Rattle.bztable.proofs.NeighbourCall.{not-accepted}
 use Rattle.triplet_grid.specs.IrTriplets as class
-use Rattle.triplet_grid.specs.IrTriplets.{after, irTripletsAnswer, mapTripletsWritten, tripletTests}
+use Rattle.triplet_grid.specs.IrTriplets.{irTripletsAnswer, mapTripletsWritten, tripletTests}
 use Rattle.triplet_grid.specs.declared.IrTriplets.the-variants as class-answer
 use Rattle.bz_triplets.specs.BzTriplets as triplet
-use Rattle.bz_triplets.specs.BzTriplets.{bzTripletTests, bzTripletsAnswer, tripletsWritten, tripletsRead}
+use Rattle.bz_triplets.specs.BzTriplets.{bzTripletsAnswer, tripletsWritten, tripletsRead}
 use Rattle.bz_triplets.specs.declared.BzTriplets.the-variants as triplet-answer
 use Rattle.bz_triplets.proofs.CallOutcome.{asked-for}
 use Rattle.zone.specs.declared.Finished.{Finished}
 use Rattle.zone.specs.FinishedList.{Given, as-returned, Starts, Calls}
-use Rattle.zone.specs.Chain.{Job, Rooms, Grid, Lists, roomsAgree, diagonal, sides, change, group, transformed, rotationTests, imagesTested, startOf, pointsOf, classMap, classTests, count, start, choiceTests, triplets, listTests, listsOf, imageAddresses, imageMap, imageTests, gridTests, gridLists, gridOf, chainTests, chainAnswer}
-use Rattle.zone.specs.ChainView.{grid, Listed}
+use Rattle.zone_steps.specs.Steps.{Rooms, Grid, Lists, group, transformed, rotationTests, imagesTested, startOf, pointsOf, classMap, classTests, count, start, choiceTests, triplets, listTests, listsOf, imageAddresses, imageMap, imageTests, gridTests, gridLists}
+use Rattle.zone.specs.Chain.{Job, roomsAgree, diagonal, change, gridOf, chainTests, chainAnswer}
+use Rattle.zone_steps.specs.StepsView.{grid, Listed}
 use Rattle.zone.specs.ChainFinished.{FinishedChain}
 use Rattle.zone.proofs.TableWalks.{then-got}
 use Rattle.zone.proofs.AcceptedTriplets.{triplets-accepted}
-use Rattle.zone.proofs.JoinedList.{told-part}
+use Rattle.zone_steps.proofs.ToldPart.{told-part}
 use Rattle.zone.proofs.FinishedList.{finished-list}
-use Rattle.zone.proofs.ChainLists.{passed-classes}
-use Rattle.zone.proofs.ChainGrid.{both-accepted}
+use Rattle.zone_steps.proofs.ListedClasses.{passed-classes}
 use Rattle.zone.proofs.ChainWhole.{tests}
 
 -- ---- a number that is not negative

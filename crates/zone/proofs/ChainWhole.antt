@@ -7,13 +7,13 @@ use native.Mathlib.Nat.{le-of-lt, le-refl}
 use native.Mathlib.Omega.{arith}
 use lib.Dec.{eqb}
 use lib.IntN.{ℤ, pos, negsuc}
-use lib.Ieee.{Float, binary64, ofInt}
+use lib.Ieee.{Float}
 use lib.ListN.{length, getD, replicate, length-append, length-replicate, getD-replicate, List·getD-append}
 use lib.Seq.{getD-append-add}
 use borrow.Author.Tests.{eqb-true}
 use Rattle.integer.proofs.Test.{holds, and-l, and-r, is-true}
 use Rattle.common.specs.Array.{matrixAt, matrixOf, rows}
-use Rattle.common.specs.Tested.{require, outputOf}
+use Rattle.common.specs.Tested.{require, outputOf, after}
 use Rattle.common.specs.declared.Refusal.{Refusal}
 use Rattle.common.specs.declared.Refusal.the-variants.{WrongLength}
 use Rattle.common.specs.declared.Tested.{Tested}
@@ -22,11 +22,11 @@ use Rattle.grgrid.specs.Own.{isPlace, ownPlaces}
 use Rattle.snf3x3.specs.declared.Snf.{Snf}
 use Rattle.snf3x3.specs.Snf3x3.{snf3x3}
 use Rattle.snf3x3.specs.Written.{written}
-use Rattle.bztable.proofs.NeighbourCall.{not-accepted}
-use Rattle.triplet_grid.specs.IrTriplets.{after}
 use Rattle.zone.specs.declared.Finished.{Finished}
-use Rattle.zone.specs.Chain.{Job, Rooms, Grid, Lists, roomsAgree, diagonal, sides, change, transformed, rotationTests, classMap, count, listsOf, gridTests, gridLists, answerFor, wiped, listsFor, gridOf, chainTests, chainAnswer, chainAddresses, chainMap, chainGrg, chainLists, imageAddresses, imageMap, imageGrg}
-use Rattle.zone.specs.ChainView.{grid, job, lists, Agreed, Listed, finishedWith, refusedWith}
+use Rattle.zone_steps.specs.Steps.{Rooms, Grid, Lists, transformed, rotationTests, classMap, count, listsOf, gridTests, gridLists, imageAddresses, imageMap, imageGrg}
+use Rattle.zone.specs.Chain.{Job, roomsAgree, diagonal, sides, change, answerFor, wiped, listsFor, gridOf, chainTests, chainAnswer, chainAddresses, chainMap, chainGrg, chainLists}
+use Rattle.zone_steps.specs.StepsView.{grid, lists, Agreed, Listed}
+use Rattle.zone.specs.ChainView.{job, finishedWith, refusedWith}
 
 -- ---- -1 is no place
 abbrev counted-on : ℕ → ℤ → ℕ → ℕ

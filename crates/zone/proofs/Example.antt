@@ -16,7 +16,6 @@ use Rattle.common.proofs.Unimodular.{Unimodular}
 use Rattle.grgrid.specs.Grid.{index}
 use Rattle.grgrid.proofs.MatrixGroup.{MatrixGroup}
 use Rattle.recip_rotations.specs.PointGroup.{joined, pointGroupAnswer, pointGroupWritten}
-use Rattle.recip_rotations.specs.declared.PointGroup.the-variants.{Rotations}
 use Rattle.snf_steps.specs.Gcd.{step, euclid, extendedGcd}
 use Rattle.snf_steps.specs.Columns.{multiply, makeZero, firstColumn, secondColumn}
 use Rattle.snf_steps.specs.Stages.{oneLoop, first, second}

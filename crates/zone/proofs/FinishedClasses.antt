@@ -16,6 +16,7 @@ use Rattle.common.specs.declared.Refusal.{Refusal}
 use Rattle.common.specs.declared.Tested.{Tested}
 use Rattle.common.specs.declared.Tested.the-variants.{Accepted, Refused}
 use Rattle.common.proofs.Unimodular.{Unimodular}
+use Rattle.common.proofs.Tests.{both-accepted}
 use Rattle.grgrid.specs.ClassMap.{kept}
 use Rattle.grgrid.specs.Own.{ownPoints}
 use Rattle.grgrid.proofs.Lists.{_∈_}
@@ -31,7 +32,7 @@ use Rattle.transform_rotations.specs.TransformRotations as transforming
 use Rattle.transform_rotations.specs.declared.Transformed.the-variants as transform
 use Rattle.transform_rotations.proofs.ExactCall.{sides-positive}
 use Rattle.transform_rotations.proofs.ExactTransform.{call-acts}
-use Rattle.triplet_grid.specs.IrTriplets.{after, tripletTests, mapTriplets, classesAt, irTripletsAnswer, mapTripletsWritten}
+use Rattle.triplet_grid.specs.IrTriplets.{tripletTests, mapTriplets, classesAt, irTripletsAnswer, mapTripletsWritten}
 use Rattle.triplet_grid.specs.IrTriplets as classing
 use Rattle.triplet_grid.specs.declared.IrTriplets.the-variants as class
 use Rattle.triplet_grid.proofs.Joining.{Meets, joined-meets}
@@ -53,10 +54,6 @@ not-written r e = let z : _≡_ {A = ℕ} 0 1 = cc in omega arith
 not-classed : {k : ℤ} (r : Refusal) → ¬ (class.Refused r ≡ class.Classes k)
 not-classed r e = let z : _≡_ {A = ℕ} 0 1 = cc in omega arith
 
-after-first : (s t : Tested) → after s t ≡ Accepted → s ≡ Accepted
-after-first Accepted t e = refl
-after-first (Refused r) t e = e
-
 module _ (c : Calls) where
   transform-passed : transformTests (c .rotations) (items (c .d)) (rows (c .q)) (c .room) ≡ Accepted
   unfolding transformAnswer
@@ -73,7 +70,7 @@ module _ (c : Calls) where
 
   class-input : outcome.InputAccepted (pos (c .q0)) (items (c .d)) (c .transformed) (c .class-room) (c .point-room)
   unfolding tripletTests
-  class-input = outcome.input-accepted (pos (c .q0)) (items (c .d)) (c .transformed) (c .class-room) (c .point-room) (after-first _ _ class-tests)
+  class-input = outcome.input-accepted (pos (c .q0)) (items (c .d)) (c .transformed) (c .class-room) (c .point-room) (both-accepted _ _ class-tests .0)
 
   pub q0-inside : c .q0 < points c
   q0-inside = class-input .point

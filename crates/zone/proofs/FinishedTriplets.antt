@@ -9,7 +9,7 @@ use lib.ListN.{length, getD, length-map}
 use Rattle.integer.specs.Same.{same}
 use Rattle.integer.proofs.Same.{same-eq}
 use Rattle.float.specs.Value.{zeroF}
-use Rattle.common.specs.Matrix.{Axis, X, Y, Z, Vec, side, vector, mapVec}
+use Rattle.common.specs.Matrix.{Axis, X, Y, Z, Vec, side, vector, mapVec, origin}
 use Rattle.common.specs.Array.{items, rows, vectorOf}
 use Rattle.common.specs.FloatMatrix.{floatMatrix}
 use Rattle.common.proofs.Matrix.{axes-of, same-vector, side-vector}
@@ -17,7 +17,7 @@ use Rattle.grgrid.specs.Grid.{index}
 use Rattle.grgrid.proofs.Accepted.{grid-fits}
 use Rattle.grgrid.proofs.Lists.{_∈_}
 use Rattle.bzgrid.specs.declared.GridType.{GridType}
-use Rattle.bzsearch.specs.Search.{images, origin}
+use Rattle.bzsearch.specs.Search.{images}
 use Rattle.bzgrid.specs.BzGridAddresses.{gridType, grgWritten}
 use Rattle.bztable.specs.Reading.{Read, got, tripleAt, addressAt}
 use Rattle.bztable.specs.Access.{imagePlaces}

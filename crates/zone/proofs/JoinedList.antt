@@ -4,36 +4,32 @@ use mathlib.Core.Path.{_≡_, refl, sym, _∙_, ap, ap₂, subst}
 use mathlib.Core.Logic.{_↔_, _⊎_, inl, inr, ⊎-elim}
 use mathlib.Core.Bool.{Bool, true, false, not, _&&_}
 use mathlib.Core.List.{List, [], _∷_, _++_, map, map-append, List·Memᴰ·head as here, List·Memᴰ·tail as there, List·Memᴰ·append-cases as append-cases, Memᴰ·append-left as append-left, Memᴰ·append-right as append-right, Memᴰ·of-map as of-map}
-use Prim.Native.Nat.{ℕ, _*_, _/_, _≤_}
+use Prim.Native.Nat.{ℕ, _/_, _≤_}
 use lib.Dec.{T}
-use lib.IntN.{ℤ, negsuc, negℤ, natAbs}
-use lib.ListN.{length, take, replicate}
-use lib.Seq.{take-append-seam}
+use lib.IntN.{ℤ, negℤ, natAbs}
+use lib.ListN.{length}
 use Rattle.integer.proofs.Size.{abs-neg}
 use Rattle.integer.proofs.Test.{same-test}
-use Rattle.common.specs.Matrix.{Axis, Mat, entry, _·_, transpose, diagonal, identity, negate, inversion, inverse}
-use Rattle.common.specs.Array.{vectorOf, matrixOf, matrices, flat}
+use Rattle.common.specs.Matrix.{Mat, entry, _·_, transpose, diagonal, identity, negate, inversion, inverse}
+use Rattle.common.specs.Array.{vectorOf, matrixOf, matrices}
 use Rattle.common.specs.Limits.{matrixWithin}
-use Rattle.common.specs.Tested.{outputOf}
 use Rattle.common.specs.declared.Tested.the-variants.{Accepted}
 use Rattle.common.proofs.Matrix.{identity-product, product-identity, negate-product, product-negate, entry-matrix}
 use Rattle.common.proofs.Bounds.{matrix-sizes, sizes-within}
-use Rattle.common.proofs.Reading.{length-flat, matrices-flat, read-small}
+use Rattle.common.proofs.Reading.{matrices-flat, read-small}
 use Rattle.common.proofs.Unimodular.{Unimodular, inverse-left}
 use Rattle.grgrid.proofs.Lists.{_∈_, Distinct}
 use Rattle.grgrid.proofs.MatrixGroup.{MatrixGroup, transposes, transformed}
 use Rattle.recip_rotations.specs.Unique.{sameMatrix, among}
-use Rattle.recip_rotations.specs.Flat.{laid}
-use Rattle.recip_rotations.specs.PointGroup.{turned, joins, joined, groupTests, pointGroup, answerFor, pointGroupAnswer, pointGroupWritten}
-use Rattle.recip_rotations.specs.declared.PointGroup.the-variants.{Rotations}
+use Rattle.recip_rotations.specs.PointGroup.{turned, joins, joined, pointGroup}
 use Rattle.recip_rotations.proofs.Same.{matrix-eq, matrix-refl}
-use Rattle.recip_rotations.proofs.Answered.{was-accepted}
 use Rattle.recip_rotations.proofs.Told.{unique-distinct, told-group}
 use Rattle.transform_rotations.specs.TransformRotations.{transformTests, transformWritten}
 use Rattle.transform_rotations.proofs.Accepted.{InputAccepted, input-accepted}
 use Rattle.transform_rotations.proofs.ExactCall.{grid-is, sides-positive, tests-input}
 use Rattle.transform_rotations.proofs.ExactTransform.{Fractions, transformOf, whole-accepted, fractions-distinct, call-fractions, call-matrices}
 use Rattle.triplet_grid.proofs.Stabilizer.{Operation}
+use Rattle.zone_steps.proofs.ToldPart.{told-part}
 use Rattle.zone.specs.FinishedList.{Given, as-it-stands, as-returned}
 
 -- ---- the list alone
@@ -90,26 +86,6 @@ module _ (f : Mat ℤ → Mat ℤ) where
 turned-joined : (t time : Bool) (l : List (Mat ℤ)) → MatrixGroup (joined time l) → MatrixGroup (joined time (turned t l))
 turned-joined true time l m = subst MatrixGroup (sym (joined-map transpose time l (λ A k. refl) (λ A k. (ap transpose, ap transpose)))) (transposes m)
 turned-joined false time l m = m
-
-module _ (list : List ℤ) (time transposed : Bool) (n count : ℕ) (e : pointGroupAnswer list time transposed n ≡ Rotations count) where
-  abbrev pub told : List (Mat ℤ)
-  told = pointGroup (matrices list) time transposed
-
-  pub told-count : (groupTests list time transposed n ≡ Accepted) × (count ≡ length told)
-  unfolding pointGroupAnswer
-  told-count =
-      let a = was-accepted (groupTests list time transposed n) (length told) count (sym e) in
-      (a, same count (length told) (sym e ∙ ap (λ t. answerFor t (length told)) a))
-    where
-      same : (i j : ℕ) → Rotations i ≡ Rotations j → i ≡ j
-      same i j e = cc
-
-  -- the told part is the list of the group
-  pub told-part : take (count * 9) (pointGroupWritten list time transposed n) ≡ flat told
-  unfolding pointGroupWritten
-  told-part =
-      let blank = replicate n (negsuc 0) in
-      ap₂ take (ap (λ k. k * 9) (told-count .1) ∙ sym (length-flat told)) (ap (λ t. outputOf t n (laid told blank)) (told-count .0)) ∙ take-append-seam (flat told) _
 
 pub given-joined : {time : Bool} {list rotations : List ℤ} → Given time list rotations → MatrixGroup (joined time (matrices list)) → MatrixGroup (joined time (matrices rotations))
 given-joined as-it-stands m = m

@@ -6,8 +6,5 @@ pub mod JoinedList
 pub mod FinishedClasses
 pub mod FinishedList
 pub mod Example
-pub mod ChainSteps
-pub mod ChainLists
-pub mod ChainGrid
 pub mod ChainWhole
 pub mod ChainFinished

@@ -6,7 +6,8 @@ use Prim.Native.Nat.{ℕ, _*_}
 use lib.IntN.{ℤ, pos}
 use Rattle.bzgrid.specs.BzGridAddresses.{padded}
 use Rattle.zone.specs.FinishedList.{Calls, Demand3}
-use Rattle.zone.specs.Chain.{Job, Lists}
+use Rattle.zone_steps.specs.Steps.{Lists}
+use Rattle.zone.specs.Chain.{Job}
 
 pub record FinishedChain (j : Job) (addresses map : List ℤ) (l : Lists) (n : ℕ) : Type 0 where
   pub calls : Calls

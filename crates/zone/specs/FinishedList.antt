@@ -9,7 +9,7 @@ use lib.Dec.{T}
 use lib.IntN.{ℤ, pos}
 use lib.ListN.{length, getD, take}
 use lib.Ieee.{Float, binary64, sub, le}
-use Rattle.common.specs.Matrix.{Axis, Vec, Mat, side, mapVec}
+use Rattle.common.specs.Matrix.{Axis, Vec, Mat, side, mapVec, origin}
 use Rattle.common.specs.Array.{items, rows, sidesOf, matrixOf, matrices}
 use Rattle.common.specs.FloatMatrix.{floatMatrix}
 use Rattle.grgrid.specs.Grid.{size}
@@ -28,7 +28,7 @@ use Rattle.bzgrid.specs.declared.GridType.the-variants.{Sparse, Dense, Unknown}
 use Rattle.bzgrid.specs.declared.Lengths.{Lengths}
 use Rattle.bzgrid.specs.declared.BzGridAddresses.the-variants as image
 use Rattle.bzsearch.specs.Lattice.{bzTolerance}
-use Rattle.bzsearch.specs.Search.{Search, images, origin}
+use Rattle.bzsearch.specs.Search.{Search, images}
 use Rattle.bzgrid.specs.BzGridAddresses.{gridType, searchOf, bzAnswer, addressesWritten, mapWritten}
 use Rattle.bztable.specs.Access.{imagePlaces}
 use Rattle.bztable.specs.Reading.{tripleAt}

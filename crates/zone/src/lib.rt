@@ -1,24 +1,17 @@
 // The chain of calls, from a matrix and its rotations to the finished list.
-mod basis;
-mod grid;
-mod tables;
-
-pub use basis::Turned;
 use common::Refusal;
 use common::Tested;
-pub use grid::wipe_lists;
-pub use tables::wipe_tables;
 ghost use mathlib.Core.Path.{_≡_};
 ghost use mathlib.Core.Bool.{_&&_};
 ghost use Prim.Native.Nat.{_*_, _<_};
 ghost use lib.Dec.{eqb};
-ghost use lib.IntN.{negsuc};
-ghost use lib.ListN.{length, replicate};
+ghost use lib.ListN.{length};
 ghost use Rattle.common.specs.declared.Tested.the-variants.{Accepted};
 ghost use Rattle.grgrid.specs.Own.{ownPlaces};
 ghost use Rattle.zone.specs.Chain.{gridOf, chainAnswer, chainAddresses, chainMap, chainGrg, chainLists};
 ghost use Rattle.zone.specs.ChainFinished.{FinishedChain};
-ghost use Rattle.zone.specs.ChainView.{job, rooms, lists, Listed, finishedWith, refusedWith};
+ghost use Rattle.zone_steps.specs.StepsView.{rooms, lists, Listed};
+ghost use Rattle.zone.specs.ChainView.{job, finishedWith, refusedWith};
 
 // The diagonal and the number of classes; -1 in every place after a refusal.
 pub struct Finished {
@@ -49,15 +42,6 @@ fn count_classes(d: [i64; 3], classes: &[i64]) -> Finished
     }
 }
 
-fn is_thrice(n: usize, k: usize) -> bool
-    ensures { λ r. ⌜ r ≡ eqb n (k * 3) ⌝ }
-{
-    if n % 3 != 0 {
-        return false;
-    }
-    n / 3 == k
-}
-
 // Room for as many points in each.
 fn rooms_agree(classes: usize, points: usize, triplets: usize, left: usize, lengths: usize) -> bool
     ensures { λ r. ⌜ r ≡ eqb points classes && (eqb triplets (classes * 3) && (eqb left classes && eqb lengths classes)) ⌝ }
@@ -66,7 +50,7 @@ fn rooms_agree(classes: usize, points: usize, triplets: usize, left: usize, leng
         return false;
     }
     common::all_three(
-        is_thrice(triplets, classes),
+        common::is_thrice(triplets, classes),
         left == classes,
         lengths == classes,
     )
@@ -110,7 +94,7 @@ fn run_chain(
     if let Tested::Refused(r) = t {
         return refused(r);
     }
-    match tables::list_in_basis(
+    match zone_steps::list_in_basis(
         d,
         integer_matrix::nested(f),
         rotations,
@@ -181,8 +165,8 @@ pub fn finished_list(
     );
     let t = f.tested;
     if let Tested::Refused(_) = t {
-        tables::wipe_tables(addresses, map, grg);
-        grid::wipe_lists(classes, points, triplets, left, lengths);
+        zone_steps::wipe_tables(addresses, map, grg);
+        zone_steps::wipe_lists(classes, points, triplets, left, lengths);
         return f;
     }
     f

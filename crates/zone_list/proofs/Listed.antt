@@ -1,37 +1,30 @@
 -- What `list` answers and leaves, from what its steps do.
 use mathlib.Core.Path.{_≡_, refl, sym, _∙_, ap, ap₂, subst}
-use mathlib.Core.Bool.{Bool, true, false, _&&_}
+use mathlib.Core.Bool.{Bool, true, false}
 use mathlib.Core.List.{List, [], _∷_, _++_, map}
 use Prim.Native.Nat.{ℕ, _*_, _-_, _≤_, _<_}
 use native.Mathlib.Omega.{arith}
-use lib.Dec.{T, leb, eqb, leb→le}
+use lib.Dec.{T, leb, leb→le}
 use lib.IntN.{ℤ, pos, negsuc, natAbs}
 use lib.Ieee.{Float}
 use lib.Signed.{nonNeg, mag}
 use lib.ListN.{length, take, replicate, length-replicate}
-use borrow.Author.Tests.{eqb-true}
 use Rattle.integer.specs.Checked.{pick}
 use Rattle.integer.proofs.Fits.{held, held-is}
-use Rattle.integer.proofs.Test.{holds, and-l, and-r, is-true}
+use Rattle.integer.proofs.Test.{holds}
 use Rattle.common.specs.Array.{rows, matrixAt, sidesOf, matrices}
-use Rattle.common.specs.Limits.{diagonalFits}
-use Rattle.common.specs.Tested.{require, outputOf}
+use Rattle.common.specs.Tested.{require, outputOf, after}
 use Rattle.common.specs.declared.Refusal.{Refusal}
 use Rattle.common.specs.declared.Refusal.the-variants.{WrongLength}
 use Rattle.common.specs.declared.Tested.{Tested}
 use Rattle.common.specs.declared.Tested.the-variants.{Accepted, Refused}
-use Rattle.common.proofs.Tests.{passed}
+use Rattle.common.proofs.Tests.{passed, not-accepted, both-accepted}
 use Rattle.grgrid.specs.Grid.{size}
 use Rattle.grgrid.specs.Own.{ownPlaces}
 use Rattle.grgrid.proofs.Accepted.{few-points}
 use Rattle.grgrid.proofs.Numbers.{own-few}
-use Rattle.recip_rotations.specs.PointGroup.{groupTests}
-use Rattle.transform_rotations.specs.TransformRotations.{inputTests, transformTests}
-use Rattle.transform_rotations.specs.TransformRotations as transform
-use Rattle.transform_rotations.proofs.Accepted.{input-accepted}
 use Rattle.bzsearch.specs.SearchView.{floatNine}
-use Rattle.bztable.proofs.NeighbourCall.{not-accepted}
-use Rattle.triplet_grid.specs.IrTriplets.{after, tripletTests, classesAt, mapTriplets, mapTripletsWritten}
+use Rattle.triplet_grid.specs.IrTriplets.{tripletTests, classesAt, mapTriplets, mapTripletsWritten}
 use Rattle.triplet_grid.proofs.Swapping.{length-triplets}
 use Rattle.job.specs.declared.job.Job as read
 use Rattle.job.specs.declared.listing.Printed.{Printed}
@@ -45,14 +38,16 @@ use Rattle.zone.specs.declared.Finished.{Finished}
 use Rattle.zone_list.specs.declared.Listing.{Listing}
 use Rattle.zone_list.specs.declared.Listing.the-variants as answer
 use Rattle.zone.specs.Chain as chain
-use Rattle.zone.specs.Chain.{Job, Rooms, Grid, Lists, roomsAgree, diagonal, sides, change, group, rotationTests, pointsOf, classMap, count, imageTests, imageAddresses, imageMap, gridTests, gridOf, listsFor, wiped, chainTests, chainAnswer, chainAddresses, chainMap, chainGrg, chainLists}
-use Rattle.zone.specs.ChainView.{job, lists, refusedWith}
+use Rattle.zone_steps.specs.Steps.{Rooms, Grid, Lists, rotationTests, pointsOf, classMap, count, gridTests}
+use Rattle.zone.specs.Chain.{Job, roomsAgree, diagonal, sides, change, gridOf, listsFor, wiped, chainTests, chainAnswer, chainAddresses, chainMap, chainGrg, chainLists}
+use Rattle.zone.specs.ChainView.{job, refusedWith}
+use Rattle.zone_steps.proofs.ListedGrid.{rotations-fit}
+use Rattle.zone.proofs.ChainWhole.{rooms-agreed}
 use Rattle.zone_list.specs.List.{chainJob, afterReading, textOf, answerFor, textFor, printTests, printAnswer, printText, finished, text, listTests, listAnswer, listText, listAddresses, listMap, listGrg, listLists, Whole, Ran}
 
--- both of two tests
-both : (s t : Tested) → after s t ≡ Accepted → (s ≡ Accepted) × (t ≡ Accepted)
-both Accepted t e = (refl, e)
-both (Refused r) t e = absurd (not-accepted e)
+-- the end of a part that begins at 0
+whole : (k : ℕ) → k - 0 ≡ k
+whole k = omega arith
 
 -- ---- a job that was read
 module _ (b : List ℕ) (r : Rooms) where
@@ -76,9 +71,6 @@ module _ (b : List ℕ) (r : Rooms) where
 
     rotations-are : {l : List ℤ} → l ≡ rotationsWritten b 1728 → take (9 * j .count - 0) l ≡ rotationsOf b
     rotations-are {l} el = ap₂ take (whole (9 * j .count) ∙ ap (λ k. 9 * k) counted) el ∙ told-rotations b fits
-      where
-        whole : (k : ℕ) → k - 0 ≡ k
-        whole k = omega arith
 
     -- as it is handed to the chain, by numbers that stand for the type and q0
     module _ {a : List (List ℤ)} (ea : a ≡ rows (matrixAt (j .a) 0)) {l : List ℤ} (er : l ≡ rotationsWritten b 1728) {lattice : List (List Float)} (el : lattice ≡ rows (floatNine (j .lattice))) {u p : ℤ} (eu : u ≡ j .«grid_type») (ep : p ≡ j .q0) where
@@ -136,9 +128,6 @@ module _ (f : Finished) (classes triplets : List ℤ) (n : ℕ) where
     same-text : written ≡ textOf f classes triplets
     unfolding textOf
     same-text = λ i. listing (f .d) (take ((whole m ∙ em) i) classes) (eu i) (take ((whole (natAbs u * 3) ∙ ap (λ u. natAbs u * 3) eu) i) triplets)
-      where
-        whole : (k : ℕ) → k - 0 ≡ k
-        whole k = omega arith
 
     pub print-accepted : {p : Printed} {l : List ℕ} → p ≡ printedAnswer written n → l ≡ printed written n → (listingOf p ≡ printAnswer f (textOf f classes triplets) n) × (l ≡ printText f (textOf f classes triplets) n)
     unfolding printAnswer printText printTests printedAnswer printed
@@ -176,16 +165,6 @@ module _ (f : Finished) (s t : List ℕ) (n : ℕ) (h : f .tested ≡ Accepted �
       go (Refused r) h = refl
 
 -- ---- an accepted chain: the grid is within the limits, and its points and triplets are in the outputs
-rotations-fit : (list : List ℤ) (time : Bool) (d : List ℤ) (q : List (List ℤ)) → rotationTests list time d q ≡ Accepted → T (diagonalFits d)
-unfolding rotationTests transformTests
-rotations-fit list time d q e =
-    let l = group list time in
-    input-accepted l d q (length l) (first (inputTests l d q (length l)) _ (both (groupTests list time true 432) (transformTests l d q (length l)) e .1)) .grid
-  where
-    first : (s t : Tested) → transform.after s t ≡ Accepted → s ≡ Accepted
-    first Accepted t e = refl
-    first (Refused r) t e = absurd (not-accepted e)
-
 length-classes : (g : Grid) → length (classMap g) ≡ pointsOf g
 unfolding classMap mapTripletsWritten
 length-classes g = go (tripletTests (g .q0) (g .d) (g .rotations) (g .timeReversal) (pointsOf g) (pointsOf g))
@@ -200,25 +179,18 @@ length-classes g = go (tripletTests (g .q0) (g .d) (g .rotations) (g .timeRevers
 few-classes : (g : Grid) → count g ≤ pointsOf g
 few-classes g = subst (λ k. ownPlaces (classMap g) (length (classMap g)) ≤ k) (length-classes g) (own-few (classMap g) (length (classMap g)))
 
-room-of-triplets : (r : Rooms) → roomsAgree r ≡ true → r .triplets ≡ r .classes * 3
-room-of-triplets r e =
-    let p = eqb (r .points) (r .classes) in
-    let t = eqb (r .triplets) (r .classes * 3) in
-    let q = eqb (r .left) (r .classes) && eqb (r .lengths) (r .classes) in
-    eqb-true (r .triplets) (r .classes * 3) (is-true t (and-l t q (and-r p (t && q) (holds e))))
-
 module _ (j : Job) (r : Rooms) where
   whole-chain : chainTests j r ≡ Accepted → Whole (chainAnswer j r) (r .classes) (r .triplets)
   unfolding chainAnswer chainTests gridTests gridOf
   whole-chain e =
       let a = passed (roomsAgree r) WrongLength _ e in
-      let b = both (diagonal (j .matrix) .tested) _ (a .1) in
-      let c = both (rotationTests (j .rotations) (j .timeReversal) (sides (j .matrix)) (change (j .matrix))) _ (b .1) in
+      let b = both-accepted (diagonal (j .matrix) .tested) _ (a .1) in
+      let c = both-accepted (rotationTests (j .rotations) (j .timeReversal) (sides (j .matrix)) (change (j .matrix))) _ (b .1) in
       let g = gridOf j in
       let d = passed (leb (pointsOf g) (r .classes)) WrongLength _ (c .1) in
       let n : pointsOf g ≤ r .classes = leb→le (pointsOf g) (r .classes) (holds (d .0)) in
       let k = few-classes g in
-      let m = room-of-triplets r (a .0) in
+      let m = rooms-agreed r (a .0) .triplets-agree in
       subst (λ t. Whole (chain.answerFor t (diagonal (j .matrix)) (count g)) (r .classes) (r .triplets)) (sym e)
       (record { grid = rotations-fit (j .rotations) (j .timeReversal) (sides (j .matrix)) (change (j .matrix)) (c .0); classes-in = n; k = count g; counted = refl; few = k; triplets-in = omega arith })
 
@@ -281,7 +253,7 @@ module _ (b : List ℕ) (r : Rooms) {f : Finished} (ef : f ≡ finished b r) whe
 
     from-tests : listTests b r n ≡ Accepted → finished b r .tested ≡ Accepted
     unfolding listTests printTests
-    from-tests e = both (finished b r .tested) _ e .0
+    from-tests e = both-accepted (finished b r .tested) _ e .0
 
     pub kept : {k : ℕ} → answer.Bytes k ≡ printAnswer f mine n → (x ≡ listAddresses b r n) × ((y ≡ listMap b r n) × ((z ≡ listGrg b r n) × (l ≡ listLists b r n)))
     unfolding listAddresses listMap listGrg listLists

@@ -7,20 +7,20 @@ use lib.IntN.{ℤ, pos, natAbs}
 use lib.ListN.{length, take, replicate}
 use Rattle.common.specs.Array.{rows, matrixAt, sidesOf}
 use Rattle.common.specs.Limits.{diagonalFits}
-use Rattle.common.specs.Tested.{require, outputOf}
+use Rattle.common.specs.Tested.{require, outputOf, after}
 use Rattle.common.specs.declared.Tested.{Tested}
 use Rattle.common.specs.declared.Tested.the-variants.{Accepted, Refused}
 use Rattle.common.specs.declared.Refusal.the-variants.{WrongLength}
 use Rattle.grgrid.specs.Grid.{size}
 use Rattle.bzsearch.specs.SearchView.{floatNine}
-use Rattle.triplet_grid.specs.IrTriplets.{after}
 use Rattle.job.specs.Job.{jobOf, rotationsOf}
 use Rattle.job.specs.Listing.{listing}
 use Rattle.job.specs.Writing.{printed}
 use Rattle.zone.specs.declared.Finished.{Finished}
 use Rattle.zone_list.specs.declared.Listing.{Listing}
 use Rattle.zone_list.specs.declared.Listing.the-variants as answer
-use Rattle.zone.specs.Chain.{Job, Rooms, Lists, chainAnswer, chainAddresses, chainMap, chainGrg, chainLists, listsFor}
+use Rattle.zone_steps.specs.Steps.{Rooms, Lists}
+use Rattle.zone.specs.Chain.{Job, chainAnswer, chainAddresses, chainMap, chainGrg, chainLists, listsFor}
 use Rattle.zone.specs.ChainView.{job, refusedWith}
 
 -- the chain's job in the bytes of a file, without shift

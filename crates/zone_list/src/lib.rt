@@ -4,13 +4,11 @@ use common::Tested;
 use job::Printed;
 use zone::Finished;
 ghost use mathlib.Core.Path.{_≡_};
-ghost use lib.IntN.{pos};
-ghost use lib.Ieee.{nan};
 ghost use lib.ListN.{length};
 ghost use Rattle.common.specs.Array.{rows};
 ghost use Rattle.common.specs.declared.Tested.the-variants.{Accepted};
 ghost use Rattle.bzsearch.specs.SearchView.{floatNine};
-ghost use Rattle.zone.specs.ChainView.{rooms, lists};
+ghost use Rattle.zone_steps.specs.StepsView.{rooms, lists};
 ghost use Rattle.zone_list.specs.List.{chainJob, finished, textOf, printAnswer, printText, listAnswer, listText, listAddresses, listMap, listGrg, listLists, Whole, Ran};
 
 // How many bytes the listing has, or why there is none.
@@ -123,8 +121,8 @@ pub fn list(
     );
     let a = print_finished(f, classes, triplets, text);
     if let Listing::Refused(r) = a {
-        zone::wipe_tables(addresses, map, grg);
-        zone::wipe_lists(classes, points, triplets, left, lengths);
+        zone_steps::wipe_tables(addresses, map, grg);
+        zone_steps::wipe_lists(classes, points, triplets, left, lengths);
         return Listing::Refused(r);
     }
     a

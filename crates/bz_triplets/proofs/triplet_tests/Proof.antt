@@ -16,10 +16,11 @@ use Rattle.grgrid.specs.Grid.{size}
 use Rattle.grgrid.specs.Sides.{sides, GridFits}
 use Rattle.grgrid.proofs.Accepted.{grid-fits, few-points}
 use Rattle.bztable.specs.Reading.{got, addressOf}
+use Rattle.bztable.proofs.Inside.{inside-true, inside-false}
 use Rattle.bz_triplets.specs.BzTriplets.{walkOf}
 use Rattle.bz_triplets.specs.TripletsView.{walkBy}
 use Rattle.bz_triplets.proofs.Measured.{measured}
-use Rattle.bz_triplets.proofs.CallOutcome.{asked-for, whole-below, point-below, inside-true, inside-false, Input, InputAccepted, inputs, input-accepted, Meets, tests-refused, tests-no-address, tests-outside, tests-written}
+use Rattle.bz_triplets.proofs.CallOutcome.{asked-for, whole-below, point-below, Input, InputAccepted, inputs, input-accepted, Meets, tests-refused, tests-no-address, tests-outside, tests-written}
 use borrow.Author.Needs.{needs}
 use Rattle.bz_triplets.proofs.triplet_tests.Statement.{statement}
 use Rattle.bz_triplets.proofs.triplet_tests.Tie as tie

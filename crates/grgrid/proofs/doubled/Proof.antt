@@ -2,15 +2,12 @@ use Rattle.integer.proofs.Plain.{plain, p-atom, fits-plain, plain-is}
 use Rattle.grgrid.proofs.doubled.Statement.{statement}
 use Rattle.grgrid.proofs.doubled.Tie as tie
 
--- src/lib.rt:70:5
 mul-result : tie.Need-mul-result
 mul-result c = fits-plain (search (plain, p-atom) depth 12) tt
 
--- src/lib.rt:70:5
 add-result : tie.Need-add-result
 add-result c = fits-plain (search (plain, p-atom) depth 12) tt
 
--- src/lib.rt:66:1
 returns : tie.Need-returns
 returns c = plain-is (search (plain, p-atom) depth 12) tt
 

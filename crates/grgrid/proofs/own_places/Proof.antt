@@ -1,30 +1,15 @@
-use mathlib.Core.Path.{_≡_, refl, sym, _∙_, ap}
+use mathlib.Core.Path.{_≡_, _∙_, ap}
 use mathlib.Core.Logic.{⊎-elim}
-use mathlib.Core.Bool.{true, false}
-use Prim.Native.Nat.{ℕ, _+_, _-_, _<_, _≤_}
+use Prim.Native.Nat.{_+_, _-_, _≤_}
 use native.Mathlib.Nat.{le-antisymm}
 use native.Mathlib.Omega.{arith}
-use lib.IntN.{ℤ, pos, negsuc}
+use lib.IntN.{pos}
 use lib.ListN.{length, getD}
-use lib.Signed.{mag}
-use mir.Syntax.{w64}
-use mir.Val.{toZ, ofZ}
-use mir.Facts.{toZ-pos}
 use borrow.Author.Needs.{needs}
-use borrow.Author.Tests.{eq-eqb, ne-eqb}
-use Rattle.integer.proofs.Fits.{held-is}
-use Rattle.grgrid.specs.Own.{isPlace, ownPlaces}
-use Rattle.grgrid.proofs.Numbers.{own-few, own-more, own-same}
+use Rattle.grgrid.specs.Own.{ownPlaces}
+use Rattle.grgrid.proofs.Numbers.{own-few, own-more, own-same, entry-is, entry-place, entry-other}
 use Rattle.grgrid.proofs.own_places.Statement.{statement}
 use Rattle.grgrid.proofs.own_places.Tie as tie
-
--- the test, on the bits of an entry
-place-yes : (z : ℤ) (i : ℕ) → mag z < 0x8000000000000000 → i < 0x8000000000000000 → ofZ w64 z ≡ i → isPlace z i ≡ true
-place-yes z i f h e = ap (λ n. isPlace n i) (sym (held-is z f) ∙ ap (toZ w64) e ∙ toZ-pos w64 h) ∙ eq-eqb i i refl
-
-place-no : (z : ℤ) (i : ℕ) → (ofZ w64 z ≡ i → ⊥) → isPlace z i ≡ false
-place-no (pos m) i h = ne-eqb m i h
-place-no (negsuc m) i h = refl
 
 abbrev Inv-loop : tie.InvT-loop
 Inv-loop list r₀ i₀ r i = (i ≤ length list) × (r ≡ ownPlaces list i)
@@ -58,8 +43,8 @@ loop-again c =
     let l = c .before .before .before .loop in
     let a = c .before .before .before .before .args .list .now in (
       search needs,
-      ⊎-elim (λ w. w .1 ∙ ap (λ n. n + 1) (l .inv .1) ∙ own-more a (l .i) (place-yes (getD a (l .i) (pos 0)) (l .i) (c .before .if12 .given) (omega arith) (w .0 .taken)))
-          (λ w. w .1 ∙ l .inv .1 ∙ own-same a (l .i) (place-no (getD a (l .i) (pos 0)) (l .i) (w .0 .left)))
+      ⊎-elim (λ w. w .1 ∙ ap (λ n. n + 1) (l .inv .1) ∙ own-more a (l .i) (let z = getD a (l .i) (pos 0) in entry-place z (l .i) (entry-is z (l .i) (c .before .if12 .given) (omega arith) (w .0 .taken))))
+          (λ w. w .1 ∙ l .inv .1 ∙ own-same a (l .i) (entry-other (getD a (l .i) (pos 0)) (l .i) (w .0 .left)))
           (c .if1 .came),
     )
 

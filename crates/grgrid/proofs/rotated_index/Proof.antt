@@ -4,7 +4,6 @@ use Rattle.common.specs.Array.{vectorOf}
 use Rattle.common.proofs.Bounds.{apply-fits, apply-sized}
 use Rattle.grgrid.specs.Grid.{index, halve}
 use Rattle.grgrid.specs.Sides.{sides}
-use borrow.Author.Needs.{needs}
 use Rattle.grgrid.proofs.rotated_index.Statement.{statement}
 use Rattle.grgrid.proofs.rotated_index.Tie as tie
 

@@ -1,4 +1,3 @@
-use mathlib.Core.Path.{_∙_, ap₂}
 use mir.Facts.{toZ-ofZ}
 use borrow.Author.Needs.{needs}
 use Rattle.integer.specs.Division.{divEuclid}

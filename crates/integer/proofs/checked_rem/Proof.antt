@@ -1,4 +1,4 @@
-use mathlib.Core.Path.{refl, _∙_, ap₂}
+use mathlib.Core.Path.{refl}
 use lib.Signed.{quotZ, remZ}
 use mir.Facts.{toZ-ofZ}
 use borrow.Author.Needs.{needs}

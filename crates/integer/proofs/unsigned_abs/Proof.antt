@@ -1,13 +1,12 @@
 use mathlib.Core.Path.{_≡_, _∙_, ap}
 use mathlib.Core.Bool.{true}
-use Prim.Native.Nat.{ℕ, _+_}
+use Prim.Native.Nat.{_+_}
 use native.Mathlib.Omega.{arith}
 use lib.IntN.{ℤ, pos, natAbs, _+ℤ_, _-ℤ_}
 use lib.Signed.{ltZ, mag, natAbs-le}
 use mir.Syntax.{w64}
 use mir.Val.{SFits}
 use mir.Facts.{toZ-ofZ}
-use borrow.Author.Needs.{needs}
 use Rattle.integer.proofs.Order.{nonneg-of}
 use Rattle.integer.proofs.Fits.{held, below-zero, from-zero, next-fits, minus-next, mag-next}
 use Rattle.integer.proofs.unsigned_abs.Statement.{statement}

@@ -4,7 +4,7 @@ use lib.IntN.{_-ℤ_, _*ℤ_}
 use mir.Facts.{toZ-ofZ}
 use Rattle.integer.specs.Checked.{fits64}
 use Rattle.integer.proofs.Test.{holds}
-use Rattle.integer.proofs.Fits.{held, fits-of, held-of}
+use Rattle.integer.proofs.Fits.{fits-of, held-of}
 use Rattle.common.specs.Matrix.{cross, integers}
 use Rattle.common.proofs.Tests.{yes, ends, goes-on}
 use borrow.Author.Needs.{needs}

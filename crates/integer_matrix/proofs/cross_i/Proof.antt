@@ -1,9 +1,7 @@
-use mathlib.Core.Path.{_≡_, ap₂}
-use mathlib.Core.Bool.{_&&_}
-use lib.Dec.{T}
-use lib.IntN.{ℤ, _-ℤ_, _*ℤ_}
+use mathlib.Core.Path.{ap₂}
+use lib.IntN.{_-ℤ_, _*ℤ_}
 use mir.Facts.{toZ-ofZ}
-use Rattle.integer.proofs.Fits.{held, fits-of, held-of}
+use Rattle.integer.proofs.Fits.{fits-of, held-of}
 use Rattle.common.proofs.Whole.{cross-fits}
 use Rattle.integer_matrix.proofs.cross_i.Statement.{statement}
 use Rattle.integer_matrix.proofs.cross_i.Tie as tie

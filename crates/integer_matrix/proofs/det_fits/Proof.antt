@@ -1,10 +1,10 @@
-use mathlib.Core.Path.{_≡_, _∙_, ap}
+use mathlib.Core.Path.{_∙_, ap}
 use lib.ListN.{getD}
 use mathlib.Core.List.{[]}
 use Rattle.integer.proofs.Test.{holds}
 use Rattle.common.specs.Matrix.{minors, integers}
 use Rattle.common.specs.Array.{along}
-use Rattle.common.specs.IntegerMatrix.{minorsFit, expandFits, detFits}
+use Rattle.common.specs.IntegerMatrix.{expandFits, detFits}
 use Rattle.common.proofs.Tests.{yes, ends, goes-on}
 use borrow.Author.Needs.{needs}
 use Rattle.integer_matrix.proofs.det_fits.Statement.{statement}

@@ -1,4 +1,4 @@
-use mathlib.Core.Path.{_≡_, _∙_, ap}
+use mathlib.Core.Path.{_∙_, ap}
 use mathlib.Core.List.{[]}
 use lib.ListN.{getD}
 use Rattle.integer.proofs.Fits.{held-of}

@@ -1,7 +1,7 @@
 use mathlib.Core.Path.{_≡_, ap₂}
 use lib.IntN.{ℤ, _+ℤ_, _-ℤ_, _*ℤ_}
 use Rattle.integer.proofs.Fits.{held, held-is, held-of, fits-of}
-use Rattle.common.specs.Matrix.{Axis, X, Y, Z}
+use Rattle.common.specs.Matrix.{X, Y, Z}
 use Rattle.common.specs.Array.{along}
 use Rattle.common.proofs.Whole.{expand-fits}
 use borrow.Author.Needs.{needs}

@@ -1,4 +1,3 @@
-use mathlib.Core.Path.{_≡_}
 use mathlib.Core.List.{[], _∷_}
 use lib.IntN.{pos}
 use lib.ListN.{getD}

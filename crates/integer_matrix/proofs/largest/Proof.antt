@@ -1,4 +1,4 @@
-use mathlib.Core.Path.{_≡_, _∙_}
+use mathlib.Core.Path.{_∙_}
 use Rattle.common.specs.IntegerMatrix.{larger, largest}
 use borrow.Author.Needs.{needs}
 use Rattle.integer_matrix.proofs.largest.Statement.{statement}

@@ -1,4 +1,4 @@
-use mathlib.Core.Path.{_≡_, _∙_, ap}
+use mathlib.Core.Path.{_∙_, ap}
 use lib.IntN.{natAbs}
 use Rattle.integer.proofs.Fits.{held-is}
 use Rattle.common.specs.Matrix.{X, Y, Z}

@@ -1,7 +1,7 @@
-use mathlib.Core.Path.{_≡_, sym, _∙_, subst}
+use mathlib.Core.Path.{sym, _∙_, subst}
 use mathlib.Core.List.{[], _∷_}
 use lib.Dec.{T}
-use Rattle.integer.proofs.Fits.{held, held-is, held-of}
+use Rattle.integer.proofs.Fits.{held-is, held-of}
 use Rattle.common.specs.Matrix.{X, Y, Z, cross, integers}
 use Rattle.common.specs.Array.{along}
 use Rattle.common.specs.IntegerMatrix.{crossFits}

@@ -1,6 +1,6 @@
-use mathlib.Core.Path.{_≡_, _∙_}
+use mathlib.Core.Path.{_∙_}
 use mathlib.Core.Bool.{_&&_}
-use Rattle.integer.proofs.Fits.{held, held-is}
+use Rattle.integer.proofs.Fits.{held-is}
 use Rattle.common.specs.Matrix.{X, Y, Z}
 use Rattle.common.specs.Array.{along}
 use Rattle.common.specs.IntegerMatrix.{crossFits}

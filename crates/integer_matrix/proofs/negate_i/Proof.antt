@@ -1,5 +1,3 @@
-use mathlib.Core.Path.{_≡_}
-use mathlib.Core.List.{[], _∷_}
 use lib.IntN.{negℤ}
 use Rattle.integer.specs.Checked.{fits64}
 use Rattle.common.specs.Matrix.{X, Y, Z, allAxes, entry}

@@ -1,4 +1,4 @@
-use mathlib.Core.Path.{_≡_, _∙_, ap₂}
+use mathlib.Core.Path.{_∙_, ap₂}
 use mathlib.Core.Bool.{_&&_}
 use lib.IntN.{_*ℤ_}
 use Rattle.integer.specs.Checked.{fits64}

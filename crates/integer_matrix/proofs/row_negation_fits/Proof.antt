@@ -1,4 +1,4 @@
-use mathlib.Core.Path.{_≡_, _∙_, ap}
+use mathlib.Core.Path.{_∙_, ap}
 use mathlib.Core.Bool.{_&&_}
 use lib.IntN.{negℤ, +ℤ-idl}
 use Rattle.integer.specs.Checked.{fits64}

@@ -1,9 +1,8 @@
-use mathlib.Core.Path.{_≡_}
 use Prim.Native.Nat.{_+_}
 use mathlib.Core.List.{[], _∷_}
 use lib.IntN.{pos}
 use lib.ListN.{getD}
-use Rattle.integer.proofs.Fits.{held, held-is}
+use Rattle.integer.proofs.Fits.{held-is}
 use borrow.Author.Needs.{needs}
 use Rattle.integer_matrix.proofs.three_from.Statement.{statement}
 use Rattle.integer_matrix.proofs.three_from.Tie as tie

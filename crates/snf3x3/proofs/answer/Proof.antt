@@ -8,7 +8,7 @@ use mir.Syntax.{w64}
 use Rattle.common.specs.Matrix.{entries}
 use Rattle.common.proofs.Nine.{nine-entries}
 use mir.Facts.{toZ-pos}
-use Rattle.integer.proofs.Fits.{held, held-is}
+use Rattle.integer.proofs.Fits.{held-is}
 use Rattle.common.specs.declared.Tested.the-variants.{Accepted}
 use Rattle.snf_steps.specs.Result.{provided}
 use Rattle.snf_steps.specs.StagesView.{threeOf}

@@ -6,7 +6,7 @@ use Rattle.snf_steps.specs.Result.{Result, ok, _then_, provided, fitting}
 use Rattle.snf_steps.specs.Stages.{Triple, Outcome, first, second}
 use Rattle.snf3x3.specs.Snf3x3.{round}
 use Rattle.snf_steps.specs.StagesView.{threeOf, tripleOf}
-use Rattle.snf_steps.proofs.Binding.{kept, same-step, two-steps}
+use Rattle.snf_steps.proofs.Binding.{kept, two-steps}
 use borrow.Author.Needs.{needs}
 use Rattle.snf3x3.proofs.round.Statement.{statement}
 use Rattle.snf3x3.proofs.round.Tie as tie

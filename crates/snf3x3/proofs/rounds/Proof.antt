@@ -4,8 +4,7 @@ use mathlib.Core.Bool.{Bool, true}
 use Prim.Native.Nat.{ℕ, suc, _+_, _≤_, _-_}
 use native.Mathlib.Omega.{arith}
 use native.Mathlib.Numerals.{add-one}
-use Rattle.snf_steps.specs.Result.{Result, _then_, provided, fitting}
-use Rattle.snf_steps.specs.Stages.{Outcome}
+use Rattle.snf_steps.specs.Result.{_then_, provided, fitting}
 use Rattle.snf_steps.specs.StagesView.{threeOf, outcomeOf}
 use Rattle.snf_steps.specs.Finalize.{finalize}
 use Rattle.snf3x3.specs.Snf3x3.{answer, round, rounds}

@@ -1,9 +1,9 @@
-use mathlib.Core.Path.{_≡_, sym, _∙_, ap}
+use mathlib.Core.Path.{sym, _∙_, ap}
 use Rattle.integer.specs.Checked.{pick}
 use Rattle.common.specs.Array.{vectorOf, matrixOf}
+use Rattle.common.specs.Matrix.{sameVector}
 use Rattle.snf3x3.specs.declared.SameGrid.the-variants.{Same, Different}
 use Rattle.snf3x3.specs.Snf3x3.{snf3x3}
-use Rattle.snf3x3.specs.SameGrid.{sameNumbers}
 use Rattle.snf3x3.proofs.Comparing.{numbers-compared, second-refused}
 use borrow.Author.Needs.{needs}
 use Rattle.snf3x3.proofs.same_as.Statement.{statement}
@@ -26,7 +26,7 @@ returns c =
     let y = c .before .before .before .before in
     let d = vectorOf (y .before .args .d) in
     let w = snf3x3 (matrixOf (y .before .args .b)) in
-    c .compared .ensures ∙ ap (λ v. pick (sameNumbers d (vectorOf (v .«d_diag»))) Same Different) (y .snf3x3 .ensures)
+    c .compared .ensures ∙ ap (λ v. pick (sameVector d (vectorOf (v .«d_diag»))) Same Different) (y .snf3x3 .ensures)
     ∙ sym (numbers-compared d w (ap (λ v. v .tested) (sym (y .snf3x3 .ensures)) ∙ c .before .enum-told .given .1))
 
 returns-2 : tie.Need-returns-2

@@ -1,4 +1,4 @@
-use mathlib.Core.Path.{_≡_, sym, _∙_, ap}
+use mathlib.Core.Path.{sym, _∙_, ap}
 use Rattle.common.specs.Array.{vectorOf, matrixOf}
 use Rattle.snf3x3.specs.Snf3x3.{snf3x3}
 use Rattle.snf3x3.specs.SameGrid.{sameAs}

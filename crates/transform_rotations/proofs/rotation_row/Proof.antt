@@ -1,20 +1,14 @@
 use mathlib.Core.List.{List}
-use Prim.Native.Nat.{_+_, _^_, _≤_}
-use native.Mathlib.Omega.{arith}
-use lib.Ieee.{binary64, inFloat}
-use lib.IntN.{ℤ, pos, negsuc, natAbs}
-use lib.Dec.{T, le→leb, lt→ltb}
+use Prim.Native.Nat.{_+_}
+use lib.IntN.{ℤ}
+use lib.Dec.{T, lit≤}
+use Rattle.float.proofs.Cast.{whole-float}
 use Rattle.common.proofs.Bounds.{entry-within, held-size}
 use Rattle.common.specs.Limits.{allWithin}
 use Rattle.common.specs.Array.{Sized}
 use borrow.Author.Needs.{needs}
 use Rattle.transform_rotations.proofs.rotation_row.Statement.{statement}
 use Rattle.transform_rotations.proofs.rotation_row.Tie as tie
-
-small : (z : ℤ) → natAbs z ≤ 100 → T (inFloat binary64 z)
-unfolding inFloat
-small (pos n) h = le→leb n (2 ^ 53) (omega arith)
-small (negsuc n) h = lt→ltb n (2 ^ 53) (omega arith)
 
 sized : (l : List ℤ) → T (allWithin 100 l) → Sized 100 l
 sized l t = record { each = entry-within 100 l t }
@@ -26,7 +20,7 @@ shared-slice-copy-out-t5 : tie.Need-shared-slice-copy-out-t5
 shared-slice-copy-out-t5 c = search needs
 
 int-to-float-t6 : tie.Need-int-to-float-t6
-int-to-float-t6 c = let s = c .before .before in small _ (held-size (sized (s .args .rotations .now) (s .pre .1)) (s .args .at) tt)
+int-to-float-t6 c = let s = c .before .before in whole-float _ (held-size (sized (s .args .rotations .now) (s .pre .1)) (s .args .at) tt) (lit≤ tt)
 
 add-t7 : tie.Need-add-t7
 add-t7 c = search needs
@@ -38,7 +32,7 @@ shared-slice-copy-out-t10 : tie.Need-shared-slice-copy-out-t10
 shared-slice-copy-out-t10 c = search needs
 
 int-to-float-t11 : tie.Need-int-to-float-t11
-int-to-float-t11 c = let s = c .before .before .before .before in small _ (held-size (sized (s .args .rotations .now) (s .pre .1)) (s .args .at + 1) tt)
+int-to-float-t11 c = let s = c .before .before .before .before in whole-float _ (held-size (sized (s .args .rotations .now) (s .pre .1)) (s .args .at + 1) tt) (lit≤ tt)
 
 add-t12 : tie.Need-add-t12
 add-t12 c = search needs
@@ -50,7 +44,7 @@ shared-slice-copy-out-t15 : tie.Need-shared-slice-copy-out-t15
 shared-slice-copy-out-t15 c = search needs
 
 int-to-float-t16 : tie.Need-int-to-float-t16
-int-to-float-t16 c = let s = c .before .before .before .before .before .before in small _ (held-size (sized (s .args .rotations .now) (s .pre .1)) (s .args .at + 2) tt)
+int-to-float-t16 c = let s = c .before .before .before .before .before .before in whole-float _ (held-size (sized (s .args .rotations .now) (s .pre .1)) (s .args .at + 2) tt) (lit≤ tt)
 
 returns : tie.Need-returns
 returns c = search needs

@@ -6,8 +6,8 @@ use Rattle.common.specs.declared.Refusal.{Refusal}
 use Rattle.common.specs.Array.{vectorOf, matrixOf, matrices}
 use Rattle.common.specs.declared.Refusal.the-variants.{SymmetryBroken}
 use Rattle.common.specs.declared.Tested.the-variants.{Accepted, Refused}
-use Rattle.common.specs.Tested.{require}
-use Rattle.transform_rotations.specs.TransformRotations.{allWhole, after, transformTests}
+use Rattle.common.specs.Tested.{require, after}
+use Rattle.transform_rotations.specs.TransformRotations.{allWhole, transformTests}
 use borrow.Author.Needs.{needs}
 use Rattle.transform_rotations.proofs.Accepted.{input-accepted}
 use Rattle.transform_rotations.proofs.transform_tests.Statement.{statement}

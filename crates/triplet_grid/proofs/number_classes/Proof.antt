@@ -6,10 +6,11 @@ use borrow.Author.Needs.{needs}
 use Rattle.grgrid.specs.Sides.{sides}
 use Rattle.grgrid.specs.ClassMap.{classMap}
 use Rattle.grgrid.proofs.Sizes.{sized-items}
-use Rattle.triplet_grid.specs.IrTriplets.{noShift, mapQ}
+use Rattle.triplet_grid.specs.IrTriplets.{mapQ}
 use Rattle.triplet_grid.proofs.Keeping.{front-room, front-part, front-matrices, front-within}
 use Rattle.triplet_grid.proofs.number_classes.Statement.{statement}
 use Rattle.triplet_grid.proofs.number_classes.Tie as tie
+use Rattle.common.specs.Matrix.{origin}
 
 keep-stabilizer-requires : tie.Need-keep-stabilizer-requires
 keep-stabilizer-requires c κs = search needs
@@ -38,7 +39,7 @@ number-points-requires c κs =
     let k = c .before .before .before .before .keep-stabilizer .ensures in
     let p = front-part (sides (s .args .g)) (s .args .q0) (s .args .group .now) (s .args .count) (k .1) (k .0) in (
       rw p (front-within (sides (s .args .g)) (s .args .q0) (s .args .group .now) (s .args .count) (s .pre .1 .1 .1 .0)),
-      (sized-items noShift zero-le zero-le zero-le, (s .pre .0, s .pre .1 .1 .1 .1)),
+      (sized-items origin zero-le zero-le zero-le, (s .pre .0, s .pre .1 .1 .1 .1)),
     )
 
 same-length : tie.Need-same-length
@@ -53,7 +54,7 @@ returns c =
     let s = c .before .before .before .before .before .before .before .before in
     let k = c .before .before .before .before .before .before .keep-stabilizer .ensures in
     c .before .number-points .ensures
-    ∙ ap (λ l. map pos (classMap (sides (s .args .g)) noShift l)) (front-matrices (sides (s .args .g)) (s .args .q0) (s .args .group .now) (s .args .count) (k .1) (k .0))
+    ∙ ap (λ l. map pos (classMap (sides (s .args .g)) origin l)) (front-matrices (sides (s .args .g)) (s .args .q0) (s .args .group .now) (s .args .count) (k .1) (k .0))
 
 pub number-classes-spec : {M : Type 1} → statement M
 number-classes-spec =

@@ -6,15 +6,17 @@ use lib.Ieee.{binary64, ofInt}
 use lib.ListN.{length, replicate}
 use mir.Facts.{toZ-ofZ}
 use Rattle.integer.proofs.Fits.{held}
-use Rattle.bztable.proofs.NeighbourCall.{not-accepted}
 use Rattle.zone.specs.declared.Finished.{Finished}
-use Rattle.zone.specs.Chain.{Job, Rooms, chainAnswer}
-use Rattle.zone.specs.ChainView.{job, rooms, lists}
+use Rattle.zone_steps.specs.Steps.{Rooms}
+use Rattle.zone.specs.Chain.{Job, chainAnswer}
+use Rattle.zone_steps.specs.StepsView.{rooms, lists}
+use Rattle.zone.specs.ChainView.{job}
 use Rattle.zone.proofs.ChainWhole.{left-refused, left-accepted, listed-as}
 use Rattle.zone.proofs.ChainFinished.{answer-finished-list}
 use borrow.Author.Needs.{needs}
 use Rattle.zone.proofs.finished_list.Statement.{statement}
 use Rattle.zone.proofs.finished_list.Tie as tie
+use Rattle.common.proofs.Tests.{not-accepted}
 
 abbrev jobBy : tie.Start → ℤ → ℤ → Job
 jobBy s type q0 = job (s .args .a) (s .args .rotations .now) (s .args .lattice) (s .args .ps) (s .args .is-time-reversal) (s .args .swappable) type q0

@@ -1,10 +1,11 @@
 use mathlib.Core.Path.{sym, _∙_, ap}
 use lib.ListN.{length}
 use mir.Facts.{toZ-ofZ}
-use Rattle.common.proofs.Tests.{yes, no}
-use Rattle.bztable.proofs.NeighbourCall.{not-accepted}
-use Rattle.zone.specs.Chain.{Job, Rooms}
-use Rattle.zone.specs.ChainView.{job, rooms}
+use Rattle.common.proofs.Tests.{yes, no, not-accepted}
+use Rattle.zone_steps.specs.Steps.{Rooms}
+use Rattle.zone.specs.Chain.{Job}
+use Rattle.zone_steps.specs.StepsView.{rooms}
+use Rattle.zone.specs.ChainView.{job}
 use Rattle.zone.proofs.ChainWhole.{rooms-agreed, rooms-refused, diagonal-refused, grid-refused, chain-listed, chain-finished}
 use borrow.Author.Needs.{needs}
 use Rattle.zone.proofs.run_chain.Statement.{statement}

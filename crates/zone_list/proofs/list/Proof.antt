@@ -2,8 +2,8 @@ use mathlib.Core.Path.{sym, _∙_, ap}
 use lib.IntN.{negsuc}
 use lib.Ieee.{binary64, ofInt}
 use lib.ListN.{length, replicate}
-use Rattle.zone.specs.Chain.{Rooms}
-use Rattle.zone.specs.ChainView.{rooms, lists}
+use Rattle.zone_steps.specs.Steps.{Rooms}
+use Rattle.zone_steps.specs.StepsView.{rooms, lists}
 use Rattle.zone_list.proofs.Listed.{whole-job, listed-answer, listed-text, kept, wiped-lists}
 use borrow.Author.Needs.{needs}
 use Rattle.zone_list.proofs.list.Statement.{statement}
@@ -12,65 +12,50 @@ use Rattle.zone_list.proofs.list.Tie as tie
 abbrev roomsAt : tie.Start → Rooms
 roomsAt s = rooms (length (s .args .addresses .now)) (length (s .args .map .now)) (length (s .args .grg .now)) (length (s .args .classes .now)) (length (s .args .points .now)) (length (s .args .triplets .now)) (length (s .args .left .now)) (length (s .args .lengths .now))
 
--- src/listing.rt:115:9
 run-job-requires : tie.Need-run-job-requires
 run-job-requires c κs = search needs
 
--- src/listing.rt:126:9
 print-finished-requires : tie.Need-print-finished-requires
 print-finished-requires c κs =
     let s = c .before .before .before .before .before .before .before .before .before .before .before .before .before .before .before .before .before .before .before .before .before .before .before .before in
     whole-job (s .args .job .now) (roomsAt s) (c .before .before .before .before .before .before .before .before .before .before .before .before .run-job .ensures .0) (c .before .before .before .before .before .before .before .before .classes .given) (c .before .before .before .before .before .before .triplets .given)
 
--- src/listing.rt:127:29
 enum-known-a : tie.Need-enum-known-a
 enum-known-a c = search needs
 
--- src/listing.rt:128:9
 wipe-tables-requires : tie.Need-wipe-tables-requires
 wipe-tables-requires c κs = search needs
 
--- src/listing.rt:129:9
 wipe-lists-requires : tie.Need-wipe-lists-requires
 wipe-lists-requires c κs = search needs
 
--- src/listing.rt:130:9
 same-length : tie.Need-same-length
 same-length c = search needs
 
--- src/listing.rt:130:9
 same-length-2 : tie.Need-same-length-2
 same-length-2 c = search needs
 
--- src/listing.rt:130:9
 same-length-3 : tie.Need-same-length-3
 same-length-3 c = search needs
 
--- src/listing.rt:130:9
 same-length-4 : tie.Need-same-length-4
 same-length-4 c = search needs
 
--- src/listing.rt:130:9
 same-length-5 : tie.Need-same-length-5
 same-length-5 c = search needs
 
--- src/listing.rt:130:9
 same-length-6 : tie.Need-same-length-6
 same-length-6 c = search needs
 
--- src/listing.rt:130:9
 same-length-7 : tie.Need-same-length-7
 same-length-7 c = search needs
 
--- src/listing.rt:130:9
 same-length-8 : tie.Need-same-length-8
 same-length-8 c = search needs
 
--- src/listing.rt:130:9
 same-length-9 : tie.Need-same-length-9
 same-length-9 c = search needs
 
--- src/listing.rt:130:9
 returns : tie.Need-returns
 returns c =
     let s = c .before .before .before .before .before .before .before .before .before .before .before .before .before .before .before .before .before .before .before .before .before .before .before .before .before .before .before .before .before .before .before .before .before .before .before .before .before .before .before .before .before .before .before .before .before .before .before .before .before in
@@ -91,43 +76,33 @@ returns c =
 enum-told : tie.Need-enum-told
 enum-told c = search needs
 
--- src/listing.rt:96:1
 same-length-10 : tie.Need-same-length-10
 same-length-10 c = search needs
 
--- src/listing.rt:96:1
 same-length-11 : tie.Need-same-length-11
 same-length-11 c = search needs
 
--- src/listing.rt:96:1
 same-length-12 : tie.Need-same-length-12
 same-length-12 c = search needs
 
--- src/listing.rt:96:1
 same-length-13 : tie.Need-same-length-13
 same-length-13 c = search needs
 
--- src/listing.rt:96:1
 same-length-14 : tie.Need-same-length-14
 same-length-14 c = search needs
 
--- src/listing.rt:96:1
 same-length-15 : tie.Need-same-length-15
 same-length-15 c = search needs
 
--- src/listing.rt:96:1
 same-length-16 : tie.Need-same-length-16
 same-length-16 c = search needs
 
--- src/listing.rt:96:1
 same-length-17 : tie.Need-same-length-17
 same-length-17 c = search needs
 
--- src/listing.rt:96:1
 same-length-18 : tie.Need-same-length-18
 same-length-18 c = search needs
 
--- src/listing.rt:96:1
 returns-2 : tie.Need-returns-2
 returns-2 c =
     let s = c .before .before .before .before .before .before .before .before .before .before .before .before .before .before .before .before .before .before .before .before .before .before .before .before .before .before .before .before .before in

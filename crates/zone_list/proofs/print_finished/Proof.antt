@@ -8,19 +8,15 @@ use borrow.Author.Needs.{needs}
 use Rattle.zone_list.proofs.print_finished.Statement.{statement}
 use Rattle.zone_list.proofs.print_finished.Tie as tie
 
--- src/listing.rt:80:28
 enum-known-t : tie.Need-enum-known-t
 enum-known-t c = search needs
 
--- src/listing.rt:81:9
 clear-requires : tie.Need-clear-requires
 clear-requires c κs = search needs
 
--- src/listing.rt:82:9
 same-length : tie.Need-same-length
 same-length c = search needs
 
--- src/listing.rt:82:9
 returns : tie.Need-returns
 returns c =
     let s = c .before .before .before .before .before .before .before .before in
@@ -29,73 +25,58 @@ returns c =
 enum-told : tie.Need-enum-told
 enum-told c = search needs
 
--- src/listing.rt:85:28
 grid-of-requires : tie.Need-grid-of-requires
 grid-of-requires c κs = let s = c .before .before .before .before in s .pre (c .before .enum-told .given .1) .grid
 
--- src/listing.rt:85:9
 points-requires : tie.Need-points-requires
 points-requires c κs = let s = c .before .before .before .before .before in rw (c .grid-of .ensures) (grid-fits (s .args .f .d) (s .pre (c .before .before .enum-told .given .1) .grid))
 
--- src/listing.rt:86:13
 cast-k : tie.Need-cast-k
 cast-k c =
     let w = c .before .before .before .before .before .before .before .before .pre (c .before .before .before .before .before .enum-told .given .1) in
     let h = count-small w in
     (count-natural w, search needs)
 
--- src/listing.rt:86:13
 mul-k : tie.Need-mul-k
 mul-k c =
     let h = count-small (c .before .before .before .before .before .before .before .before .pre (c .before .before .before .before .before .enum-told .given .1)) in
     search needs
 
--- src/listing.rt:87:33
 sub-print-listing : tie.Need-sub-print-listing
 sub-print-listing c = search needs
 
--- src/listing.rt:87:33
 part-print-listing-start : tie.Need-part-print-listing-start
 part-print-listing-start c = search needs
 
--- src/listing.rt:87:33
 part-print-listing-end : tie.Need-part-print-listing-end
 part-print-listing-end c =
     let w = c .before .before .before .before .before .before .before .before .pre (c .before .before .before .before .before .enum-told .given .1) in
     let h = subst (λ n. n ≤ length (c .before .before .before .before .before .before .before .before .args .classes .now)) (sym (c .before .before .points .ensures ∙ ap size (c .before .before .before .grid-of .ensures))) (w .classes-in) in
     search needs
 
--- src/listing.rt:87:59
 sub-print-listing-2 : tie.Need-sub-print-listing-2
 sub-print-listing-2 c = search needs
 
--- src/listing.rt:87:59
 part-print-listing-start-2 : tie.Need-part-print-listing-start-2
 part-print-listing-start-2 c = search needs
 
--- src/listing.rt:87:59
 part-print-listing-end-2 : tie.Need-part-print-listing-end-2
 part-print-listing-end-2 c =
     let h = count-room (c .before .before .before .before .before .before .before .before .before .pre (c .before .before .before .before .before .before .enum-told .given .1)) in
     search needs
 
--- src/listing.rt:87:11
 print-listing-requires : tie.Need-print-listing-requires
 print-listing-requires c κs = search needs
 
--- src/listing.rt:88:24
 enum-known-b : tie.Need-enum-known-b
 enum-known-b c = search needs
 
--- src/listing.rt:89:45
 enum-told-2 : tie.Need-enum-told-2
 enum-told-2 c = search needs
 
--- src/listing.rt:74:1
 same-length-2 : tie.Need-same-length-2
 same-length-2 c = search needs
 
--- src/listing.rt:74:1
 returns-2 : tie.Need-returns-2
 returns-2 c =
     let s = c .before .before .before .before .before .before .before .before .before .before .before .before .before .before .before .before .before .before in
@@ -104,11 +85,9 @@ returns-2 c =
     let r = print-accepted (s .args .f) (s .args .classes .now) (s .args .triplets .now) (length (s .args .text .now)) e (c .before .before .before .before .before .before .before .before .before .before .before .before .points .ensures ∙ ap size (c .before .before .before .before .before .before .before .before .before .before .before .before .before .grid-of .ensures)) (held-count (s .pre e)) (p .0) (p .1) in
     (sym (ap listingOf (c .before .b .given .1)) ∙ r .0, r .1)
 
--- src/listing.rt:74:1
 same-length-3 : tie.Need-same-length-3
 same-length-3 c = search needs
 
--- src/listing.rt:74:1
 returns-3 : tie.Need-returns-3
 returns-3 c =
     let s = c .before .before .before .before .before .before .before .before .before .before .before .before .before .before .before .before .before in

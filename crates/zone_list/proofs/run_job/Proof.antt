@@ -1,34 +1,29 @@
 use mathlib.Core.Path.{sym, _∙_, ap}
 use lib.ListN.{length}
 use Rattle.integer.proofs.Fits.{held-is}
-use Rattle.bztable.proofs.NeighbourCall.{not-accepted}
-use Rattle.zone.specs.Chain.{Rooms}
-use Rattle.zone.specs.ChainView.{rooms}
+use Rattle.zone_steps.specs.Steps.{Rooms}
+use Rattle.zone_steps.specs.StepsView.{rooms}
 use Rattle.zone_list.proofs.Listed.{job-refused, few-counted, job-finished, job-ran}
 use borrow.Author.Needs.{needs}
 use Rattle.zone_list.proofs.run_job.Statement.{statement}
 use Rattle.zone_list.proofs.run_job.Tie as tie
+use Rattle.common.proofs.Tests.{not-accepted}
 
 abbrev roomsAt : tie.Start → Rooms
 roomsAt s = rooms (length (s .args .addresses .now)) (length (s .args .map .now)) (length (s .args .grg .now)) (length (s .args .classes .now)) (length (s .args .points .now)) (length (s .args .triplets .now)) (length (s .args .left .now)) (length (s .args .lengths .now))
 
--- src/listing.rt:47:34
 slice-aggregate-read-job : tie.Need-slice-aggregate-read-job
 slice-aggregate-read-job c = search needs
 
--- src/listing.rt:47:9
 read-job-requires : tie.Need-read-job-requires
 read-job-requires c κs = search needs
 
--- src/listing.rt:49:28
 enum-known-t : tie.Need-enum-known-t
 enum-known-t c = search needs
 
--- src/listing.rt:50:9
 refused-requires : tie.Need-refused-requires
 refused-requires c κs = search needs
 
--- src/listing.rt:50:9
 returns : tie.Need-returns
 returns c =
     let s = c .before .before .before .before .before .before .before .before .before in
@@ -37,73 +32,57 @@ returns c =
 enum-told : tie.Need-enum-told
 enum-told c = search needs
 
--- src/listing.rt:54:13
 mul-n : tie.Need-mul-n
 mul-n c =
     let s = c .before .before .before .before .before .before .before .before .before .before in
     let h = few-counted (s .args .bytes .now) (roomsAt s) (c .before .before .before .before .before .before .read-job .ensures .0) (c .before .before .before .enum-told .given .1) in
     search needs
 
--- src/listing.rt:56:9
 nested-requires : tie.Need-nested-requires
 nested-requires c κs = search needs
 
--- src/listing.rt:57:9
 sub-finished-list : tie.Need-sub-finished-list
 sub-finished-list c = search needs
 
--- src/listing.rt:57:9
 part-finished-list-start : tie.Need-part-finished-list-start
 part-finished-list-start c = search needs
 
--- src/listing.rt:57:9
 part-finished-list-end : tie.Need-part-finished-list-end
 part-finished-list-end c =
     let s = c .before .before .before .before .before .before .before .before .before .before .before .before in
     let h = few-counted (s .args .bytes .now) (roomsAt s) (c .before .before .before .before .before .before .before .before .read-job .ensures .0) (c .before .before .before .before .before .enum-told .given .1) in
     search needs
 
--- src/listing.rt:58:9
 nested-requires-2 : tie.Need-nested-requires-2
 nested-requires-2 c κs = search needs
 
--- src/listing.rt:55:5
 finished-list-requires : tie.Need-finished-list-requires
 finished-list-requires c κs = search needs
 
--- src/listing.rt:32:1
 same-length : tie.Need-same-length
 same-length c = search needs
 
--- src/listing.rt:32:1
 same-length-2 : tie.Need-same-length-2
 same-length-2 c = search needs
 
--- src/listing.rt:32:1
 same-length-3 : tie.Need-same-length-3
 same-length-3 c = search needs
 
--- src/listing.rt:32:1
 same-length-4 : tie.Need-same-length-4
 same-length-4 c = search needs
 
--- src/listing.rt:32:1
 same-length-5 : tie.Need-same-length-5
 same-length-5 c = search needs
 
--- src/listing.rt:32:1
 same-length-6 : tie.Need-same-length-6
 same-length-6 c = search needs
 
--- src/listing.rt:32:1
 same-length-7 : tie.Need-same-length-7
 same-length-7 c = search needs
 
--- src/listing.rt:32:1
 same-length-8 : tie.Need-same-length-8
 same-length-8 c = search needs
 
--- src/listing.rt:32:1
 returns-2 : tie.Need-returns-2
 returns-2 c =
     let s = c .before .before .before .before .before .before .before .before .before .before .before .before .before .before .before .before .before .before .before .before .before .before .before .before .before .before .before .before .before .before .before .before .before .before in

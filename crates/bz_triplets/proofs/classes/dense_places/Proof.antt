@@ -1,4 +1,4 @@
-use mathlib.Core.Path.{_∙_, ap}
+use mathlib.Core.Path.{_∙_, ap, refl}
 use Prim.Native.Nat.{_+_, _-_}
 use native.Mathlib.Omega.{arith}
 use Rattle.bzgrid.specs.Table.{listed}
@@ -26,7 +26,7 @@ returns c =
     let p = s .args .p in
     let m = s .args .map .now in (
       ap (λ k. inside (b .inside) (listed (placeIn (b .from) (b .from + 1)) k)) (c .less .ensures)
-          ∙ made (λ s e. listed (placeIn s (s + 1)) (e - s)) b m p (d .bounds-at .ensures .0),
+          ∙ made (λ s e. listed (placeIn s (s + 1)) (e - s)) b m p refl (d .bounds-at .ensures .0),
       record { first = omega arith; others = omega (arith, c .less .ensures) },
     )
 

@@ -10,12 +10,12 @@ use Rattle.integer.proofs.Fits.{held-is}
 use Rattle.common.specs.Array.{vectorOf}
 use Rattle.grgrid.specs.Sides.{sides}
 use Rattle.grgrid.specs.Own.{isPlace, ownPlaces}
-use Rattle.grgrid.proofs.Numbers.{own-few}
+use Rattle.grgrid.proofs.Numbers.{own-few, entry-is, entry-place, entry-other}
 use Rattle.bztable.specs.Reading.{Read, got}
+use Rattle.bztable.proofs.Inside.{view-failed, view-right}
 use Rattle.bz_triplets.specs.BzTriplets.{State, tripletOf, tripletList, marks, lengths}
 use Rattle.bz_triplets.specs.TripletsView.{stateOf, walkBy}
-use Rattle.bz_triplets.proofs.ImagePlaces.{view-failed, view-right}
-use Rattle.bz_triplets.proofs.ByClass.{entry-is, entry-place, entry-other, same-room, Filled, filled-as, filled-none, filled-on, filled-below, filled-room, filled-more, filled-triplets, filled-marks, filled-lengths, filled-outside}
+use Rattle.bz_triplets.proofs.ByClass.{same-room, Filled, filled-as, filled-none, filled-on, filled-below, filled-room, filled-more, filled-triplets, filled-marks, filled-lengths, filled-outside}
 use borrow.Author.Needs.{needs}
 use Rattle.bz_triplets.proofs.classes.fill_triplets.Statement.{statement}
 use Rattle.bz_triplets.proofs.classes.fill_triplets.Tie as tie

@@ -36,7 +36,7 @@ returns c =
     let n = s .args .n in
     let m = s .args .map .now in (
       ap (λ k. inside (b .inside) (listed (placeIn p (n + b .from)) k)) (c .less .ensures)
-          ∙ made (λ s e. listed (placeIn p (n + s)) (e + 1 - s)) b m (8 * n + p) (d .bounds-at .ensures .0),
+          ∙ made (λ s e. listed (placeIn p (n + s)) (e + 1 - s)) b m (8 * n + p) (omega arith) (d .bounds-at .ensures .0),
       record { first = s .pre .1; others = omega (arith, c .less .ensures) },
     )
 

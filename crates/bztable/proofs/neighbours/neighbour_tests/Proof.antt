@@ -2,10 +2,11 @@ use mathlib.Core.Path.{_≡_, refl, sym, _∙_, ap}
 use lib.ListN.{length}
 use Rattle.common.specs.Array.{sidesOf}
 use Rattle.common.specs.declared.Tested.the-variants.{Accepted}
+use Rattle.common.proofs.Tests.{not-accepted}
 use Rattle.bztable.specs.Reading.{inside}
 use Rattle.bztable.specs.Neighbours.{allNeighbours, inputTests}
 use Rattle.bzgrid.proofs.Outcome.{mesh-of}
-use Rattle.bztable.proofs.NeighbourCall.{input-accepted, not-accepted, tests-refused, tests-empty, tests-written, tests-outside}
+use Rattle.bztable.proofs.NeighbourCall.{input-accepted, tests-refused, tests-empty, tests-written, tests-outside}
 use borrow.Author.Needs.{needs}
 use Rattle.bztable.proofs.neighbours.neighbour_tests.Statement.{statement}
 use Rattle.bztable.proofs.neighbours.neighbour_tests.Tie as tie

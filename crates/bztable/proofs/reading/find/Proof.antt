@@ -26,8 +26,8 @@ returns c =
     let e = read-failed (c .before .before .address-at .result) (c .before .before .address-at .ensures .0) (c .if1 .taken) in
     (sym (find-outside (s .args .addresses .now) (vectorOf (s .args .a)) (l .i) (s .args .to) (c .before .before .before .loop-test .taken) e) ∙ l .inv, tt)
 
-is-same-requires : tie.Need-is-same-requires Inv-loop μ-loop
-is-same-requires c κs = tt
+same-row-requires : tie.Need-same-row-requires Inv-loop μ-loop
+same-row-requires c κs = tt
 
 returns-2 : tie.Need-returns-2 Inv-loop μ-loop
 returns-2 c =
@@ -36,7 +36,7 @@ returns-2 c =
     let l = t .before .before .before .before .loop in
     let r = t .before .before .address-at .result in
     let e = read-right r (t .before .before .address-at .ensures .0) (t .if1 .left) in
-    (sym (find-here (s .args .addresses .now) (vectorOf (s .args .a)) (l .i) (s .args .to) (search needs) (vectorOf (r .numbers)) e (sym (c .before .is-same .ensures) ∙ c .if2 .taken)) ∙ l .inv, search needs)
+    (sym (find-here (s .args .addresses .now) (vectorOf (s .args .a)) (l .i) (s .args .to) (search needs) (vectorOf (r .numbers)) e (sym (c .before .same-row .ensures) ∙ c .if2 .taken)) ∙ l .inv, search needs)
 
 add-i : tie.Need-add-i Inv-loop μ-loop
 add-i c = search needs
@@ -51,7 +51,7 @@ loop-again c =
     let l = t .before .before .before .before .loop in
     let r = t .before .before .address-at .result in
     let e = read-right r (t .before .before .address-at .ensures .0) (t .if1 .left) in
-    sym (find-on (s .args .addresses .now) (vectorOf (s .args .a)) (l .i) (s .args .to) (search needs) (vectorOf (r .numbers)) e (sym (c .before .is-same .ensures) ∙ c .if2 .left)) ∙ l .inv
+    sym (find-on (s .args .addresses .now) (vectorOf (s .args .a)) (l .i) (s .args .to) (search needs) (vectorOf (r .numbers)) e (sym (c .before .same-row .ensures) ∙ c .if2 .left)) ∙ l .inv
 
 returns-3 : tie.Need-returns-3 Inv-loop μ-loop
 returns-3 c =
@@ -68,7 +68,7 @@ find-spec =
     loop-holds
     address-at-requires
     returns
-    is-same-requires
+    same-row-requires
     returns-2
     add-i
     loop-less

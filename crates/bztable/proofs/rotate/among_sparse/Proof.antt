@@ -15,15 +15,15 @@ returns c =
     let e = read-failed (c .before .before .address-at .result) (c .before .before .address-at .ensures .0) (c .if1 .taken) in
     (first-outside (s .args .addresses .now) (s .args .map .now) (vectorOf (s .args .a)) (s .args .p) (s .args .n) e, tt)
 
-is-same-requires : tie.Need-is-same-requires
-is-same-requires c κs = search needs
+same-row-requires : tie.Need-same-row-requires
+same-row-requires c κs = search needs
 
 returns-2 : tie.Need-returns-2
 returns-2 c =
     let t = c .before .before .before in
     let s = t .before .before .before in
     let e = read-right (t .before .before .address-at .result) (t .before .before .address-at .ensures .0) (t .if1 .left) in
-    (first-found (s .args .addresses .now) (s .args .map .now) (vectorOf (s .args .a)) (s .args .p) (s .args .n) e (sym (c .before .is-same .ensures) ∙ c .if2 .taken), search needs)
+    (first-found (s .args .addresses .now) (s .args .map .now) (vectorOf (s .args .a)) (s .args .p) (s .args .n) e (sym (c .before .same-row .ensures) ∙ c .if2 .taken), search needs)
 
 mul-among-range : tie.Need-mul-among-range
 mul-among-range c = search needs
@@ -39,7 +39,7 @@ returns-3 c =
     let t = c .before .before .before .before in
     let s = t .before .before .before in
     let e = read-right (t .before .before .address-at .result) (t .before .before .address-at .ensures .0) (t .if1 .left) in
-    let f = sym (c .before .before .is-same .ensures) ∙ c .before .if2 .left in
+    let f = sym (c .before .before .same-row .ensures) ∙ c .before .if2 .left in
     (c .among-range .ensures .0 ∙ first-passed (s .args .addresses .now) (s .args .map .now) (vectorOf (s .args .a)) (s .args .p) (s .args .n) e f, c .among-range .ensures .1)
 
 pub among-sparse-spec : {M : Type 1} → statement M
@@ -48,7 +48,7 @@ among-sparse-spec =
     (tie.spec
     address-at-requires
     returns
-    is-same-requires
+    same-row-requires
     returns-2
     mul-among-range
     add-among-range

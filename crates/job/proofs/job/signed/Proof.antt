@@ -15,7 +15,7 @@ cast-result c = search needs
 
 returns : tie.Need-returns
 unfolding signed
-returns c = toZ-pos w64 (search needs) ∙ sym (ap (λ t. pick t (pos (c .before .args .w)) (pos (c .before .args .w) -ℤ pos 0x100000000)) (lt-ltb _ _ (c .if1 .taken)))
+returns c = toZ-pos w64 (search needs) ∙ sym (ap (λ t. pick t (pos (c .before .args .w)) (pos (c .before .args .w) -ℤ pos 0x100000000)) (lt-ltb (c .before .args .w) 0x80000000 (search needs)))
 
 cast-result-2 : tie.Need-cast-result-2
 cast-result-2 c = search needs
@@ -25,7 +25,7 @@ sub-result c = negative-fits (c .before .pre)
 
 returns-2 : tie.Need-returns-2
 unfolding signed
-returns-2 c = negative-word (c .before .pre) ∙ sym (ap (λ t. pick t (pos (c .before .args .w)) (pos (c .before .args .w) -ℤ pos 0x100000000)) (le-ltb _ _ (c .if1 .left)))
+returns-2 c = negative-word (c .before .pre) ∙ sym (ap (λ t. pick t (pos (c .before .args .w)) (pos (c .before .args .w) -ℤ pos 0x100000000)) (le-ltb (c .before .args .w) 0x80000000 (search needs)))
 
 pub signed-spec : {M : Type 1} → statement M
 signed-spec = tie.close (tie.spec cast-result returns cast-result-2 sub-result returns-2)

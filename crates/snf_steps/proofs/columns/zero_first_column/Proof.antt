@@ -7,7 +7,7 @@ use mathlib.Core.Bool.{false}
 use Rattle.integer.specs.Checked.{isZero}
 use lib.ListN.{getD}
 use Rattle.integer.proofs.Quotient.{zero-bits}
-use Rattle.integer.proofs.Fits.{held, held-is}
+use Rattle.integer.proofs.Fits.{held-is}
 use Rattle.snf_steps.specs.Result.{_then_, fitting}
 use Rattle.snf_steps.specs.Gcd.{extendedGcd}
 use Rattle.snf_steps.specs.Columns.{combination, combineBy, zeroFirstColumn}

@@ -1,8 +1,8 @@
-use mathlib.Core.Path.{_≡_, _∙_}
+use mathlib.Core.Path.{_∙_}
 use lib.IntN.{pos}
 use lib.ListN.{getD}
 use Rattle.integer.proofs.Quotient.{zero-bits}
-use Rattle.integer.proofs.Fits.{held, held-is}
+use Rattle.integer.proofs.Fits.{held-is}
 use Rattle.snf_steps.specs.Result.{_then_, fitting}
 use Rattle.snf_steps.specs.Gcd.{extendedGcd}
 use Rattle.snf_steps.specs.Columns.{combination, combineBy, zeroSecondColumn}

@@ -1,4 +1,4 @@
-use mathlib.Core.Path.{_≡_, _∙_}
+use mathlib.Core.Path.{_∙_}
 use lib.IntN.{pos}
 use lib.ListN.{getD}
 use Rattle.integer.proofs.Fits.{held-is}

@@ -6,7 +6,7 @@ use mir.Facts.{toZ-ofZ}
 use Rattle.integer.proofs.Test.{holds}
 use Rattle.common.specs.Array.{matrixOf}
 use Rattle.common.proofs.Tests.{yes, no}
-use Rattle.snf_steps.specs.Result.{Result, overflow, _then_, provided, fitting}
+use Rattle.snf_steps.specs.Result.{Result, _then_, provided, fitting}
 use Rattle.snf_steps.specs.Elementary.{belowFirst, negQuotientFits}
 use Rattle.snf_steps.specs.Columns.{multiply}
 use Rattle.snf_steps.specs.Stages.{Triple, Outcome, onRows, through, firstFinalize}

@@ -1,6 +1,5 @@
 use mathlib.Core.Path.{_≡_, sym, _∙_, ap, ap₂}
 use mathlib.Core.Bool.{Bool, true}
-use lib.Dec.{T}
 use lib.IntN.{ℤ, negℤ}
 use lib.Signed.{quotZ}
 use mir.Facts.{toZ-ofZ}

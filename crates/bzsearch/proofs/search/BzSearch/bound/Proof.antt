@@ -5,7 +5,8 @@ use lib.Ieee.{Float, binary64, add}
 use borrow.Author.Needs.{needs}
 use Rattle.integer.specs.Checked.{pick}
 use Rattle.common.specs.FloatMatrix.{floatVector}
-use Rattle.bzsearch.specs.Search.{box, bound, lower, leastOf, distance, origin}
+use Rattle.common.specs.Matrix.{origin}
+use Rattle.bzsearch.specs.Search.{box, bound, lower, leastOf, distance}
 use Rattle.bzsearch.specs.SearchView.{searchOf, firstView, wholeView}
 use Rattle.bzsearch.proofs.Rows.{joined, origin-sized}
 use Rattle.bzsearch.proofs.search.BzSearch.bound.Statement.{statement}

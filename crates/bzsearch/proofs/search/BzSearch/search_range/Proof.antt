@@ -6,9 +6,9 @@ use lib.ListN.{getD}
 use borrow.Author.Needs.{needs}
 use Rattle.float.specs.Sqrt.{sqrtOf}
 use Rattle.common.specs.Array.{number}
-use Rattle.common.specs.Matrix.{Axis, X, Y, Z}
+use Rattle.common.specs.Matrix.{Axis, X, Y, Z, origin}
 use Rattle.grgrid.proofs.Sizes.{sized-items}
-use Rattle.bzsearch.specs.Search.{Span, origin, span, searchMargin, searchRange, distance}
+use Rattle.bzsearch.specs.Search.{Span, span, searchMargin, searchRange, distance}
 use Rattle.bzsearch.proofs.search.BzSearch.search_range.Statement.{statement}
 use Rattle.bzsearch.proofs.search.BzSearch.search_range.Tie as tie
 

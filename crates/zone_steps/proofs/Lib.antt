@@ -1,0 +1,4 @@
+pub mod ToldPart
+pub mod CallSteps
+pub mod ListedClasses
+pub mod ListedGrid

@@ -8,4 +8,3 @@ pub mod Transforms
 pub mod ImageTables
 pub mod TripletClasses
 pub mod ImageTriplets
-pub mod JobLists

@@ -5,4 +5,3 @@ pub mod Diagonals
 pub mod Transforms
 pub mod Images
 pub mod Triplets
-pub mod Lists

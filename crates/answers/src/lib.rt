@@ -2,7 +2,6 @@
 mod diagonal;
 mod grid;
 mod images;
-mod list;
 mod recip;
 mod transform;
 mod triplets;
@@ -19,7 +18,6 @@ pub use images::rotate_lengths;
 pub use images::tell_lengths;
 pub use images::tell_rotated;
 use integer::Checked;
-pub use list::tell_listing;
 pub use recip::tell_group;
 pub use transform::transform_lengths;
 pub use triplets::refuse_classes;

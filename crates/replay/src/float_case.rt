@@ -1,7 +1,8 @@
-// One case of a function on f64. A float stands in a line as the two 32-bit words of its bits, the
-// high one first.
-use crate::function::Verdict;
-use crate::function::verdict_of;
+// One case of a function on f64.
+use vectors::Verdict;
+use vectors::floats;
+use vectors::floats::Read;
+use vectors::verdict_of;
 
 pub const ROUND: usize = 8;
 
@@ -20,38 +21,6 @@ pub const NINT: usize = 14;
 pub const IS_FINITE: usize = 15;
 
 pub const TO_F64: usize = 16;
-
-pub enum Read {
-    Float(f64),
-    Malformed,
-}
-
-pub fn float_of(high: i64, low: i64) -> Read {
-    let h = integer::unsigned_abs(high);
-    let l = integer::unsigned_abs(low);
-    if h <= 0xffff_ffff {
-        if l <= 0xffff_ffff {
-            return Read::Float(float::of_bits(h * 0x1_0000_0000 + l));
-        }
-    }
-    Read::Malformed
-}
-
-// The same value, a zero's sign too, or both a NaN.
-fn same(x: f64, y: f64) -> bool {
-    if x == x {
-        return x == y && 1.0 / x == 1.0 / y;
-    }
-    y != y
-}
-
-// Whether the words are x's.
-pub fn is_float(x: f64, high: i64, low: i64) -> bool {
-    let Read::Float(y) = float_of(high, low) else {
-        return false;
-    };
-    same(x, y)
-}
 
 fn float_result(function: usize, x: f64) -> f64 {
     match function {
@@ -73,18 +42,18 @@ fn number_result(function: usize, x: f64) -> i64 {
 
 // A float to a float: its words, 0, the result's words.
 fn float_to_float(function: usize, n: [i64; 5]) -> Verdict {
-    let Read::Float(x) = float_of(n[0], n[1]) else {
+    let Read::Float(x) = floats::float_of(n[0], n[1]) else {
         return Verdict::Unread;
     };
-    let Read::Float(y) = float_of(n[3], n[4]) else {
+    let Read::Float(y) = floats::float_of(n[3], n[4]) else {
         return Verdict::Unread;
     };
-    verdict_of(same(float_result(function, x), y))
+    verdict_of(floats::same_float(float_result(function, x), y))
 }
 
 // A float to a number: its words, 0, the number.
 fn float_to_number(function: usize, n: [i64; 5]) -> Verdict {
-    let Read::Float(x) = float_of(n[0], n[1]) else {
+    let Read::Float(x) = floats::float_of(n[0], n[1]) else {
         return Verdict::Unread;
     };
     verdict_of(number_result(function, x) == n[3])
@@ -92,10 +61,10 @@ fn float_to_number(function: usize, n: [i64; 5]) -> Verdict {
 
 // A number to a float: the number, 0, the result's words.
 fn number_to_float(n: [i64; 5]) -> Verdict {
-    let Read::Float(y) = float_of(n[2], n[3]) else {
+    let Read::Float(y) = floats::float_of(n[2], n[3]) else {
         return Verdict::Unread;
     };
-    verdict_of(same(zone_c::zone_to_f64(n[0]), y))
+    verdict_of(floats::same_float(zone_c::zone_to_f64(n[0]), y))
 }
 
 pub fn judge_float(function: usize, n: [i64; 5], count: usize) -> Verdict {

@@ -3,9 +3,10 @@ use crate::float_case;
 use crate::image_case;
 use crate::matrix_case;
 use crate::slice_case;
-use crate::text;
-use crate::text::Count;
 use crate::triplet_case;
+use vectors::Verdict;
+use vectors::text;
+use vectors::text::Count;
 
 pub const CHECKED_ADD: usize = 0;
 
@@ -22,21 +23,6 @@ pub const CHECKED_REM_EUCLID: usize = 5;
 pub const CHECKED_DIV: usize = 6;
 
 pub const CHECKED_REM: usize = 7;
-
-pub enum Verdict {
-    Same,
-    Differs,
-    // no vector of the function
-    Unread,
-}
-
-pub fn verdict_of(same: bool) -> Verdict {
-    if same {
-        Verdict::Same
-    } else {
-        Verdict::Differs
-    }
-}
 
 fn call(function: usize, a: i64, b: i64, told: &mut [i64]) -> i64 {
     match function {

@@ -1,10 +1,8 @@
-// One case of a function on the images of grid points. The lattice stands in a line as its length and
-// the two words of each float; every other input and output as in slice_case.
-use crate::float_case;
-use crate::float_case::Read;
-use crate::function::Verdict;
-use crate::function::verdict_of;
-use crate::slice_case;
+// One case of a function on the images of grid points.
+use vectors::Verdict;
+use vectors::floats;
+use vectors::slices;
+use vectors::verdict_of;
 ghost use Prim.Native.Nat.{_≤_};
 ghost use lib.ListN.{length};
 
@@ -14,27 +12,17 @@ pub const ROTATE_BZ_GRID_INDEX: usize = 25;
 
 pub const NEIGHBORING_GRID_POINTS: usize = 26;
 
-// The slice that stands after the first `count`; an empty one where there is none.
-pub fn slice_after(n: &[i64], count: usize) -> &[i64] {
-    let at = slice_case::after_slices(n, count);
-    if at >= n.len() {
-        return &n[at..];
-    }
-    let end = slice_case::after(n, at);
-    &n[at + 1..end]
-}
-
 // The index, five slices, the type, the answer and two numbers told.
 fn rotate_bz_grid_index(index: i64, n: &[i64]) -> Verdict {
-    let at = slice_case::after_slices(n, 5);
+    let at = slices::after_slices(n, 5);
     if n.len() - at != 4 {
         return Verdict::Unread;
     }
-    let rotation = slice_after(n, 0);
-    let addresses = slice_after(n, 1);
-    let map = slice_after(n, 2);
-    let d = slice_after(n, 3);
-    let ps = slice_after(n, 4);
+    let rotation = slices::slice_after(n, 0);
+    let addresses = slices::slice_after(n, 1);
+    let map = slices::slice_after(n, 2);
+    let d = slices::slice_after(n, 3);
+    let ps = slices::slice_after(n, 4);
     let mut told = [0i64; 2];
     let answer = zone_c::zone_rotate_bz_grid_index(
         index,
@@ -49,20 +37,20 @@ fn rotate_bz_grid_index(index: i64, n: &[i64]) -> Verdict {
     if answer != n[at + 1] {
         return Verdict::Differs;
     }
-    verdict_of(slice_case::same(&told, &n[at + 2..]))
+    verdict_of(slices::same(&told, &n[at + 2..]))
 }
 
 // Five slices, the type, the answer and the output.
 fn neighboring_grid_points(n: &[i64], out: &mut [i64]) -> Verdict {
-    let at = slice_case::after_slices(n, 5);
+    let at = slices::after_slices(n, 5);
     if at >= n.len() {
         return Verdict::Unread;
     }
-    let points = slice_after(n, 0);
-    let offsets = slice_after(n, 1);
-    let addresses = slice_after(n, 2);
-    let map = slice_after(n, 3);
-    let d = slice_after(n, 4);
+    let points = slices::slice_after(n, 0);
+    let offsets = slices::slice_after(n, 1);
+    let addresses = slices::slice_after(n, 2);
+    let map = slices::slice_after(n, 3);
+    let d = slices::slice_after(n, 4);
     let answer = zone_c::zone_neighboring_grid_points(
         points,
         offsets,
@@ -73,90 +61,7 @@ fn neighboring_grid_points(n: &[i64], out: &mut [i64]) -> Verdict {
         out,
     );
     let told = [0i64; 0];
-    slice_case::verdict(answer, out, &told, n, at + 1)
-}
-
-// The place after the floats that start at place `at`; the end of n where there are none.
-pub fn after_floats(n: &[i64], at: usize) -> usize
-    ensures { λ r. ⌜ r ≤ length (now (n .entry)) ⌝ }
-{
-    if at >= n.len() {
-        return n.len();
-    }
-    let wanted = integer::unsigned_abs(n[at]);
-    let room = (n.len() - at - 1) / 2;
-    if wanted <= room as u64 {
-        return at + 1 + wanted as usize * 2;
-    }
-    n.len()
-}
-
-// Whether the words are those of as many floats as out has, which are then in it.
-fn floats(words: &[i64], out: &mut [f64]) -> bool {
-    if words.len() != out.len() * 2 {
-        return false;
-    }
-    let mut i = 0;
-    while i < out.len() {
-        let Read::Float(x) = float_case::float_of(words[i * 2], words[i * 2 + 1]) else {
-            return false;
-        };
-        out[i] = x;
-        i += 1;
-    }
-    true
-}
-
-// Whether as many floats as out has start at place `at`, which are then in it.
-pub fn read_floats(n: &[i64], at: usize, out: &mut [f64]) -> bool {
-    let end = after_floats(n, at);
-    if at >= end {
-        return false;
-    }
-    floats(&n[at + 1..end], out)
-}
-
-// The place after the output at place `at`; the end of n where there is none.
-pub fn after_output(n: &[i64], at: usize) -> usize
-    ensures { λ r. ⌜ r ≤ length (now (n .entry)) ⌝ }
-{
-    if at >= n.len() {
-        return n.len();
-    }
-    if integer::unsigned_abs(n[at]) <= slice_case::LISTED as u64 {
-        return slice_case::after(n, at);
-    }
-    if n.len() - at < 2 {
-        return n.len();
-    }
-    at + 2
-}
-
-// Whether a call wrote the output at place `at`.
-fn is_output(out: &[i64], n: &[i64], at: usize) -> bool {
-    let end = after_output(n, at);
-    if at >= end {
-        return false;
-    }
-    if integer::unsigned_abs(n[at]) != out.len() as u64 {
-        return false;
-    }
-    slice_case::is_written(out, &n[at + 1..end])
-}
-
-// The place after the two outputs at place `at`.
-pub fn after_two(n: &[i64], at: usize) -> usize
-    ensures { λ r. ⌜ r ≤ length (now (n .entry)) ⌝ }
-{
-    after_output(n, after_output(n, at))
-}
-
-// Whether a call wrote the two outputs at place `at`.
-pub fn are_two(first: &[i64], second: &[i64], n: &[i64], at: usize) -> bool {
-    if !is_output(first, n, at) {
-        return false;
-    }
-    is_output(second, n, after_output(n, at))
+    slices::verdict(answer, out, &told, n, at + 1)
 }
 
 // The tables against the line from place `at` on.
@@ -168,15 +73,15 @@ fn are_outputs(
     n: &[i64],
     at: usize,
 ) -> bool {
-    if !are_two(addresses, map, n, at) {
+    if !slices::are_two(addresses, map, n, at) {
         return false;
     }
-    let third = after_two(n, at);
-    if !is_output(grg, n, third) {
+    let third = slices::after_two(n, at);
+    if !slices::is_output(grg, n, third) {
         return false;
     }
-    let end = after_output(n, third);
-    slice_case::same(told, &n[end..])
+    let end = slices::after_output(n, third);
+    slices::same(told, &n[end..])
 }
 
 // Three slices, the lattice, and from place `at` on the type, the answer, the tables and three numbers
@@ -195,9 +100,9 @@ fn bz_grid_addresses(
     if at > n.len() - 2 {
         return Verdict::Unread;
     }
-    let d = slice_after(n, 0);
-    let q = slice_after(n, 1);
-    let ps = slice_after(n, 2);
+    let d = slices::slice_after(n, 0);
+    let q = slices::slice_after(n, 1);
+    let ps = slices::slice_after(n, 2);
     let mut told = [0i64; 3];
     let answer = zone_c::zone_bz_grid_addresses(
         d,
@@ -227,11 +132,11 @@ fn judge_tables(
 ) -> Verdict
     requires { ⌜ at ≤ length (now n) ⌝ }
 {
-    let second = after_output(n, at + 2);
-    let third = after_two(n, at + 2);
-    let a = slice_case::places(n, at + 2, addresses.len());
-    let m = slice_case::places(n, second, map.len());
-    let g = slice_case::places(n, third, grg.len());
+    let second = slices::after_output(n, at + 2);
+    let third = slices::after_two(n, at + 2);
+    let a = slices::places(n, at + 2, addresses.len());
+    let m = slices::places(n, second, map.len());
+    let g = slices::places(n, third, grg.len());
     bz_grid_addresses(
         n,
         lattice,
@@ -250,15 +155,15 @@ fn judge_lattice(
     map: &mut [i64],
     grg: &mut [i64],
 ) -> Verdict {
-    let from = slice_case::after_slices(n, 3);
-    let count = slice_case::places(n, from, held.len());
-    if !read_floats(n, from, &mut held[..count]) {
+    let from = slices::after_slices(n, 3);
+    let count = slices::places(n, from, held.len());
+    if !floats::read_floats(n, from, &mut held[..count]) {
         return Verdict::Unread;
     }
     judge_tables(
         n,
         &held[..count],
-        after_floats(n, from),
+        floats::after_floats(n, from),
         addresses,
         map,
         grg,
@@ -275,8 +180,8 @@ fn judge_bz_grid_addresses(n: &[i64]) -> Verdict {
 
 // The neighbours in an output of the length that the line has.
 fn judge_neighbours(n: &[i64], out: &mut [i64]) -> Verdict {
-    let at = slice_case::after_slices(n, 5);
-    let end = slice_case::places(n, at + 2, out.len());
+    let at = slices::after_slices(n, 5);
+    let end = slices::places(n, at + 2, out.len());
     neighboring_grid_points(n, &mut out[..end])
 }
 

@@ -5,10 +5,10 @@ mod function;
 mod image_case;
 mod matrix_case;
 mod slice_case;
-mod text;
 mod triplet_case;
 
-use function::Verdict;
+use vectors::Verdict;
+use vectors::text;
 
 struct Tally {
     cases: u64,

@@ -1,10 +1,10 @@
 // One case of a function on one or two matrices, whose outputs have fixed lengths. The matrices stand
 // in a line as slices, then the answer, the outputs as slices, and what was told.
-use crate::function::Verdict;
-use crate::function::verdict_of;
-use crate::slice_case;
-use crate::text;
-use crate::text::Count;
+use vectors::Verdict;
+use vectors::slices;
+use vectors::text;
+use vectors::text::Count;
+use vectors::verdict_of;
 ghost use Prim.Native.Nat.{_+_, _≤_};
 ghost use lib.ListN.{length};
 
@@ -17,8 +17,8 @@ fn is_written(out: &[i64], n: &[i64], at: usize) -> bool {
     if at >= n.len() {
         return false;
     }
-    let end = slice_case::after(n, at);
-    slice_case::same(out, &n[at + 1..end])
+    let end = slices::after(n, at);
+    slices::same(out, &n[at + 1..end])
 }
 
 // The outputs against the line from place `at` on.
@@ -34,11 +34,11 @@ fn are_written(d: &[i64], p: &[i64], q: &[i64], told: &[i64], n: &[i64], at: usi
     if !is_written(q, n, at + 14) {
         return false;
     }
-    slice_case::same(told, &n[at + 24..])
+    slices::same(told, &n[at + 24..])
 }
 
 fn snf3x3(n: &[i64]) -> Verdict {
-    let at = slice_case::after_slices(n, 1);
+    let at = slices::after_slices(n, 1);
     if at < 1 {
         return Verdict::Unread;
     }
@@ -56,8 +56,8 @@ fn snf3x3(n: &[i64]) -> Verdict {
 }
 
 fn same_grid(n: &[i64]) -> Verdict {
-    let b = slice_case::after_slices(n, 1);
-    let at = slice_case::after_slices(n, 2);
+    let b = slices::after_slices(n, 1);
+    let at = slices::after_slices(n, 2);
     if b < 1 {
         return Verdict::Unread;
     }

@@ -1,10 +1,9 @@
-// One case of a function on triplets. Inputs and outputs stand in a line as in slice_case, floats as in
-// image_case. No line has over LISTED lengths left over, so that each is compared.
-use crate::float_case;
-use crate::function::Verdict;
-use crate::function::verdict_of;
-use crate::image_case;
-use crate::slice_case;
+// One case of a function on triplets. No line has over LISTED lengths left over, so that each is
+// compared.
+use vectors::Verdict;
+use vectors::floats;
+use vectors::slices;
+use vectors::verdict_of;
 ghost use Prim.Native.Nat.{_≤_};
 ghost use lib.ListN.{length};
 
@@ -14,21 +13,21 @@ pub const BZ_TRIPLETS_AT_Q: usize = 28;
 
 // The classes against the line from place `at` on.
 fn are_classes(map_triplets: &[i64], map_q: &[i64], told: &[i64], n: &[i64], at: usize) -> bool {
-    if !image_case::are_two(map_triplets, map_q, n, at) {
+    if !slices::are_two(map_triplets, map_q, n, at) {
         return false;
     }
-    let end = image_case::after_two(n, at);
-    slice_case::same(told, &n[end..])
+    let end = slices::after_two(n, at);
+    slices::same(told, &n[end..])
 }
 
 // After the point two slices, two flags, the answer, two outputs and the number of classes.
 fn ir_triplets_at_q(q0: i64, n: &[i64], map_triplets: &mut [i64], map_q: &mut [i64]) -> Verdict {
-    let at = slice_case::after_slices(n, 2);
+    let at = slices::after_slices(n, 2);
     if n.len() - at < 3 {
         return Verdict::Unread;
     }
-    let d = image_case::slice_after(n, 0);
-    let rotations = image_case::slice_after(n, 1);
+    let d = slices::slice_after(n, 0);
+    let rotations = slices::slice_after(n, 1);
     let mut told = [0i64; 1];
     let answer = zone_c::zone_ir_triplets_at_q(
         q0,
@@ -48,41 +47,26 @@ fn ir_triplets_at_q(q0: i64, n: &[i64], map_triplets: &mut [i64], map_q: &mut [i
 
 // The classes in outputs of the lengths that the line has.
 fn judge_classes(q0: i64, n: &[i64], map_triplets: &mut [i64], map_q: &mut [i64]) -> Verdict {
-    let at = slice_case::after_slices(n, 2);
-    let second = image_case::after_output(n, at + 3);
-    let t = slice_case::places(n, at + 3, map_triplets.len());
-    let m = slice_case::places(n, second, map_q.len());
+    let at = slices::after_slices(n, 2);
+    let second = slices::after_output(n, at + 3);
+    let t = slices::places(n, at + 3, map_triplets.len());
+    let m = slices::places(n, second, map_q.len());
     ir_triplets_at_q(q0, n, &mut map_triplets[..t], &mut map_q[..m])
-}
-
-// Whether the words are those of the floats.
-fn are_floats(floats: &[f64], words: &[i64]) -> bool {
-    if words.len() != floats.len() * 2 {
-        return false;
-    }
-    let mut i = 0;
-    while i < floats.len() {
-        if !float_case::is_float(floats[i], words[i * 2], words[i * 2 + 1]) {
-            return false;
-        }
-        i += 1;
-    }
-    true
 }
 
 // The triplets against the line from place `at` on.
 fn are_triplets(out: &[i64], left: &[i64], left_length: &[f64], n: &[i64], at: usize) -> bool {
-    if !image_case::are_two(out, left, n, at) {
+    if !slices::are_two(out, left, n, at) {
         return false;
     }
-    let third = image_case::after_two(n, at);
+    let third = slices::after_two(n, at);
     if third >= n.len() {
         return false;
     }
     if integer::unsigned_abs(n[third]) != left_length.len() as u64 {
         return false;
     }
-    are_floats(left_length, &n[third + 1..])
+    floats::are_floats(left_length, &n[third + 1..])
 }
 
 // The call on the first five slices of a line.
@@ -95,11 +79,11 @@ fn call(
     left: &mut [i64],
     left_length: &mut [f64],
 ) -> i64 {
-    let addresses = image_case::slice_after(n, 0);
-    let map = image_case::slice_after(n, 1);
-    let class_map = image_case::slice_after(n, 2);
-    let d = image_case::slice_after(n, 3);
-    let q = image_case::slice_after(n, 4);
+    let addresses = slices::slice_after(n, 0);
+    let map = slices::slice_after(n, 1);
+    let class_map = slices::slice_after(n, 2);
+    let d = slices::slice_after(n, 3);
+    let q = slices::slice_after(n, 4);
     zone_c::zone_bz_triplets_at_q(
         q0,
         addresses,
@@ -151,11 +135,11 @@ fn judge_places(
 ) -> Verdict
     requires { ⌜ at ≤ length (now n) ⌝ }
 {
-    let second = image_case::after_output(n, at + 2);
-    let third = image_case::after_two(n, at + 2);
-    let o = slice_case::places(n, at + 2, out.len());
-    let l = slice_case::places(n, second, left.len());
-    let f = slice_case::places(n, third, left_length.len());
+    let second = slices::after_output(n, at + 2);
+    let third = slices::after_two(n, at + 2);
+    let o = slices::places(n, at + 2, out.len());
+    let l = slices::places(n, second, left.len());
+    let f = slices::places(n, third, left_length.len());
     bz_triplets_at_q(
         q0,
         n,
@@ -176,12 +160,12 @@ fn judge_lattice(
     left: &mut [i64],
     left_length: &mut [f64],
 ) -> Verdict {
-    let from = slice_case::after_slices(n, 5);
-    let count = slice_case::places(n, from, held.len());
-    if !image_case::read_floats(n, from, &mut held[..count]) {
+    let from = slices::after_slices(n, 5);
+    let count = slices::places(n, from, held.len());
+    if !floats::read_floats(n, from, &mut held[..count]) {
         return Verdict::Unread;
     }
-    let at = image_case::after_floats(n, from);
+    let at = floats::after_floats(n, from);
     judge_places(q0, n, &held[..count], at, out, left, left_length)
 }
 

@@ -4,7 +4,7 @@ use zone_list::Listing;
 ghost use mathlib.Core.Path.{_≡_};
 ghost use lib.ListN.{length};
 ghost use Rattle.zone_list.specs.List.{listAnswer, listText};
-ghost use Rattle.answers.specs.Lists.{listRooms, ZoneListTold};
+ghost use Rattle.zone_c.specs.Lists.{listingNumber, listingTold, BytesFit, listRooms, ZoneListTold};
 
 // In arrays for 256 points and 1,024 images.
 fn list_job(job: &[u8], text: &mut [u8]) -> Listing
@@ -33,6 +33,23 @@ fn list_job(job: &[u8], text: &mut [u8]) -> Listing
     )
 }
 
+fn tell_listing(answer: Listing, told: &mut [i64]) -> i64
+    requires { ⌜ length (now told) ≡ 1 ⌝ ∗ ⌜ BytesFit answer ⌝ }
+    ensures { λ r. ⌜ r ≡ listingNumber answer ⌝ }
+    ensures { λ _. ⌜ now (told .exit) ≡ listingTold answer ⌝ }
+{
+    match answer {
+        Listing::Bytes(n) => {
+            told[0] = n as i64;
+            0
+        }
+        Listing::Refused(r) => {
+            told[0] = -1;
+            r.answer()
+        }
+    }
+}
+
 #[no_mangle]
 pub extern "C" fn zone_list(job: &[u8], text: &mut [u8], told: &mut [i64]) -> i64
     ensures { λ r. ⌜ ZoneListTold (now (job .entry)) (length (now (text .entry))) (length (now (told .entry))) r (now (text .exit)) (now (told .exit)) ⌝ }
@@ -42,5 +59,5 @@ pub extern "C" fn zone_list(job: &[u8], text: &mut [u8], told: &mut [i64]) -> i6
         common::fill(told, -1);
         return Refusal::WrongLength.answer();
     }
-    answers::tell_listing(list_job(job, text), told)
+    tell_listing(list_job(job, text), told)
 }

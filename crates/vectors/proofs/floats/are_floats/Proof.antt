@@ -1,8 +1,8 @@
 use Prim.Native.Nat.{_-_}
 use lib.ListN.{length}
 use borrow.Author.Needs.{needs}
-use Rattle.replay.proofs.triplet_case.are_floats.Statement.{statement}
-use Rattle.replay.proofs.triplet_case.are_floats.Tie as tie
+use Rattle.vectors.proofs.floats.are_floats.Statement.{statement}
+use Rattle.vectors.proofs.floats.are_floats.Tie as tie
 
 abbrev Inv-loop : tie.InvT-loop
 Inv-loop floats words i₀ i = Unit {0}

@@ -1,8 +1,8 @@
 use Prim.Native.Nat.{_≤_, _-_}
 use lib.ListN.{length}
 use borrow.Author.Needs.{needs}
-use Rattle.replay.proofs.slice_case.sum.Statement.{statement}
-use Rattle.replay.proofs.slice_case.sum.Tie as tie
+use Rattle.vectors.proofs.slices.sum.Statement.{statement}
+use Rattle.vectors.proofs.slices.sum.Tie as tie
 
 abbrev Inv-loop : tie.InvT-loop
 Inv-loop written sum₀ i₀ sum i = (sum ≤ 1000002)

@@ -3,11 +3,11 @@ use mathlib.Core.List.{[], _∷_}
 use mir.Syntax.{w64}
 use mir.Facts.{toZ-pos}
 use Rattle.integer.proofs.Fits.{held-is}
-use Rattle.answers.specs.Lists.{listingNumber, listingTold}
+use Rattle.zone_c.specs.Lists.{listingNumber, listingTold}
 use Rattle.answers.proofs.Answers.{stored}
 use borrow.Author.Needs.{needs}
-use Rattle.answers.proofs.list.tell_listing.Statement.{statement}
-use Rattle.answers.proofs.list.tell_listing.Tie as tie
+use Rattle.zone_c.proofs.list.tell_listing.Statement.{statement}
+use Rattle.zone_c.proofs.list.tell_listing.Tie as tie
 
 enum-known-answer : tie.Need-enum-known-answer
 enum-known-answer c = search needs

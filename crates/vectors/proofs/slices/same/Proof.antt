@@ -1,8 +1,8 @@
 use Prim.Native.Nat.{_-_}
 use lib.ListN.{length}
 use borrow.Author.Needs.{needs}
-use Rattle.replay.proofs.slice_case.same.Statement.{statement}
-use Rattle.replay.proofs.slice_case.same.Tie as tie
+use Rattle.vectors.proofs.slices.same.Statement.{statement}
+use Rattle.vectors.proofs.slices.same.Tie as tie
 
 abbrev Inv-loop : tie.InvT-loop
 Inv-loop a b i₀ i = Unit {0}

@@ -1,8 +1,8 @@
 use Prim.Native.Nat.{_-_}
 use lib.ListN.{length}
 use borrow.Author.Needs.{needs}
-use Rattle.replay.proofs.text.digits.Statement.{statement}
-use Rattle.replay.proofs.text.digits.Tie as tie
+use Rattle.vectors.proofs.text.digits.Statement.{statement}
+use Rattle.vectors.proofs.text.digits.Tie as tie
 
 abbrev Inv-loop : tie.InvT-loop
 Inv-loop s from negative held₀ i₀ held i = Unit {0}

@@ -1,23 +1,20 @@
 use Prim.Native.Nat.{_≤_, _-_}
 use lib.ListN.{length}
 use borrow.Author.Needs.{needs}
-use Rattle.replay.proofs.text.find.Statement.{statement}
-use Rattle.replay.proofs.text.find.Tie as tie
+use Rattle.vectors.proofs.slices.after_slices.Statement.{statement}
+use Rattle.vectors.proofs.slices.after_slices.Tie as tie
 
 abbrev Inv-loop : tie.InvT-loop
-Inv-loop s from b i₀ i = (from ≤ i) × (i ≤ length s)
+Inv-loop n count at₀ i₀ at i = (at ≤ length n)
 
 abbrev μ-loop : tie.MeasureT-loop
-μ-loop s from b i₀ i = length s - i
+μ-loop n count at₀ i₀ at i = count - i
 
 loop-holds : tie.Need-loop-holds Inv-loop μ-loop
 loop-holds c = search needs
 
-shared-slice-read-if1 : tie.Need-shared-slice-read-if1 Inv-loop μ-loop
-shared-slice-read-if1 c = search needs
-
-returns : tie.Need-returns Inv-loop μ-loop
-returns c = search needs
+after-requires : tie.Need-after-requires Inv-loop μ-loop
+after-requires c κs = search needs
 
 add-i : tie.Need-add-i Inv-loop μ-loop
 add-i c = search needs
@@ -28,19 +25,22 @@ loop-less c = search needs
 loop-again : tie.Need-loop-again Inv-loop μ-loop
 loop-again c = search needs
 
+returns : tie.Need-returns Inv-loop μ-loop
+returns c = search needs
+
 returns-2 : tie.Need-returns-2 Inv-loop μ-loop
 returns-2 c = search needs
 
-pub find-spec : {M : Type 1} → statement M
-find-spec =
+pub after-slices-spec : {M : Type 1} → statement M
+after-slices-spec =
     tie.close
     (tie.spec
     Inv-loop
     μ-loop
     loop-holds
-    shared-slice-read-if1
-    returns
+    after-requires
     add-i
     loop-less
     loop-again
+    returns
     returns-2)

@@ -2,8 +2,8 @@ use mathlib.Core.Path.{_≡_}
 use Prim.Native.Nat.{_-_}
 use lib.ListN.{length}
 use borrow.Author.Needs.{needs}
-use Rattle.replay.proofs.text.numbers.Statement.{statement}
-use Rattle.replay.proofs.text.numbers.Tie as tie
+use Rattle.vectors.proofs.text.numbers.Statement.{statement}
+use Rattle.vectors.proofs.text.numbers.Tie as tie
 
 abbrev Inv-loop : tie.InvT-loop
 Inv-loop s out₀ n₀ at₀ out n at = length out ≡ length out₀

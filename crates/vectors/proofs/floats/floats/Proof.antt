@@ -2,8 +2,8 @@ use mathlib.Core.Path.{_≡_}
 use Prim.Native.Nat.{_-_}
 use lib.ListN.{length}
 use borrow.Author.Needs.{needs}
-use Rattle.replay.proofs.image_case.floats.Statement.{statement}
-use Rattle.replay.proofs.image_case.floats.Tie as tie
+use Rattle.vectors.proofs.floats.floats.Statement.{statement}
+use Rattle.vectors.proofs.floats.floats.Tie as tie
 
 abbrev Inv-loop : tie.InvT-loop
 Inv-loop words out₀ i₀ out i = length out ≡ length out₀

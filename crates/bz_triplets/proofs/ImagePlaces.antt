@@ -9,9 +9,7 @@ use Rattle.integer.proofs.Test.{fails}
 use Rattle.bztable.specs.Reading.{Read, got, outside, inside, _then_, placeAt}
 use Rattle.bz_triplets.specs.declared.choices.Places.{Places}
 use Rattle.bz_triplets.specs.declared.classes.Bounds.{Bounds}
-use Rattle.bz_triplets.specs.declared.choices.Step.the-variants as step
-use Rattle.bz_triplets.specs.declared.choices.Triplet.{Triplet}
-use Rattle.bz_triplets.specs.TripletsView.{boundsAt, boundsView, PlacesFit, TripletFits}
+use Rattle.bz_triplets.specs.TripletsView.{boundsAt, boundsView, PlacesFit}
 
 -- three reads one after the other
 module _ {A B C D : Type 0} (f : A → B → C → Read D) where
@@ -64,6 +62,3 @@ no-bounds-below e = rw e (lit< tt, lit< tt)
 
 pub no-places-fit : {r : Places} → r ≡ record { first = 0; others = 0; count = 0; inside = false } → PlacesFit r
 no-places-fit e = rw e (record { first = lit< tt; others = lit< tt })
-
-pub blank-fits : {t : Triplet} {b : Bool} → t ≡ record { step = step.Empty; x = 0; y = 0; z = 0; inside = b } → TripletFits t
-blank-fits e = rw e (record { x = lit< tt; y = lit< tt; z = lit< tt })

@@ -2,11 +2,11 @@
 use mathlib.Core.Path.{_≡_, refl, _∙_, ap}
 use mathlib.Core.Bool.{Bool, true, false, not, _||_}
 use Prim.Native.Nat.{ℕ, suc, _+_, _*_, _^_, _≤_, _<_}
-use native.Mathlib.Nat.{le-trans, zero-lt-suc, mul-pos, mul-le-mul, mul-le-mul-right}
+use native.Mathlib.Nat.{le-trans, mul-pos, mul-le-mul, mul-le-mul-right}
 use native.Mathlib.Omega.{arith}
 use lib.Dec.{T, lit≤}
 use lib.IntN.{ℤ, pos, natAbs}
-use lib.Ieee.{Float, Format, binary64, add, sub, mul, div, le, lt, eq, ofInt, ofBits, fits}
+use lib.Ieee.{Float, Format, binary64, add, sub, mul, div, le, lt, eq, ofInt, ofBits}
 use lib.Ieee.Scale.{finite}
 use lib.Pow.{pow-mono}
 use lib.Ieee.Positive.{den, den-pos}
@@ -14,8 +14,7 @@ use Rattle.integer.proofs.Test.{is-true, pick-cases}
 use Rattle.float.specs.Value.{plus, less, Bounded, zeroF}
 use Rattle.float.specs.Rounding.{absOf, nintOf}
 use Rattle.float.proofs.Order.{le→cross, finite-number}
-use Rattle.float.proofs.Rounds.{Rounds, rounds-mono, self-rounds}
-use Rattle.float.proofs.Operations.{mul-rounds, div-rounds, square-nonneg, sum-nonneg}
+use Rattle.float.proofs.Operations.{mul-rounds, div-rounds, square-nonneg, sum-nonneg, rounds-nonneg}
 use Rattle.float.proofs.Whole.{ofInt-whole, whole-positive}
 use Rattle.float.proofs.Bounds.{bounded-up, whole-bounded, abs-bounded, add-bounded, sub-bounded, mul-bounded, div-bounded, whole-at-least}
 use Rattle.float.proofs.Cast.{nint-bounded}
@@ -28,21 +27,17 @@ use Rattle.bzsearch.specs.Search.{Search, reduced, splitReduced, moved, 
 use Rattle.bzsearch.proofs.Coordinates.{reduced-fits}
 
 -- ---- quotients and products that are not below zero
-from-zero : {f : Format} {z : Float} {p n c : ℕ} → Rounds f z p n c → 0 < c → n ≤ p → T (le zeroF z)
-unfolding fits
-from-zero {f} r C h = rounds-mono (self-rounds f zeroF tt tt) r (zero-lt-suc 0) C (omega arith)
-
 above : (x : Float) → T (finite x) → T (le zeroF x) → less x ≤ plus x
 above x t h = let g = le→cross zeroF x tt t h in omega arith
 
 div-nonneg : (f : Format) (x y : Float) → T (finite x) → T (le zeroF x) → 0 < plus y → T (le zeroF (div f x y))
-div-nonneg f x y t h p = from-zero (div-rounds f x y t p) (mul-pos p (den-pos x)) (mul-le-mul-right (den y) (above x t h))
+div-nonneg f x y t h p = rounds-nonneg (div-rounds f x y t p) (mul-pos p (den-pos x)) (mul-le-mul-right (den y) (above x t h))
 
 mul-nonneg : (f : Format) (x y : Float) → T (finite x) → T (finite y) → T (le zeroF x) → less y ≡ 0 → T (le zeroF (mul f x y))
 mul-nonneg f x y t u h e =
     let g = mul-le-mul-right (plus y) (above x t h) in
     let z = ap (λ (n : ℕ). plus x * n) e in
-    from-zero (mul-rounds f x y t u) (mul-pos (den-pos x) (den-pos y)) (omega arith)
+    rounds-nonneg (mul-rounds f x y t u) (mul-pos (den-pos x) (den-pos y)) (omega arith)
 
 -- ---- sums of products
 module _ (u v : Axis → Float) (j k : ℕ) (h : suc (suc (j + k)) ≤ 1023) (f : (a : Axis) → Bounded j (u a)) (g : (a : Axis) → Bounded k (v a)) where
@@ -158,7 +153,7 @@ squares-nonneg u h =
     square : (k : Axis) → T (le zeroF (squared (u k)))
     square k = square-nonneg binary64 (u k) (finite-number (u k) (h k))
 
-whole-small : (k : ℕ) (z : ℤ) → natAbs z ≤ 2 ^ k → k ≤ 53 → Bounded k (ofInt binary64 z)
+pub whole-small : (k : ℕ) (z : ℤ) → natAbs z ≤ 2 ^ k → k ≤ 53 → Bounded k (ofInt binary64 z)
 whole-small k z h l = whole-bounded k (ofInt binary64 z) z (ofInt-whole binary64 z (le-trans h (pow-mono l))) h
 
 module _ (s : Search) (t : T (latticeFits (s .lattice))) (s0 : Vec Float) (b : (k : Axis) → Bounded 13 (side s0 k)) (m : Vec ℤ) (h : (k : Axis) → natAbs (side m k) ≤ 16) where

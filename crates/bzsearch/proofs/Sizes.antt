@@ -1,11 +1,11 @@
 -- The limits of what a search is made from, as sizes.
-use mathlib.Core.Path.{_≡_, refl, sym, subst}
+use mathlib.Core.Path.{_≡_, sym, subst}
 use mathlib.Core.List.{List, [], _∷_}
 use Prim.Native.Nat.{ℕ, zero, suc, _≤_, zero-le}
 use native.Mathlib.Nat.{le-of-eq, le-trans, lt-of-le-of-lt}
 use native.Mathlib.Omega.{arith}
 use lib.Dec.{T, lit≤, lit<, eqb→eq}
-use lib.IntN.{ℤ, pos, negsuc, natAbs, _*ℤ_, _-ℤ_}
+use lib.IntN.{ℤ, pos, natAbs, _*ℤ_, _-ℤ_}
 use lib.ListN.{length, getD, List·getD-eq-default}
 use mir.Facts.{toZ-ofZ}
 use Rattle.integer.proofs.Fits.{held}
@@ -14,19 +14,15 @@ use Rattle.integer.proofs.Size.{sfits-abs}
 use Rattle.common.specs.Matrix.{Axis, X, Y, Z, next, Mat, side, entry, vector, entries, matrix, mapMat, cross, integers, det, adjugate, inverse, _▹_}
 use Rattle.common.specs.Array.{along, vectorOf, items, matrixOf, rows, matrixAt, dotOf, Sized, SizedRows}
 use Rattle.common.specs.IntegerMatrix.{detFits}
-use Rattle.common.specs.Limits.{sideFits, diagonalFits, matrixWithin}
+use Rattle.common.specs.Limits.{diagonalFits, matrixWithin}
 use Rattle.common.proofs.Matrix.{entry-matrix, diagonal-product}
-use Rattle.common.proofs.Bounds.{matrix-sizes, p-sized}
+use Rattle.common.proofs.Bounds.{matrix-sizes, p-sized, side-above}
 use Rattle.common.proofs.Whole.{sized-det}
 use Rattle.grgrid.proofs.Accepted.{side-0, side-1, side-2, side-small}
 use Rattle.grgrid.proofs.Sizes.{sized-items}
 use Rattle.bzsearch.specs.Search.{unimodular}
 
 -- ---- the diagonal numbers
-above : (z : ℤ) → T (sideFits z) → z ≡ pos (natAbs z)
-above (pos n) t = refl
-above (negsuc n) t = absurd t
-
 module _ (d : List ℤ) (t : T (diagonalFits d)) where
   side-sized : (k : Axis) → natAbs (along d k) ≤ 256
   side-sized X = side-small d t X
@@ -41,9 +37,9 @@ module _ (d : List ℤ) (t : T (diagonalFits d)) where
 
   -- the number itself
   pub side-whole : (k : Axis) → along d k ≡ pos (natAbs (along d k))
-  side-whole X = above (along d X) (side-0 d t)
-  side-whole Y = above (along d Y) (side-1 d t)
-  side-whole Z = above (along d Z) (side-2 d t)
+  side-whole X = side-above (along d X) (side-0 d t)
+  side-whole Y = side-above (along d Y) (side-1 d t)
+  side-whole Z = side-above (along d Z) (side-2 d t)
 
 pub sized-up : {j k : ℕ} {l : List ℤ} → j ≤ k → Sized j l → Sized k l
 sized-up h f = record { each = λ n. le-trans (f .each n) h }

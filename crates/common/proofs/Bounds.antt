@@ -1,5 +1,5 @@
 -- The loops and tests of limits.
-use mathlib.Core.Path.{_≡_, sym, _∙_, ap, ap₂}
+use mathlib.Core.Path.{_≡_, sym, _∙_, ap, ap₂, refl}
 use mathlib.Core.Bool.{true, false, _&&_}
 use mathlib.Core.List.{List, [], _∷_}
 use Prim.Native.Nat.{ℕ, zero, suc, _+_, _*_, _<_, _≤_, zero-le}
@@ -24,6 +24,11 @@ use Rattle.common.specs.Matrix.{Axis, Mat, side, entry, allAxes, _▹_}
 use Rattle.common.specs.Array.{number, along, vectorOf, items, matrixOf, dotOf, Sized, SizedRows}
 use Rattle.common.specs.IntegerMatrix.{dotFits, applyFits}
 use Rattle.common.specs.Limits.{within, allWithin, matrixWithin, sideFits}
+
+-- a side of a grid is its size
+pub side-above : (z : ℤ) → T (sideFits z) → z ≡ pos (natAbs z)
+side-above (pos n) t = refl
+side-above (negsuc n) t = absurd t
 
 -- a size by the two ends -k and k
 pub within-ends : (k : ℕ) (z : ℤ) → leZ (pos 0 -ℤ pos k) z && leZ z (pos k) ≡ within k z

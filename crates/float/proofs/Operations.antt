@@ -90,7 +90,7 @@ zero-rounds : (f : Format) → Rounds f zeroF 0 0 1
 unfolding fits
 zero-rounds f = self-rounds f zeroF tt tt
 
-rounds-nonneg : {f : Format} {z : Float} {p n c : ℕ} → Rounds f z p n c → 0 < c → n ≤ p → T (le zeroF z)
+pub rounds-nonneg : {f : Format} {z : Float} {p n c : ℕ} → Rounds f z p n c → 0 < c → n ≤ p → T (le zeroF z)
 rounds-nonneg {f} r C h = rounds-mono (zero-rounds f) r (zero-lt-suc 0) C (omega arith)
 
 pub one-sided : (x : Float) → (plus x ≡ 0) ⊎ (less x ≡ 0)

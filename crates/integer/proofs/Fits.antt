@@ -1,13 +1,14 @@
 -- What fits 64 signed bits, for omega; and each test of the code as a test of the exact result.
 use mathlib.Core.Path.{_≡_, sym, _∙_, subst}
-use lib.Dec.{T, ltb→lt, lt→ltb}
+use lib.Dec.{T, ltb→lt, lt→ltb, lit<}
 use lib.IntN.{ℤ, pos, negsuc, negℤ, natAbs, _+ℤ_, _-ℤ_, negℤ-negℤ}
-use lib.Signed.{_≤ℤ_, _<ℤ_, leZ, ltZ, leZ-yes, ltZ-yes, ltZ-no, mag, natAbs-le}
+use lib.Signed.{_≤ℤ_, _<ℤ_, leZ, ltZ, leZ-yes, ltZ-yes, ltZ-no, mag, natAbs-le, nonNeg}
 use Prim.Native.Nat.{ℕ, _+_, _^_, _≤_, _<_}
+use native.Mathlib.Nat.{lt-of-le-of-lt}
 use native.Mathlib.Numerals.{add-one}
 use native.Mathlib.Omega.{arith}
 use mir.Syntax.{w64}
-use mir.Val.{SFits, toZ, ofZ}
+use mir.Val.{SFits, toZ, ofZ, Fits}
 use mir.Facts.{toZ-ofZ}
 use Rattle.integer.specs.Checked.{fits64}
 use mathlib.Core.Bool.{true, false}
@@ -22,6 +23,9 @@ held z = toZ w64 (ofZ w64 z)
 
 pub held-is : (z : ℤ) → mag z < 0x8000000000000000 → held z ≡ z
 held-is z h = toZ-ofZ (record { sfits = h })
+
+pub held-natural : {z : ℤ} → SFits w64 z → T (nonNeg z) → T (nonNeg (held z)) × Fits w64 (natAbs (held z))
+held-natural {z} f t = rw (toZ-ofZ f) (t, record { fits = lt-of-le-of-lt (natAbs-le z (f .sfits)) (lit< tt) })
 
 -- v, worked out with locals, is z, which fits
 module _ {v z : ℤ} (e : v ≡ z) (t : T (fits64 z)) where

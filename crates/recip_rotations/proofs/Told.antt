@@ -52,7 +52,7 @@ turned-group : (t : Bool) {l : List (Mat ℤ)} → MatrixGroup l → MatrixGroup
 turned-group true m = transposes m
 turned-group false m = m
 
-joined-group : (time : Bool) {l : List (Mat ℤ)} → MatrixGroup l → MatrixGroup (joined time l)
+pub joined-group : (time : Bool) {l : List (Mat ℤ)} → MatrixGroup l → MatrixGroup (joined time l)
 joined-group time {l} m = step (joins time l) (λ t k. T-not (among inversion l) (and-r time (not (among inversion l)) t) (in-among inversion l k))
   where
     step : (j : Bool) → (T j → ¬ (inversion ∈ l)) → MatrixGroup (elim j [ true ↦ l ++ map negate l | false ↦ l ])

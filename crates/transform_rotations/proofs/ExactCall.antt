@@ -5,7 +5,7 @@ use mathlib.Core.Bool.{_&&_}
 use mathlib.Core.List.{List, [], _∷_, map, List·Memᴰ·head as here, List·Memᴰ·tail as there, List·Memᴰ·not-nil as not-nil, List·Memᴰ·cases-cons as cases}
 use Prim.Native.Nat.{ℕ}
 use lib.Dec.{T, leb}
-use lib.IntN.{ℤ, pos, negsuc, natAbs}
+use lib.IntN.{ℤ, pos, natAbs}
 use Rattle.integer.proofs.Test.{and-l, and-r, and-in, holds, is-true}
 use Rattle.common.specs.Matrix.{Axis, X, Y, Z, Vec, Mat, side, entries, diagonal}
 use Rattle.common.specs.Array.{along, vectorOf, sidesOf, matrixOf, matrices, flat}
@@ -16,6 +16,7 @@ use Rattle.common.specs.declared.Tested.the-variants.{Accepted}
 use Rattle.common.specs.declared.Refusal.the-variants.{SymmetryBroken}
 use Rattle.common.proofs.Matrix.{axes-of, same-vector}
 use Rattle.common.proofs.Tests.{passed, both-accepted}
+use Rattle.common.proofs.Bounds.{side-above}
 use Rattle.grgrid.specs.Grid.{size}
 use Rattle.grgrid.proofs.Lists.{_∈_}
 use Rattle.grgrid.proofs.Folding.{Sides}
@@ -31,11 +32,7 @@ sides-fit d t =
     axes-of (λ k. sideFits (side (vectorOf d) k)) (and-l (sideFits (along d X) && (sideFits (along d Y) && sideFits (along d Z))) (leb (size s) 65536) t)
 
 pub grid-is : (d : List ℤ) → T (diagonalFits d) → diagonal (vectorOf d) ≡ grid (sidesOf d)
-grid-is d t = ap diagonal (same-vector {f = side (vectorOf d)} {g = λ k. pos (natAbs (side (vectorOf d) k))} (λ k. positive (side (vectorOf d) k) (sides-fit d t k)))
-  where
-    positive : (z : ℤ) → T (sideFits z) → z ≡ pos (natAbs z)
-    positive (pos n) t = refl
-    positive (negsuc n) t = absurd t
+grid-is d t = ap diagonal (same-vector {f = side (vectorOf d)} {g = λ k. pos (natAbs (side (vectorOf d) k))} (λ k. side-above (side (vectorOf d) k) (sides-fit d t k)))
 
 pub sides-positive : (d : List ℤ) → T (diagonalFits d) → Sides (sidesOf d)
 sides-positive d t = record { positive = grid-fits d t .positive }

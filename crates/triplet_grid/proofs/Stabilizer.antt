@@ -22,7 +22,7 @@ use Rattle.grgrid.proofs.Acting.{Acts, acts-agree, carry-action}
 use Rattle.grgrid.proofs.MatrixGroup.{MatrixGroup, grouped, joined-acts}
 use Rattle.grgrid.proofs.Classes.{plain-classes}
 use Rattle.grgrid.proofs.Count.{Classified}
-use Rattle.recip_rotations.specs.PointGroup.{joins, pointGroup}
+use Rattle.recip_rotations.specs.PointGroup.{joins, pointGroup, joined}
 use Rattle.recip_rotations.proofs.Told.{unique-distinct, told-group}
 use Rattle.triplet_grid.specs.Partner.{keeping, stabilizer, third, partner}
 use Rattle.triplet_grid.specs.IrTriplets.{mapQ, mapTriplets, classesAt}
@@ -144,14 +144,17 @@ module _ (d : Vec ℕ) (s : Sides d) {L : List (Mat ℤ)} (m : MatrixGroup L) {P
 abbrev pub Operation : Bool → List (Mat ℤ) → Mat ℤ → Type 0
 Operation timeReversal l M = (M ∈ l) ⊎ (T (joins timeReversal l) × (M ∈ map negate l))
 
+pub joined-operations : (timeReversal : Bool) (l : List (Mat ℤ)) (M : Mat ℤ) → (M ∈ joined timeReversal l) ↔ Operation timeReversal l M
+joined-operations timeReversal l M = step (joins timeReversal l)
+  where
+    step : (b : Bool) → (M ∈ elim b [ true ↦ l ++ map negate l | false ↦ l ]) ↔ ((M ∈ l) ⊎ (T b × (M ∈ map negate l)))
+    step true = (λ k. ⊎-elim inl (λ j. inr (tt, j)) (append-cases l k), ⊎-elim (append-left (map negate l)) (λ k. append-right l (k .1)))
+    step false = (inl, ⊎-elim (λ k. k) (λ k. absurd (k .0)))
+
 module _ (timeReversal : Bool) {l : List (Mat ℤ)} (m : MatrixGroup l) where
   pub operations : (M : Mat ℤ) → (M ∈ pointGroup l timeReversal false) ↔ Operation timeReversal l M
   unfolding pointGroup
-  operations M = rw (unique-distinct l (m .distinct)) (step (joins timeReversal l))
-    where
-      step : (b : Bool) → (M ∈ elim b [ true ↦ l ++ map negate l | false ↦ l ]) ↔ ((M ∈ l) ⊎ (T b × (M ∈ map negate l)))
-      step true = (λ k. ⊎-elim inl (λ j. inr (tt, j)) (append-cases l k), ⊎-elim (append-left (map negate l)) (λ k. append-right l (k .1)))
-      step false = (inl, ⊎-elim (λ k. k) (λ k. absurd (k .0)))
+  operations M = rw (unique-distinct l (m .distinct)) (joined-operations timeReversal l M)
 
   module _ (d : Vec ℕ) (s : Sides d) (w : (M : Mat ℤ) → M ∈ l → Acts d M) (q0 : ℕ) (h : q0 < size d) (swappable : Bool) where
     acts : (M : Mat ℤ) → Operation timeReversal l M → Acts d M

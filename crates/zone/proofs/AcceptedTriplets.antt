@@ -86,6 +86,10 @@ module _ (map : List ℤ) (n q0 start : ℕ) where
   starts-point d Dense m a f = f
   starts-point d Unknown k a f = absurd k
 
+pub first-in : (a k : ℕ) → 0 < length (numbersFrom (λ i. i) a k) → a ∈ numbersFrom (λ i. i) a k
+first-in a zero h = absurd (not-suc-le-zero h)
+first-in a (suc k) h = here refl
+
 -- the first image of q1 is one of its images
 pub first-got : (t : GridType) (map addresses : List ℤ) (n q1 : ℕ) → 0 < length (imagePlaces t map n q1) → {a : Vec ℤ} → firstOf map addresses t q1 ≡ got a
     → (i : ℕ) × (i ∈ imagePlaces t map n q1) × (tripleAt addresses i ≡ a)
@@ -93,10 +97,6 @@ first-got Sparse map addresses n q1 h e = (q1, here refl, address-got addresses 
 first-got Dense map addresses n q1 h e =
     let r = then-got (placeAt map q1) (addressAt addresses) e in
     (numberIn map q1, first-in (numberIn map q1) (numberIn map (q1 + 1) - numberIn map q1) h, ap (tripleAt addresses) (place-got map q1 (r .1)) ∙ address-got addresses (r .0) (r .2))
-  where
-    first-in : (a k : ℕ) → 0 < length (numbersFrom (λ i. i) a k) → a ∈ numbersFrom (λ i. i) a k
-    first-in a zero h = absurd (not-suc-le-zero h)
-    first-in a (suc k) h = here refl
 first-got Unknown map addresses n q1 h e = absurd (not-got e)
 
 -- ---- the triplet call has read every triplet, and leaves them

@@ -1,9 +1,8 @@
 -- Demand 3 of the chain: an accepted chain has made the five calls, each accepted and each given what those before it left.
 use mathlib.Core.Path.{_≡_, refl, sym, _∙_, ap, subst}
 use mathlib.Core.Bool.{true}
-use mathlib.Core.List.{List, List·Memᴰ·head as here}
-use Prim.Native.Nat.{ℕ, zero, suc, _+_, _*_, _-_, _<_}
-use native.Mathlib.Nat.{not-suc-le-zero}
+use mathlib.Core.List.{List}
+use Prim.Native.Nat.{ℕ, _+_, _*_, _-_, _<_}
 use lib.Dec.{T, leb}
 use lib.IntN.{ℤ, pos, negsuc, natAbs}
 use lib.ListN.{length, take, length-map}
@@ -15,7 +14,6 @@ use Rattle.common.specs.declared.Tested.{Tested}
 use Rattle.common.specs.declared.Tested.the-variants.{Accepted, Refused}
 use Rattle.common.proofs.Tests.{passed, not-accepted, both-accepted}
 use Rattle.common.specs.Tested.{after}
-use Rattle.grgrid.proofs.Lists.{_∈_}
 use Rattle.snf3x3.specs.Snf3x3.{Answer, refused, diagonalised, snf3x3}
 use Rattle.snf3x3.specs.Written.{written}
 use Rattle.recip_rotations.specs.PointGroup.{groupTests, pointGroup, pointGroupAnswer, pointGroupWritten}
@@ -29,7 +27,6 @@ use Rattle.bzgrid.specs.declared.GridType.the-variants.{Sparse, Dense, Unknown}
 use Rattle.bzgrid.specs.declared.Lengths.{Lengths}
 use Rattle.bzgrid.specs.declared.BzGridAddresses.{BzGridAddresses}
 use Rattle.bzgrid.specs.declared.BzGridAddresses.the-variants as image
-use Rattle.bzsearch.specs.Search.{numbersFrom}
 use Rattle.bzgrid.specs.BzGridAddresses.{gridType, isKnown, bzAnswer, addressesWritten, mapWritten}
 use Rattle.bztable.specs.Reading.{tripleAt, addressOf}
 use Rattle.bztable.specs.Access.{numberIn, imagePlaces}
@@ -48,7 +45,7 @@ use Rattle.zone.specs.Chain.{Job, roomsAgree, diagonal, change, gridOf, 
 use Rattle.zone_steps.specs.StepsView.{grid, Listed}
 use Rattle.zone.specs.ChainFinished.{FinishedChain}
 use Rattle.zone.proofs.TableWalks.{then-got}
-use Rattle.zone.proofs.AcceptedTriplets.{triplets-accepted}
+use Rattle.zone.proofs.AcceptedTriplets.{triplets-accepted, first-in}
 use Rattle.zone_steps.proofs.ToldPart.{told-part}
 use Rattle.zone.proofs.FinishedList.{finished-list}
 use Rattle.zone_steps.proofs.ListedClasses.{passed-classes}
@@ -69,10 +66,6 @@ classified-by Accepted k e = (pos k, refl)
 classified-by (Refused r) k e = absurd (not-accepted e)
 
 -- ---- where the triplet call starts
-first-in : (a k : ℕ) → 0 < length (numbersFrom (λ i. i) a k) → a ∈ numbersFrom (λ i. i) a k
-first-in a zero h = absurd (not-suc-le-zero h)
-first-in a (suc k) h = here refl
-
 starts-at : (t : GridType) → T (isKnown t) → (map : List ℤ) (n q0 : ℕ) → 0 < length (imagePlaces t map n q0) → Starts t map n q0 (natAbs (startOf t map (pos q0)))
 starts-at Sparse k map n q0 h = refl
 starts-at Dense k map n q0 h = first-in (numberIn map q0) (numberIn map (q0 + 1) - numberIn map q0) h

@@ -16,6 +16,7 @@ use Rattle.common.proofs.Unimodular.{Unimodular}
 use Rattle.grgrid.specs.Grid.{index}
 use Rattle.grgrid.proofs.MatrixGroup.{MatrixGroup}
 use Rattle.recip_rotations.specs.PointGroup.{joined, pointGroupAnswer, pointGroupWritten}
+use Rattle.recip_rotations.proofs.Told.{joined-group}
 use Rattle.snf_steps.specs.Gcd.{step, euclid, extendedGcd}
 use Rattle.snf_steps.specs.Columns.{multiply, makeZero, firstColumn, secondColumn}
 use Rattle.snf_steps.specs.Stages.{oneLoop, first, second}
@@ -33,7 +34,6 @@ use Rattle.triplet_grid.specs.declared.IrTriplets.the-variants as class
 use Rattle.bz_triplets.specs.BzTriplets.{lqdInv, squaredDistance, bzTripletsAnswer, tripletsWritten}
 use Rattle.bz_triplets.specs.declared.BzTriplets.the-variants as triplet
 use Rattle.zone.specs.FinishedList.{Given, as-it-stands, as-returned, Calls}
-use Rattle.zone.proofs.JoinedList.{group-joined}
 
 -- ---- what comes from outside
 abbrev list : List ℤ
@@ -58,7 +58,7 @@ alone = record {
 }
 
 pub conditions : MatrixGroup (joined true (matrices list))
-conditions = group-joined true alone
+conditions = joined-group true alone
 
 -- ---- diagonalising
 abbrev d : Vec ℤ

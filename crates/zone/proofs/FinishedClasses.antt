@@ -36,11 +36,11 @@ use Rattle.triplet_grid.specs.IrTriplets.{tripletTests, mapTriplets, classesAt,
 use Rattle.triplet_grid.specs.IrTriplets as classing
 use Rattle.triplet_grid.specs.declared.IrTriplets.the-variants as class
 use Rattle.triplet_grid.proofs.Joining.{Meets, joined-meets}
-use Rattle.triplet_grid.proofs.Stabilizer.{Operation, carries-equiv, carries-partner, swapped-classes}
+use Rattle.triplet_grid.proofs.Stabilizer.{Operation, carries-equiv, carries-partner, swapped-classes, joined-operations}
 use Rattle.triplet_grid.proofs.Outcome as outcome
 use Rattle.bz_triplets.proofs.Rising.{Rising, own-rising, own-each}
 use Rattle.zone.specs.FinishedList.{Calls, grid, points, number, carries, partnerOf, Class, lowestPoints}
-use Rattle.zone.proofs.JoinedList.{list-distinct, told-is, given-joined, transformed-joined, joined-operations}
+use Rattle.zone.proofs.JoinedList.{list-distinct, told-is, given-joined, transformed-joined}
 
 -- ---- accepted calls
 -- an answer that no refusal gives

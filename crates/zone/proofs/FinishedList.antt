@@ -3,8 +3,8 @@ use Rattle.common.specs.Array.{matrices}
 use Rattle.grgrid.proofs.MatrixGroup.{MatrixGroup}
 use Rattle.zone.specs.FinishedList.{Calls, FinishedList, Demand3}
 use Rattle.zone.proofs.FinishedTriplets.{finished-triplets}
-use Rattle.zone.proofs.JoinedList.{group-joined}
 use Rattle.zone.proofs.FinishedClasses.{every-number, one-number, lowest-number, lowest-rise, lowest-each}
+use Rattle.recip_rotations.proofs.Told.{joined-group}
 
 pub finished-list : (c : Calls) → Demand3 c
 finished-list c g =
@@ -13,4 +13,4 @@ finished-list c g =
 
 -- where the list itself meets the conditions
 pub finished-list-of-group : (c : Calls) → MatrixGroup (matrices (c .list)) → FinishedList c
-finished-list-of-group c m = finished-list c (group-joined (c .timeReversal) m)
+finished-list-of-group c m = finished-list c (joined-group (c .timeReversal) m)

@@ -1,9 +1,9 @@
 -- The four conditions of demand 3, asked of the list with its negatives joined, where time reversal joins them: they go on to the list that is transformed, and to what
 -- transforming makes of it.
 use mathlib.Core.Path.{_≡_, refl, sym, _∙_, ap, ap₂, subst}
-use mathlib.Core.Logic.{_↔_, _⊎_, inl, inr, ⊎-elim}
+use mathlib.Core.Logic.{_↔_, _⊎_, ⊎-elim}
 use mathlib.Core.Bool.{Bool, true, false, not, _&&_}
-use mathlib.Core.List.{List, [], _∷_, _++_, map, map-append, List·Memᴰ·head as here, List·Memᴰ·tail as there, List·Memᴰ·append-cases as append-cases, Memᴰ·append-left as append-left, Memᴰ·append-right as append-right, Memᴰ·of-map as of-map}
+use mathlib.Core.List.{List, [], _∷_, _++_, map, map-append, List·Memᴰ·head as here, List·Memᴰ·tail as there, List·Memᴰ·append-cases as append-cases, Memᴰ·append-left as append-left, Memᴰ·of-map as of-map}
 use Prim.Native.Nat.{ℕ, _/_, _≤_}
 use lib.Dec.{T}
 use lib.IntN.{ℤ, negℤ, natAbs}
@@ -23,12 +23,11 @@ use Rattle.grgrid.proofs.MatrixGroup.{MatrixGroup, transposes, transformed}
 use Rattle.recip_rotations.specs.Unique.{sameMatrix, among}
 use Rattle.recip_rotations.specs.PointGroup.{turned, joins, joined, pointGroup}
 use Rattle.recip_rotations.proofs.Same.{matrix-eq, matrix-refl}
-use Rattle.recip_rotations.proofs.Told.{unique-distinct, told-group}
+use Rattle.recip_rotations.proofs.Told.{unique-distinct, joined-group}
 use Rattle.transform_rotations.specs.TransformRotations.{transformTests, transformWritten}
 use Rattle.transform_rotations.proofs.Accepted.{InputAccepted, input-accepted}
 use Rattle.transform_rotations.proofs.ExactCall.{grid-is, sides-positive, tests-input}
 use Rattle.transform_rotations.proofs.ExactTransform.{Fractions, transformOf, whole-accepted, fractions-distinct, call-fractions, call-matrices}
-use Rattle.triplet_grid.proofs.Stabilizer.{Operation}
 use Rattle.zone_steps.proofs.ToldPart.{told-part}
 use Rattle.zone.specs.FinishedList.{Given, as-it-stands, as-returned}
 
@@ -48,10 +47,6 @@ list-distinct time l m = step (joins time l) (m .distinct)
 pub told-is : (l : List (Mat ℤ)) → Distinct l → (time t : Bool) → pointGroup l time t ≡ joined time (turned t l)
 unfolding pointGroup
 told-is l e time t = ap (λ k. joined time (turned t k)) (unique-distinct l e)
-
--- a list that meets the conditions itself
-pub group-joined : (time : Bool) {l : List (Mat ℤ)} → MatrixGroup l → MatrixGroup (joined time l)
-group-joined time {l} m = subst MatrixGroup (told-is l (m .distinct) time false) (told-group l m time false)
 
 -- ---- a map of the members that keeps negatives, and takes only the inversion to the inversion
 module _ (f : Mat ℤ → Mat ℤ) where
@@ -92,7 +87,7 @@ given-joined as-it-stands m = m
 given-joined {time} {list} (as-returned t n count e) m =
     let l = matrices list in
     let is = ap matrices (told-part list time t n count e) ∙ matrices-flat (pointGroup l time t) ∙ told-is l (list-distinct time l m) time t in
-    subst (λ k. MatrixGroup (joined time k)) (sym is) (group-joined time (turned-joined t time l m))
+    subst (λ k. MatrixGroup (joined time k)) (sym is) (joined-group time (turned-joined t time l m))
 
 -- ---- what transforming makes of it
 fractions-inversion : {q : Mat ℤ} (D : Mat ℤ) → Unimodular q → inversion · D ≡ D · (inverse q · inversion · q)
@@ -157,11 +152,3 @@ module _ (rotations d : List ℤ) (q : List (List ℤ)) (n : ℕ) (u : Unimodula
       (subst MatrixGroup (sym (joined-map made time (matrices rotations) to-negative to-inversion))
       (transformed m (sides-positive d (input .grid)) u made
       (λ A k. subst (λ D. made A · D ≡ D · (inverse (matrixOf q) · A · matrixOf q)) (grid-is d (input .grid)) (whole-joined time A k))))
-
--- ---- its members are the operations of the class call
-pub joined-operations : (time : Bool) (l : List (Mat ℤ)) (M : Mat ℤ) → (M ∈ joined time l) ↔ Operation time l M
-joined-operations time l M = step (joins time l)
-  where
-    step : (b : Bool) → (M ∈ elim b [ true ↦ l ++ map negate l | false ↦ l ]) ↔ ((M ∈ l) ⊎ (T b × (M ∈ map negate l)))
-    step true = (λ k. ⊎-elim inl (λ j. inr (tt, j)) (append-cases l k), ⊎-elim (append-left (map negate l)) (λ k. append-right l (k .1)))
-    step false = (inl, ⊎-elim (λ k. k) (λ k. absurd (k .0)))

@@ -1,16 +1,15 @@
 -- The squared length of a sum of three image addresses is a finite number of binary64.
-use Prim.Native.Nat.{ℕ, _^_, _≤_}
+use Prim.Native.Nat.{ℕ, _≤_}
 use native.Mathlib.Nat.{le-trans}
 use native.Mathlib.Omega.{arith}
 use lib.Dec.{T, lit≤}
 use lib.IntN.{ℤ, pos, natAbs, _+ℤ_}
-use lib.Pow.{pow-mono}
 use lib.Ieee.{Float, binary64, add, mul, div, ofInt}
 use lib.Ieee.Fits.{add-fits}
 use Rattle.integer.proofs.Size.{abs-add}
 use Rattle.float.specs.Value.{Bounded}
 use Rattle.float.proofs.Whole.{ofInt-whole}
-use Rattle.float.proofs.Bounds.{whole-bounded, div-bounded, whole-at-least}
+use Rattle.float.proofs.Bounds.{div-bounded, whole-at-least}
 use Rattle.common.specs.Matrix.{Axis, X, Y, Z, Vec, Mat, side, entry, mapVec, mapMat, dot, productOver, applyOver}
 use Rattle.common.specs.FloatMatrix.{floats}
 use Rattle.common.specs.Limits.{matrixWithin}
@@ -18,12 +17,9 @@ use Rattle.common.proofs.Matrix.{side-vector, entry-matrix}
 use Rattle.common.proofs.Bounds.{matrix-sizes}
 use Rattle.grgrid.specs.Sides.{GridFits}
 use Rattle.bzsearch.specs.Lattice.{latticeFits}
-use Rattle.bzsearch.proofs.LatticeBounds.{dot-bounded, entry-bounded}
+use Rattle.bzsearch.proofs.LatticeBounds.{dot-bounded, entry-bounded, whole-small}
 use Rattle.bz_triplets.specs.BzTriplets.{lqdInv, squaredDistance, sumOf}
 use Rattle.bz_triplets.proofs.Choosing.{Length}
-
-small-whole : (k : ℕ) (z : ℤ) → natAbs z ≤ 2 ^ k → k ≤ 53 → Bounded k (ofInt binary64 z)
-small-whole k z h l = whole-bounded k (ofInt binary64 z) z (ofInt-whole binary64 z (le-trans h (pow-mono l))) h
 
 -- each number of a sum of three addresses
 pub sum-size : (a b c : Vec ℤ) → ((k : Axis) → natAbs (side a k) ≤ 10000000000000) → ((k : Axis) → natAbs (side b k) ≤ 10000000000000) → ((k : Axis) → natAbs (side c k) ≤ 10000000000000)
@@ -38,7 +34,7 @@ module _ (m : Mat Float) (t : T (latticeFits m)) (q : Mat ℤ) (h : T (matrixWit
   product = productOver floats m (mapMat (ofInt binary64) q)
 
   numbers-bounded : (j k : Axis) → Bounded 10 (entry (mapMat (ofInt binary64) q) j k)
-  numbers-bounded j k = rw (entry-matrix (λ j k. ofInt binary64 (entry q j k)) j k) (small-whole 10 (entry q j k) (le-trans (matrix-sizes 1000 q h j k) (lit≤ tt)) (lit≤ tt))
+  numbers-bounded j k = rw (entry-matrix (λ j k. ofInt binary64 (entry q j k)) j k) (whole-small 10 (entry q j k) (le-trans (matrix-sizes 1000 q h j k) (lit≤ tt)) (lit≤ tt))
 
   product-bounded : (j k : Axis) → Bounded 32 (entry product j k)
   product-bounded j k =
@@ -60,7 +56,7 @@ module _ (m : Mat Float) (t : T (latticeFits m)) (q : Mat ℤ) (h : T (matrixWit
     carried = applyOver floats (lqdInv m q d) column
 
     column-bounded : (k : Axis) → Bounded 45 (side column k)
-    column-bounded k = rw (side-vector (λ k. ofInt binary64 (side g k)) k) (small-whole 45 (side g k) (le-trans (s k) (lit≤ tt)) (lit≤ tt))
+    column-bounded k = rw (side-vector (λ k. ofInt binary64 (side g k)) k) (whole-small 45 (side g k) (le-trans (s k) (lit≤ tt)) (lit≤ tt))
 
     carried-bounded : (k : Axis) → Bounded 79 (side carried k)
     carried-bounded k =

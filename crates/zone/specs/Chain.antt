@@ -6,12 +6,11 @@ use lib.Dec.{eqb}
 use lib.IntN.{ℤ, pos, negsuc}
 use lib.ListN.{replicate}
 use lib.Ieee.{Float, binary64, ofInt}
-use Rattle.common.specs.Array.{sidesOf, matrixOf, matrixAt, rows}
+use Rattle.common.specs.Array.{matrixOf, matrixAt, rows}
 use Rattle.common.specs.Tested.{require, outputOf, after}
 use Rattle.common.specs.declared.Tested.{Tested}
 use Rattle.common.specs.declared.Tested.the-variants.{Accepted, Refused}
 use Rattle.common.specs.declared.Refusal.the-variants.{WrongLength}
-use Rattle.grgrid.specs.Grid.{size}
 use Rattle.snf3x3.specs.declared.Snf.{Snf}
 use Rattle.snf3x3.specs.Snf3x3.{snf3x3}
 use Rattle.snf3x3.specs.Written.{written}
@@ -42,10 +41,6 @@ module _ (matrix : List (List ℤ)) where
 
   abbrev pub change : List (List ℤ)
   change = rows (matrixAt (diagonal .q) 0)
-
-  -- N
-  abbrev pub points : ℕ
-  points = size (sidesOf sides)
 
 -- ---- the chain
 abbrev pub answerFor : Tested → Snf → ℕ → Finished

@@ -1,12 +1,7 @@
 use mathlib.Core.Path.{_≡_, sym, _∙_, ap}
-use native.Mathlib.Nat.{lt-of-le-of-lt}
-use lib.Dec.{T, lit<}
-use lib.IntN.{ℤ, natAbs}
-use lib.Signed.{nonNeg, natAbs-le}
-use mir.Syntax.{w64}
-use mir.Val.{SFits, Fits}
+use lib.IntN.{natAbs}
 use mir.Facts.{toZ-ofZ}
-use Rattle.integer.proofs.Fits.{held}
+use Rattle.integer.proofs.Fits.{held-natural}
 use Rattle.common.specs.Array.{vectorOf}
 use Rattle.grgrid.specs.Sides.{sides}
 use Rattle.bzgrid.specs.declared.GridType.{GridType}
@@ -16,9 +11,6 @@ use Rattle.bz_triplets.proofs.point_of.Statement.{statement}
 use Rattle.bz_triplets.proofs.point_of.Tie as tie
 
 -- q0 is not negative
-cast : {z : ℤ} → SFits w64 z → T (nonNeg z) → T (nonNeg (held z)) × Fits w64 (natAbs (held z))
-cast {z} f t = rw (toZ-ofZ f) (t, record { fits = lt-of-le-of-lt (natAbs-le z (f .sfits)) (lit< tt) })
-
 by-type : (s : tie.Start) {t : GridType} → s .args .t ≡ t →
     pointOf (sides (s .args .g)) t (natAbs (s .args .q0)) (vectorOf (s .args .a0)) ≡ pointOf (sides (s .args .g)) (s .args .t) (natAbs (s .args .q0)) (vectorOf (s .args .a0))
 by-type s e = ap (λ t. pointOf (sides (s .args .g)) t (natAbs (s .args .q0)) (vectorOf (s .args .a0))) (sym e)
@@ -27,7 +19,7 @@ enum-told : tie.Need-enum-told
 enum-told c = search needs
 
 cast-result : tie.Need-cast-result
-cast-result c = let s = c .before .before in cast (s .fits .q0) (s .pre .1)
+cast-result c = let s = c .before .before in held-natural (s .fits .q0) (s .pre .1)
 
 enum-told-2 : tie.Need-enum-told-2
 enum-told-2 c = search needs
@@ -39,7 +31,7 @@ enum-told-3 : tie.Need-enum-told-3
 enum-told-3 c = search needs
 
 cast-result-2 : tie.Need-cast-result-2
-cast-result-2 c = let s = c .before .before in cast (s .fits .q0) (s .pre .1)
+cast-result-2 c = let s = c .before .before in held-natural (s .fits .q0) (s .pre .1)
 
 returns : tie.Need-returns
 returns c = let s = c .before .before in ap natAbs (toZ-ofZ (s .fits .q0)) ∙ by-type s (c .enum-told .given .1)

@@ -6,10 +6,11 @@ use Rattle.bztable.specs.Reading.{Read, got}
 use Rattle.bz_triplets.specs.Choosing.{start, nested}
 use Rattle.bz_triplets.specs.BzTriplets.{State, tryAt, chosen}
 use Rattle.bz_triplets.specs.TripletsView.{tripletView, placesIn, walkBy}
-use Rattle.bz_triplets.proofs.ImagePlaces.{three-outside, three-read, blank-fits}
+use Rattle.bz_triplets.proofs.ImagePlaces.{three-outside, three-read}
 use borrow.Author.Needs.{needs}
 use Rattle.bz_triplets.proofs.classes.chosen.Statement.{statement}
 use Rattle.bz_triplets.proofs.classes.chosen.Tie as tie
+use Rattle.bz_triplets.proofs.Walking.{blank-fits}
 
 -- over the images that were read
 abbrev walk : tie.Start → List ℕ → List ℕ → List ℕ → Read State

@@ -7,10 +7,10 @@ use Rattle.bztable.proofs.Finding.{read-failed, read-right}
 use Rattle.triplet_grid.specs.Partner.{third}
 use Rattle.bz_triplets.specs.BzTriplets.{chosen, tripletOf}
 use Rattle.bz_triplets.specs.TripletsView.{tripletView, walkBy}
-use Rattle.bz_triplets.proofs.ImagePlaces.{blank-fits}
 use borrow.Author.Needs.{needs}
 use Rattle.bz_triplets.proofs.classes.triplet_of.Statement.{statement}
 use Rattle.bz_triplets.proofs.classes.triplet_of.Tie as tie
+use Rattle.bz_triplets.proofs.Walking.{blank-fits}
 
 first-of-requires : tie.Need-first-of-requires
 first-of-requires c κs = search needs

@@ -1,21 +1,13 @@
 use mathlib.Core.Path.{_≡_, sym, _∙_, ap}
-use native.Mathlib.Nat.{lt-of-le-of-lt}
-use lib.Dec.{T, lit<}
-use lib.IntN.{ℤ, pos, natAbs}
+use lib.IntN.{pos, natAbs}
 use lib.ListN.{getD}
-use lib.Signed.{nonNeg, natAbs-le}
-use mir.Syntax.{w64}
-use mir.Val.{Fits, SFits}
 use mir.Facts.{toZ-ofZ}
-use Rattle.integer.proofs.Fits.{held}
+use Rattle.integer.proofs.Fits.{held-natural}
 use Rattle.bzgrid.specs.declared.GridType.{GridType}
 use Rattle.zone_steps.specs.Steps.{startOf}
 use borrow.Author.Needs.{needs}
 use Rattle.zone_steps.proofs.grid.start_of.Statement.{statement}
 use Rattle.zone_steps.proofs.grid.start_of.Tie as tie
-
-cast : {z : ℤ} → SFits w64 z → T (nonNeg z) → T (nonNeg (held z)) × Fits w64 (natAbs (held z))
-cast {z} f t = rw (toZ-ofZ f) (t, record { fits = lt-of-le-of-lt (natAbs-le z (f .sfits)) (lit< tt) })
 
 by-type : (s : tie.Start) {t : GridType} → s .args .t ≡ t → startOf t (s .args .map .now) (s .args .q0) ≡ startOf (s .args .t) (s .args .map .now) (s .args .q0)
 by-type s e = ap (λ t. startOf t (s .args .map .now) (s .args .q0)) (sym e)
@@ -28,7 +20,7 @@ enum-told-2 c = search needs
 
 cast-number-at : tie.Need-cast-number-at
 cast-number-at c =
-    let s = c .before .before in cast (s .fits .q0) (s .pre)
+    let s = c .before .before in held-natural (s .fits .q0) (s .pre)
 
 number-at-requires : tie.Need-number-at-requires
 number-at-requires c κs = search needs

@@ -1,7 +1,12 @@
 // A float stands in a line as the two 32-bit words of its bits, the high one first; several, as their
 // count and the words of each.
-ghost use Prim.Native.Nat.{_≤_};
-ghost use lib.ListN.{length};
+ghost use mathlib.Core.Path.{_≡_};
+ghost use Prim.Native.Nat.{_*_, _≤_, min};
+ghost use lib.IntN.{pos, natAbs};
+ghost use lib.Ieee.{binary64, toBits};
+ghost use lib.ListN.{length, getD};
+ghost use Rattle.vectors.specs.Line.{Front};
+use crate::slices;
 
 pub enum Read {
     Float(f64),
@@ -19,44 +24,22 @@ pub fn float_of(high: i64, low: i64) -> Read {
     Read::Malformed
 }
 
-// The same value, a zero's sign too, or both a NaN.
-pub fn same_float(x: f64, y: f64) -> bool {
-    if x == x {
-        return x == y && 1.0 / x == 1.0 / y;
-    }
-    y != y
-}
-
-// Whether the words are x's.
-pub fn is_float(x: f64, high: i64, low: i64) -> bool {
-    let Read::Float(y) = float_of(high, low) else {
-        return false;
-    };
-    same_float(x, y)
-}
-
-// The place after the floats that start at place `at`; the end of n where there are none.
-pub fn after_floats(n: &[i64], at: usize) -> usize
-    ensures { λ r. ⌜ r ≤ length (now (n .entry)) ⌝ }
+// A zero's sign too; one pattern for every NaN.
+pub fn bits_of(x: f64) -> u64
+    ensures { λ r. ⌜ r ≡ toBits binary64 x ⌝ }
 {
-    if at >= n.len() {
-        return n.len();
+    if x != x {
+        return 0x7ff8_0000_0000_0000;
     }
-    let wanted = integer::unsigned_abs(n[at]);
-    let room = (n.len() - at - 1) / 2;
-    if wanted <= room as u64 {
-        return at + 1 + wanted as usize * 2;
-    }
-    n.len()
+    f64::to_bits(x)
 }
 
-// Whether the words are those of as many floats as out has, which are then in it.
-fn floats(words: &[i64], out: &mut [f64]) -> bool {
-    if words.len() != out.len() * 2 {
-        return false;
-    }
+// Reads `count` floats to the front of out.
+fn read_words(words: &[i64], count: usize, out: &mut [f64]) -> bool
+    requires { ⌜ (count * 2 ≤ length (now words)) × (count ≤ length (now out)) ⌝ }
+{
     let mut i = 0;
-    while i < out.len() {
+    while i < count {
         let Read::Float(x) = float_of(words[i * 2], words[i * 2 + 1]) else {
             return false;
         };
@@ -66,26 +49,32 @@ fn floats(words: &[i64], out: &mut [f64]) -> bool {
     true
 }
 
-// Whether as many floats as out has start at place `at`, which are then in it.
+// Whether floats start at place `at` that out has room for; they are then at its front.
 pub fn read_floats(n: &[i64], at: usize, out: &mut [f64]) -> bool {
-    let end = after_floats(n, at);
-    if at >= end {
+    if at >= n.len() {
         return false;
     }
-    floats(&n[at + 1..end], out)
+    let wanted = integer::unsigned_abs(n[at]);
+    let room = (n.len() - at - 1) / 2;
+    if wanted > room as u64 {
+        return false;
+    }
+    if wanted > out.len() as u64 {
+        return false;
+    }
+    read_words(&n[at + 1..], wanted as usize, out)
 }
 
-// Whether the words are those of the floats.
-pub fn are_floats(floats: &[f64], words: &[i64]) -> bool {
-    if words.len() != floats.len() * 2 {
-        return false;
-    }
-    let mut i = 0;
-    while i < floats.len() {
-        if !is_float(floats[i], words[i * 2], words[i * 2 + 1]) {
-            return false;
-        }
-        i += 1;
-    }
-    true
+// How much of `out` is lent for the floats at place `at`.
+pub fn places(n: &[i64], at: usize, out: &[f64]) -> usize
+    ensures { λ r. ⌜ r ≡ min (natAbs (getD (now (n .entry)) at (pos 0))) (length (now (out .entry))) ⌝ }
+    ensures { λ r. ⌜ Front r (now (out .entry)) ⌝ }
+{
+    slices::length_at(n, at, out.len())
+}
+
+// Those at place `at`, which were read to the front of l.
+pub fn front<'a>(l: &'a [f64], n: &'a [i64], at: usize) -> &'a [f64] {
+    let count = places(n, at, l);
+    &l[..count]
 }

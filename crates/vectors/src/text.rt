@@ -2,6 +2,7 @@
 use integer::Checked;
 ghost use Prim.Native.Nat.{_≤_};
 ghost use lib.ListN.{length};
+ghost use Rattle.vectors.specs.Line.{Front};
 
 // The first place of b from place `from` on; the end of s where there is none.
 pub fn find(s: &[u8], from: usize, b: u8) -> usize
@@ -87,28 +88,49 @@ fn number(s: &[u8], at: usize) -> Parsed {
     digits(s, at, false)
 }
 
-pub enum Count {
-    Read(usize),
-    Malformed,
-}
-
-// Reads the numbers of a line, one space between two, into out.
-pub fn numbers(s: &[u8], out: &mut [i64]) -> Count {
+// Reads the numbers of a line, one space between two, to the front of out, and answers how many there
+// are: 0 where it is another line, or out has no room.
+pub fn numbers(s: &[u8], out: &mut [i64]) -> usize
+    ensures { λ r. ⌜ Front r (now (out .exit)) ⌝ }
+{
     let mut n = 0;
     let mut at = 0;
     while n < out.len() {
         let Parsed::Number(v, next) = number(s, at) else {
-            return Count::Malformed;
+            return 0;
         };
         out[n] = v;
         n += 1;
         if s.len() <= next {
-            return Count::Read(n);
+            return n;
         }
         if s[next] != b' ' {
-            return Count::Malformed;
+            return 0;
         }
         at = next + 1;
     }
-    Count::Malformed
+    0
+}
+
+// Whether a case starts at place `at`: the start of a line that is no comment.
+pub fn starts(s: &[u8], at: usize) -> bool {
+    if at >= s.len() {
+        return false;
+    }
+    if s[at] == b'#' {
+        return false;
+    }
+    if at == 0 {
+        return true;
+    }
+    s[at - 1] == b'\n'
+}
+
+// The line that starts at place `at`, without its end.
+pub fn line(s: &[u8], at: usize) -> &[u8] {
+    if at >= s.len() {
+        return &s[..0];
+    }
+    let end = find(s, at, b'\n');
+    &s[at..end]
 }

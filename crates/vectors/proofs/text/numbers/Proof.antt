@@ -1,12 +1,13 @@
+use Rattle.vectors.proofs.Line.{front}
 use mathlib.Core.Path.{_≡_}
-use Prim.Native.Nat.{_-_}
-use lib.ListN.{length}
+use Prim.Native.Nat.{_≤_, _-_}
+use lib.ListN.{length, length-set}
 use borrow.Author.Needs.{needs}
 use Rattle.vectors.proofs.text.numbers.Statement.{statement}
 use Rattle.vectors.proofs.text.numbers.Tie as tie
 
 abbrev Inv-loop : tie.InvT-loop
-Inv-loop s out₀ n₀ at₀ out n at = length out ≡ length out₀
+Inv-loop s out₀ n₀ at₀ out n at = (n ≤ length out₀) × (length out ≡ length out₀)
 
 abbrev μ-loop : tie.MeasureT-loop
 μ-loop s out₀ n₀ at₀ out n at = length out₀ - n
@@ -42,7 +43,8 @@ same-length-2 : tie.Need-same-length-2 Inv-loop μ-loop
 same-length-2 c = search needs
 
 returns-2 : tie.Need-returns-2 Inv-loop μ-loop
-returns-2 c = search needs
+returns-2 c =
+    front _ _ (simp length-set (search needs))
 
 shared-slice-read-if2 : tie.Need-shared-slice-read-if2 Inv-loop μ-loop
 shared-slice-read-if2 c = search needs

@@ -1,0 +1,48 @@
+// Replays the Rust's answers of the calls on grids and rotations: reads the vectors of each function,
+// data/FUNCTION, calls the port's export, and prints how many cases there were and how many differ. One
+// number of data/control is wrong, so that one case of it must differ.
+mod matrices;
+mod outputs;
+
+use vectors::Verdict;
+use vectors::tally::Tally;
+use vectors::text;
+
+fn judge(function: usize, line: &[u8]) -> Verdict {
+    let mut n = [0i64; 4096];
+    let count = text::numbers(line, &mut n);
+    if count < 1 {
+        return Verdict::Unread;
+    }
+    if function <= matrices::SAME_GRID {
+        return matrices::judge(function, &n[..count]);
+    }
+    outputs::judge(function, &n[..count])
+}
+
+fn replay(function: usize, lines: &[u8]) -> Tally {
+    let mut tally = Tally::new();
+    for i in 0..lines.len() {
+        if text::starts(lines, i) {
+            tally = tally.with(judge(function, text::line(lines, i)));
+        }
+    }
+    tally
+}
+
+fn replay_file(function: usize, name: &[u8]) {
+    let mut lines = io::large_buffer();
+    let n = replaying::read_vectors(name, &mut lines);
+    replaying::print(name, replay(function, &lines[..n]));
+}
+
+fn main() {
+    replay_file(outputs::RECIPROCAL_POINT_GROUP, b"reciprocal_point_group");
+    replay_file(outputs::RECIPROCAL_ROTATIONS, b"reciprocal_rotations");
+    replay_file(outputs::IR_GRID_MAP, b"ir_grid_map");
+    replay_file(outputs::ALL_GRID_ADDRESSES, b"all_grid_addresses");
+    replay_file(matrices::SNF3X3, b"snf3x3");
+    replay_file(matrices::SAME_GRID, b"same_grid");
+    replay_file(outputs::TRANSFORM_ROTATIONS, b"transform_rotations");
+    replay_file(outputs::IR_GRID_MAP, b"control");
+}

@@ -1,0 +1,58 @@
+// Replays the Rust's answers of the checked operations and of the functions on f64: reads the vectors of
+// each function, data/FUNCTION, calls the port's export, and prints how many cases there were and how
+// many differ. One number of data/control is wrong, so that one case of it must differ.
+mod checked;
+mod floats;
+
+use vectors::Verdict;
+use vectors::tally::Tally;
+use vectors::text;
+
+fn judge(function: usize, line: &[u8]) -> Verdict {
+    let mut n = [0i64; 8];
+    let count = text::numbers(line, &mut n);
+    if count < 2 {
+        return Verdict::Unread;
+    }
+    if function <= checked::REM {
+        return checked::judge(function, &n[..count]);
+    }
+    floats::judge(function, &n[..count])
+}
+
+fn replay(function: usize, lines: &[u8]) -> Tally {
+    let mut tally = Tally::new();
+    for i in 0..lines.len() {
+        if text::starts(lines, i) {
+            tally = tally.with(judge(function, text::line(lines, i)));
+        }
+    }
+    tally
+}
+
+fn replay_file(function: usize, name: &[u8]) {
+    let mut lines = io::large_buffer();
+    let n = replaying::read_vectors(name, &mut lines);
+    replaying::print(name, replay(function, &lines[..n]));
+}
+
+fn main() {
+    replay_file(checked::ADD, b"checked_add");
+    replay_file(checked::SUB, b"checked_sub");
+    replay_file(checked::MUL, b"checked_mul");
+    replay_file(checked::NEG, b"checked_neg");
+    replay_file(checked::DIV_EUCLID, b"checked_div_euclid");
+    replay_file(checked::REM_EUCLID, b"checked_rem_euclid");
+    replay_file(checked::DIV, b"checked_div");
+    replay_file(checked::REM, b"checked_rem");
+    replay_file(floats::ROUND, b"round");
+    replay_file(floats::FLOOR, b"floor");
+    replay_file(floats::CEIL, b"ceil");
+    replay_file(floats::ABS, b"abs");
+    replay_file(floats::SQRT, b"sqrt");
+    replay_file(floats::TO_I64, b"to_i64");
+    replay_file(floats::NINT, b"nint");
+    replay_file(floats::IS_FINITE, b"is_finite");
+    replay_file(floats::TO_F64, b"to_f64");
+    replay_file(checked::DIV, b"control");
+}

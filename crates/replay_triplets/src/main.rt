@@ -1,0 +1,48 @@
+// Replays the Rust's answers of the calls on triplets: reads the vectors of each function, data/FUNCTION,
+// calls the port's export, and prints how many cases there were and how many differ. One number of
+// data/control is wrong, so that one case of it must differ.
+mod choices;
+mod classes;
+
+use vectors::Verdict;
+use vectors::tally::Tally;
+use vectors::text;
+
+const IR_TRIPLETS_AT_Q: usize = 0;
+
+const BZ_TRIPLETS_AT_Q: usize = 1;
+
+// The point stands first.
+fn judge(function: usize, line: &[u8]) -> Verdict {
+    let mut n = [0i64; 4096];
+    let count = text::numbers(line, &mut n);
+    if count < 1 {
+        return Verdict::Unread;
+    }
+    if function == IR_TRIPLETS_AT_Q {
+        return classes::ir_triplets_at_q(n[0], &n[1..count]);
+    }
+    choices::bz_triplets_at_q(n[0], &n[1..count])
+}
+
+fn replay(function: usize, lines: &[u8]) -> Tally {
+    let mut tally = Tally::new();
+    for i in 0..lines.len() {
+        if text::starts(lines, i) {
+            tally = tally.with(judge(function, text::line(lines, i)));
+        }
+    }
+    tally
+}
+
+fn replay_file(function: usize, name: &[u8]) {
+    let mut lines = io::large_buffer();
+    let n = replaying::read_vectors(name, &mut lines);
+    replaying::print(name, replay(function, &lines[..n]));
+}
+
+fn main() {
+    replay_file(IR_TRIPLETS_AT_Q, b"ir_triplets_at_q");
+    replay_file(BZ_TRIPLETS_AT_Q, b"bz_triplets_at_q");
+    replay_file(BZ_TRIPLETS_AT_Q, b"control");
+}

@@ -1,0 +1,4 @@
+pub mod Same
+pub mod Line
+pub mod Words
+pub mod Matched

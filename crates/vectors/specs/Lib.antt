@@ -1,0 +1,5 @@
+pub mod Same
+pub mod Line
+pub mod Words
+pub mod Matched
+pub mod Counted

@@ -26,7 +26,7 @@ use Rattle.bztable.specs.Rotate.{rotateTests, rotateRead, rotateAnswer}
 use Rattle.bztable.specs.Neighbours.{inputTests as neighbourInput, neighboursRead, neighbourTests, neighboursAnswer, neighboursWritten}
 use Rattle.bztable.proofs.AcceptedCall.{call-accepted}
 use Rattle.answers.specs.Images.{imageLengths, imagesNumber, imagesTold, Held, LengthsFit, BzGridAddressesTold, rotateLengths, rotatedNumber, rotatedTold, RotateTold, neighboursNumber, NeighboursTold}
-use Rattle.answers.proofs.Answers.{stored}
+use Rattle.answers.proofs.Stored.{stored}
 use Rattle.answers.proofs.Lengths.{taken, left, both, three-lengths}
 
 -- ---- outputs of two and of three places

@@ -1,4 +1,4 @@
-pub mod Answers
+pub mod Stored
 pub mod Lengths
 pub mod Copied
 pub mod Grids

@@ -1,4 +1,3 @@
-pub mod Told
 pub mod Grids
 pub mod PointGroupTold
 pub mod Diagonals

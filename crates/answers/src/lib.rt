@@ -17,7 +17,6 @@ pub use images::lattice_at;
 pub use images::rotate_lengths;
 pub use images::tell_lengths;
 pub use images::tell_rotated;
-use integer::Checked;
 pub use recip::tell_group;
 pub use transform::transform_lengths;
 pub use triplets::refuse_classes;
@@ -31,30 +30,6 @@ ghost use lib.IntN.{pos, negsuc};
 ghost use lib.ListN.{length, replicate};
 ghost use Rattle.common.specs.declared.Refusal.the-variants.{WrongLength};
 ghost use Rattle.common.specs.Refusal.{numberOf};
-ghost use Rattle.answers.specs.Told.{Told};
-
-pub fn tell(answer: Checked, out: &mut [i64]) -> i64
-    ensures { λ r. ⌜ Told answer (now (out .entry)) r (now (out .exit)) ⌝ }
-{
-    if out.len() != 1 {
-        common::fill(out, -1);
-        return Refusal::WrongLength.answer();
-    }
-    match answer {
-        Checked::Value(v) => {
-            out[0] = v;
-            0
-        }
-        Checked::Overflow => {
-            out[0] = -1;
-            Refusal::Overflow.answer()
-        }
-        Checked::ZeroDivisor => {
-            out[0] = -1;
-            Refusal::Overflow.answer()
-        }
-    }
-}
 
 // Slices of other lengths: -1 in every place of the four outputs.
 pub fn refuse_four(a: &mut [i64], b: &mut [i64], c: &mut [i64], d: &mut [i64]) -> i64

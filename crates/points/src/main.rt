@@ -11,7 +11,7 @@ fn round(name: &[u8], x: f64) {
     io::write_all(1, b"round ");
     io::write_all(1, name);
     io::write_all(1, b": ");
-    print_number(zone_c::zone_nint(x));
+    print_number(numbers_c::zone_nint(x));
     io::write_all(1, b"\n");
 }
 

@@ -8,11 +8,10 @@ use lib.ListN.{replicate}
 use Rattle.integer.specs.Checked.{pick}
 use Rattle.common.specs.declared.Refusal.the-variants.{WrongLength}
 use Rattle.common.specs.Refusal.{numberOf}
-use Rattle.zone_steps.specs.Steps.{Rooms}
-use Rattle.zone_steps.specs.StepsView.{rooms}
 use Rattle.zone_list.specs.declared.Listing.{Listing}
 use Rattle.zone_list.specs.declared.Listing.the-variants.{Bytes, Refused}
 use Rattle.zone_list.specs.List.{listAnswer, listText}
+use Rattle.zone_list.specs.JobText.{listRooms}
 
 abbrev pub listingNumber : Listing → ℤ
 listingNumber (Bytes n) = pos 0
@@ -26,9 +25,6 @@ listingTold (Refused r) = negsuc 0 ∷ []
 -- a count of bytes of a slice
 pub record BytesFit (a : Listing) : Type 0 where
   pub held : (n : ℕ) → a ≡ Bytes n → n < 0x8000000000000000
-
-abbrev pub listRooms : Rooms
-listRooms = rooms 3072 2305 1024 256 256 768 256 256
 
 -- the answer r and the outputs, which had n and k places
 pub record ZoneListTold (job : List ℕ) (n k : ℕ) (r : ℤ) (text : List ℕ) (told : List ℤ) : Type 0 where

@@ -4,7 +4,8 @@ use zone_list::Listing;
 ghost use mathlib.Core.Path.{_≡_};
 ghost use lib.ListN.{length};
 ghost use Rattle.zone_list.specs.List.{listAnswer, listText};
-ghost use Rattle.zone_c.specs.Lists.{listingNumber, listingTold, BytesFit, listRooms, ZoneListTold};
+ghost use Rattle.zone_list.specs.JobText.{listRooms};
+ghost use Rattle.zone_c.specs.Lists.{listingNumber, listingTold, BytesFit, ZoneListTold};
 
 // In arrays for 256 points and 1,024 images.
 fn list_job(job: &[u8], text: &mut [u8]) -> Listing

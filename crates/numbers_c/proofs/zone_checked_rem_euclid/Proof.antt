@@ -3,9 +3,9 @@ use mir.Facts.{toZ-ofZ}
 use borrow.Author.Needs.{needs}
 use Rattle.integer.specs.Checked.{divided}
 use Rattle.integer.specs.Division.{divEuclid, remEuclid}
-use Rattle.answers.proofs.Answers.{passed-on}
-use Rattle.zone_c.proofs.zone_checked_rem_euclid.Statement.{statement}
-use Rattle.zone_c.proofs.zone_checked_rem_euclid.Tie as tie
+use Rattle.numbers_c.proofs.Answers.{passed-on}
+use Rattle.numbers_c.proofs.zone_checked_rem_euclid.Statement.{statement}
+use Rattle.numbers_c.proofs.zone_checked_rem_euclid.Tie as tie
 
 checked-rem-euclid-requires : tie.Need-checked-rem-euclid-requires
 checked-rem-euclid-requires c κs = search needs

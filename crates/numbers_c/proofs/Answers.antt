@@ -1,7 +1,7 @@
 -- What `tell` answers and leaves, by its branches; b is the output before.
 use mathlib.Core.Path.{_≡_, refl, sym, _∙_, ap}
 use mathlib.Core.List.{List, [], _∷_}
-use Prim.Native.Nat.{ℕ, suc, _<_}
+use Prim.Native.Nat.{_<_}
 use native.Mathlib.Omega.{arith}
 use lib.IntN.{ℤ, pos, negsuc}
 use lib.ListN.{length, replicate, set}
@@ -15,19 +15,8 @@ use Rattle.integer.specs.declared.Checked.{Checked}
 use Rattle.integer.specs.declared.Checked.the-variants.{Value, Overflow, ZeroDivisor}
 use Rattle.common.specs.declared.Refusal.the-variants as refusal
 use Rattle.common.specs.Refusal.{numberOf}
-use Rattle.answers.specs.Told.{checkedAnswer, toldAnswer, told, Told}
-
--- an output of one place
-pub stored : (b : List ℤ) → length b ≡ 1 → (z : ℤ) → set b 0 z ≡ z ∷ []
-stored [] e z = absurd (never e)
-  where
-    never : _≡_ {A = ℕ} 0 1 → ⊥
-    never e = omega arith
-stored (x ∷ []) e z = refl
-stored (x ∷ y ∷ b) e z = absurd (never (length b) e)
-  where
-    never : (n : ℕ) → suc (suc n) ≡ 1 → ⊥
-    never n e = omega arith
+use Rattle.common.proofs.Filled.{filled-more, filled-end}
+use Rattle.numbers_c.specs.Told.{checkedAnswer, toldAnswer, told, Told}
 
 module _ (b : List ℤ) (c : Checked) where
   untold : (length b ≡ 1 → ⊥) → (c : Checked) → replicate (length b) (negsuc 0) ≡ told (length b) c
@@ -42,14 +31,18 @@ module _ (b : List ℤ) (c : Checked) where
   }
 
   module _ (one : length b ≡ 1) where
+    -- a number stored in the one place
+    stored : (v : ℤ) → set b 0 v ≡ replicate (length b) v
+    stored v = filled-end v 1 b (filled-more v 0 b refl (omega (arith, one))) (omega (arith, one)) (omega (arith, one))
+
     pub value-told : {z : ℤ} → c ≡ Value z → Told c b (pos 0) (set b 0 z)
-    value-told {z} e = record { answer = rw (e, one); written = stored b one z ∙ rw (e, one) }
+    value-told {z} e = record { answer = rw (e, one); written = stored z ∙ rw (e, one) }
 
     pub overflow-told : {v : ℤ} → v ≡ negsuc 0 → c ≡ Overflow → Told c b (pos (numberOf refusal.Overflow)) (set b 0 v)
-    overflow-told {v} blank e = record { answer = rw (e, one); written = stored b one v ∙ rw (blank, e, one) }
+    overflow-told {v} blank e = record { answer = rw (e, one); written = stored v ∙ rw (blank, e, one) }
 
     pub zero-divisor-told : {v : ℤ} → v ≡ negsuc 0 → c ≡ ZeroDivisor → Told c b (pos (numberOf refusal.Overflow)) (set b 0 v)
-    zero-divisor-told {v} blank e = record { answer = rw (e, one); written = stored b one v ∙ rw (blank, e, one) }
+    zero-divisor-told {v} blank e = record { answer = rw (e, one); written = stored v ∙ rw (blank, e, one) }
 
 -- an export hands on what `tell` said of the answer of its operation
 pub passed-on : {c d : Checked} {b l : List ℤ} {r : ℤ} → mag r < 0x8000000000000000 → d ≡ c → Told d b r l → Told c b (toZ w64 (ofZ w64 r)) l

@@ -2,8 +2,8 @@ use mathlib.Core.Path.{_∙_, ap}
 use lib.Ieee.{binary64, ofInt}
 use mir.Facts.{toZ-ofZ}
 use borrow.Author.Needs.{needs}
-use Rattle.zone_c.proofs.floats.zone_to_f64.Statement.{statement}
-use Rattle.zone_c.proofs.floats.zone_to_f64.Tie as tie
+use Rattle.numbers_c.proofs.floats.zone_to_f64.Statement.{statement}
+use Rattle.numbers_c.proofs.floats.zone_to_f64.Tie as tie
 
 to-f64-requires : tie.Need-to-f64-requires
 to-f64-requires c κs = search needs

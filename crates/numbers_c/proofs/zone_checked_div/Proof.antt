@@ -3,9 +3,9 @@ use lib.Signed.{quotZ}
 use mir.Facts.{toZ-ofZ}
 use borrow.Author.Needs.{needs}
 use Rattle.integer.specs.Checked.{divided}
-use Rattle.answers.proofs.Answers.{passed-on}
-use Rattle.zone_c.proofs.zone_checked_div.Statement.{statement}
-use Rattle.zone_c.proofs.zone_checked_div.Tie as tie
+use Rattle.numbers_c.proofs.Answers.{passed-on}
+use Rattle.numbers_c.proofs.zone_checked_div.Statement.{statement}
+use Rattle.numbers_c.proofs.zone_checked_div.Tie as tie
 
 checked-div-requires : tie.Need-checked-div-requires
 checked-div-requires c κs = search needs

@@ -3,9 +3,9 @@ use lib.IntN.{negℤ}
 use mir.Facts.{toZ-ofZ}
 use borrow.Author.Needs.{needs}
 use Rattle.integer.specs.Checked.{checked}
-use Rattle.answers.proofs.Answers.{passed-on}
-use Rattle.zone_c.proofs.zone_checked_neg.Statement.{statement}
-use Rattle.zone_c.proofs.zone_checked_neg.Tie as tie
+use Rattle.numbers_c.proofs.Answers.{passed-on}
+use Rattle.numbers_c.proofs.zone_checked_neg.Statement.{statement}
+use Rattle.numbers_c.proofs.zone_checked_neg.Tie as tie
 
 checked-neg-requires : tie.Need-checked-neg-requires
 checked-neg-requires c κs = search needs

@@ -3,9 +3,9 @@ use lib.Signed.{quotZ, remZ}
 use mir.Facts.{toZ-ofZ}
 use borrow.Author.Needs.{needs}
 use Rattle.integer.specs.Checked.{divided}
-use Rattle.answers.proofs.Answers.{passed-on}
-use Rattle.zone_c.proofs.zone_checked_rem.Statement.{statement}
-use Rattle.zone_c.proofs.zone_checked_rem.Tie as tie
+use Rattle.numbers_c.proofs.Answers.{passed-on}
+use Rattle.numbers_c.proofs.zone_checked_rem.Statement.{statement}
+use Rattle.numbers_c.proofs.zone_checked_rem.Tie as tie
 
 checked-rem-requires : tie.Need-checked-rem-requires
 checked-rem-requires c κs = search needs

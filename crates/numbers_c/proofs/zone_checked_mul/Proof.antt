@@ -3,9 +3,9 @@ use lib.IntN.{_*ℤ_}
 use mir.Facts.{toZ-ofZ}
 use borrow.Author.Needs.{needs}
 use Rattle.integer.specs.Checked.{checked}
-use Rattle.answers.proofs.Answers.{passed-on}
-use Rattle.zone_c.proofs.zone_checked_mul.Statement.{statement}
-use Rattle.zone_c.proofs.zone_checked_mul.Tie as tie
+use Rattle.numbers_c.proofs.Answers.{passed-on}
+use Rattle.numbers_c.proofs.zone_checked_mul.Statement.{statement}
+use Rattle.numbers_c.proofs.zone_checked_mul.Tie as tie
 
 checked-mul-requires : tie.Need-checked-mul-requires
 checked-mul-requires c κs = search needs

@@ -1,10 +1,10 @@
 use mathlib.Core.Path.{refl}
 use native.Mathlib.Omega.{arith}
 use mir.Facts.{toZ-ofZ}
-use Rattle.answers.proofs.Answers.{wrong-length, value-told, overflow-told, zero-divisor-told}
+use Rattle.numbers_c.proofs.Answers.{wrong-length, value-told, overflow-told, zero-divisor-told}
 use borrow.Author.Needs.{needs}
-use Rattle.answers.proofs.tell.Statement.{statement}
-use Rattle.answers.proofs.tell.Tie as tie
+use Rattle.numbers_c.proofs.tell.Statement.{statement}
+use Rattle.numbers_c.proofs.tell.Tie as tie
 
 fill-requires : tie.Need-fill-requires
 fill-requires c κs = search needs

@@ -85,7 +85,7 @@ accepted b =
       q0 = pos (h .q0);
     }
 
--- -1 in every place, also of the lattice
+-- every number is -1, also in the lattice, but the count is 0 and both flags are false
 abbrev pub refused : Job
 refused =
     record {

@@ -7,7 +7,7 @@ ghost use Prim.Native.Nat.{_+_, _*_, _^_, _≤_, _<_};
 ghost use lib.ListN.{length};
 ghost use Rattle.job.specs.Job.{littleEndian, word, signed, float, signedWords, floats, header, sectionFits, numbersFit, sectionsFit, jobFits, jobOf, rotationsWritten, accepted, refused};
 
-// A job as it was read, `count` rotations standing beside it, or its refusal: then -1 in every place.
+// A job as it was read, `count` rotations standing beside it, or its refusal: then every number is -1, but `count` is 0 and both flags are false.
 pub struct Job {
     pub tested: Tested,
     pub a: [i64; 9],

@@ -192,7 +192,7 @@ module _ (j : Job) (r : Rooms) (d : Vec ℤ) (p q : Mat ℤ) (rounds : ℕ) (dia
         subst (λ z. Starts (gridType (j .type)) m (pointsOf g) (natAbs (j .q0)) (natAbs (startOf (gridType (j .type)) m z))) (sym q0-is)
         (starts-at (gridType (j .type)) (call .input .known) m (pointsOf g) (natAbs (j .q0)) (subst (λ l. 0 < length (imagePlaces (gridType (j .type)) l (pointsOf g) (natAbs (j .q0)))) (sym map-to) some-place))
 
-    calls : Calls
+    pub calls : Calls
     calls = record {
       list = j .rotations;
       matrix = j .matrix;
@@ -233,6 +233,17 @@ module _ (j : Job) (r : Rooms) (d : Vec ℤ) (p q : Mat ℤ) (rounds : ℕ) (dia
       chooses = subst (λ z. bzTripletsAnswer z a m (classMap g) (items d) (rows q) (j .lattice) (j .type) (count g * 3) (count g) (count g) ≡ triplet-answer.Written) start-is chooses;
       chooses-to = triplets-to;
     }
+
+    -- what the calls left, by the definitions of the steps
+    pub record Left : Type 0 where
+      pub sides-are : calls .d ≡ d
+      pub room-is : calls .rooms .z ≡ r .grg
+      pub classes-are : calls .classes ≡ classMap g
+      pub triplets-are : calls .triplets ≡ triplets g a m
+
+    pub calls-left : Left
+    unfolding calls
+    calls-left = record { sides-are = refl; room-is = refl; classes-are = refl; triplets-are = refl }
 
     finished-calls : {x y z : List ℤ} {l : Lists} → Listed g (j .shift) r x y z l → FinishedChain j x y l (r .classes)
     unfolding gridLists listsOf calls

@@ -3,11 +3,11 @@ use mathlib.Core.Path.{_≡_, refl, sym, _∙_, ap, ap₂, subst}
 use mathlib.Core.Logic.{⊎-elim, _↔_}
 use mathlib.Core.Bool.{false}
 use mathlib.Core.List.{List, map, Memᴰ·append-right as append-right}
-use Prim.Native.Nat.{ℕ, _<_}
+use Prim.Native.Nat.{ℕ, _<_, _≤_}
 use native.Mathlib.Omega.{arith}
 use lib.Dec.{T}
 use lib.IntN.{ℤ, pos, natAbs}
-use lib.ListN.{length, getD, length-map, List·getD-map}
+use lib.ListN.{length, getD, List·getD-map}
 use Rattle.common.specs.Matrix.{Mat}
 use Rattle.common.specs.Array.{items, rows, matrixOf, matrices}
 use Rattle.common.specs.Limits.{diagonalFits}
@@ -37,6 +37,7 @@ use Rattle.triplet_grid.specs.IrTriplets as classing
 use Rattle.triplet_grid.specs.declared.IrTriplets.the-variants as class
 use Rattle.triplet_grid.proofs.Joining.{Meets, joined-meets}
 use Rattle.triplet_grid.proofs.Stabilizer.{Operation, carries-equiv, carries-partner, swapped-classes, joined-operations}
+use Rattle.triplet_grid.proofs.Swapping.{length-triplets, classes-low, triplets-low}
 use Rattle.triplet_grid.proofs.Outcome as outcome
 use Rattle.bz_triplets.proofs.Rising.{Rising, own-rising, own-each}
 use Rattle.zone.specs.FinishedList.{Calls, grid, points, number, carries, partnerOf, Class, lowestPoints}
@@ -88,6 +89,19 @@ module _ (c : Calls) where
   number-is : (p : ℕ) → number c p ≡ pos (getD numbers p 0)
   number-is p = ap (λ l. getD l p (pos 0)) classes-are ∙ List·getD-map pos numbers p 0
 
+  -- ---- of any list
+  pub every-number : length (c .classes) ≡ points c
+  every-number = length-triplets (c .swappable) (grid c) (c .q0) (classesAt (c .q0) (grid c) (matrices (c .transformed)) (c .timeReversal)) classes-are
+
+  pub number-low : (p : ℕ) → p < points c → (n : ℕ) × (number c p ≡ pos n) × (n ≤ p)
+  number-low p h =
+      let here = classesAt (c .q0) (grid c) (matrices (c .transformed)) (c .timeReversal) in
+      (getD numbers p 0, number-is p, triplets-low (c .swappable) (grid c) (c .q0) here (classes-low (c .q0) (grid c) (matrices (c .transformed)) (c .timeReversal)) p h)
+
+  pub lowest-rise : Rising (lowestPoints c)
+  lowest-rise = own-rising (c .classes) (length (c .classes))
+
+  -- ---- of a group
   module _ (g : MatrixGroup (joined (c .timeReversal) (matrices (c .list)))) where
     change : Unimodular (matrixOf (rows (c .q)))
     change = diagonalised-right (matrixOf (c .matrix)) (c .d) (c .p) (c .q) (c .rounds) (c .diagonalises) .unimodular-q
@@ -120,9 +134,6 @@ module _ (c : Calls) where
     classified = swapped-classes (grid c) sides group members acts (c .q0) q0-inside (c .swappable)
 
     -- ---- the laws
-    pub every-number : length (c .classes) ≡ points c
-    every-number = ap length classes-are ∙ length-map numbers pos ∙ classified .full
-
     pub one-number : (p q : ℕ) → p < points c → q < points c → (number c p ≡ number c q) ↔ Meets (c .swappable) (carries c) (partnerOf c) p q
     one-number p q h k =
         let one = classified .one-number p q h k in
@@ -133,9 +144,6 @@ module _ (c : Calls) where
 
     pub lowest-number : (p : ℕ) → p < points c → (r : ℕ) × (number c p ≡ pos r) × Least (Class c p) r
     lowest-number p h = (getD numbers p 0, number-is p, classified .lowest p h)
-
-    pub lowest-rise : Rising (lowestPoints c)
-    lowest-rise = own-rising (c .classes) (length (c .classes))
 
     pub lowest-each : OneEach (points c) (Class c) (lowestPoints c)
     lowest-each = subst (OneEach (points c) (Class c)) (ap₂ ownPoints (sym classes-are) (sym every-number)) (own-each classified)

@@ -8,8 +8,8 @@ use Rattle.recip_rotations.proofs.Told.{joined-group}
 
 pub finished-list : (c : Calls) → Demand3 c
 finished-list c g =
-    let t = finished-triplets c (every-number c g) in
-    record { full = every-number c g; same-number = one-number c g; lowest = lowest-number c g; rising = lowest-rise c g; one-each = lowest-each c g; as-many = t .0; best = t .1 }
+    let t = finished-triplets c (every-number c) in
+    record { full = every-number c; same-number = one-number c g; lowest = lowest-number c g; rising = lowest-rise c; one-each = lowest-each c g; as-many = t .0; best = t .1 }
 
 -- where the list itself meets the conditions
 pub finished-list-of-group : (c : Calls) → MatrixGroup (matrices (c .list)) → FinishedList c

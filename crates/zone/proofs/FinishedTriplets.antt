@@ -2,11 +2,12 @@
 use mathlib.Core.Path.{_≡_, refl, sym, _∙_, ap, subst}
 use mathlib.Core.List.{List}
 use Prim.Native.Nat.{ℕ, _*_, _<_, _≤_}
-use lib.Dec.{T}
+use lib.Dec.{T, leb, leb→le}
 use lib.IntN.{ℤ, pos, natAbs}
 use lib.Ieee.{lt, le}
 use lib.ListN.{length, getD, length-map}
 use Rattle.integer.specs.Same.{same}
+use Rattle.integer.proofs.Test.{and-r}
 use Rattle.integer.proofs.Same.{same-eq}
 use Rattle.float.specs.Value.{zeroF}
 use Rattle.common.specs.Matrix.{Axis, X, Y, Z, Vec, side, vector, mapVec, origin}
@@ -58,6 +59,9 @@ module _ (c : Calls) where
   stands : Stands kind (search c) (c .addresses) (c .map) (grgWritten (items (c .d)) (rows (c .q)) (c .shift) (c .lattice) (c .type) (c .rooms .x) (c .rooms .y) (c .rooms .z)) (c .lengths .grg)
   stands = rw (c .builds-addresses, c .builds-map) (call-stands built)
 
+  pub images-room : c .lengths .grg ≤ c .rooms .z
+  images-room = leb→le (c .lengths .grg) (c .rooms .z) (and-r (leb (c .lengths .map) (c .rooms .y)) _ (and-r (leb (c .lengths .addresses) (c .rooms .x)) _ (built .room)))
+
   sound : Sound (search c)
   sound = call-sound built
 
@@ -87,6 +91,10 @@ module _ (c : Calls) where
     trio-inside X = q0-inside
     trio-inside Y = h
     trio-inside Z = partner-inside (grid c) (sound .sides) (c .q0) q0-inside q1
+
+    -- image indices lie in the tables
+    pub best-inside : {i : Vec ℕ} → Best c q1 i → (k : Axis) → side i k < c .lengths .grg
+    best-inside b k = stands .inside (side (trio c q1) k) (trio-inside k) (b .stands k)
 
     abbrev lists : Vec (List ℕ)
     lists = mapVec places (trio c q1)

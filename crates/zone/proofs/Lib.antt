@@ -8,3 +8,4 @@ pub mod FinishedList
 pub mod Example
 pub mod ChainWhole
 pub mod ChainFinished
+pub mod ChainNumbers

@@ -35,10 +35,11 @@ fn count_classes(d: [i64; 3], classes: &[i64]) -> Finished
     requires { ⌜ length (now classes) < 9223372036854775808 ⌝ }
     ensures { λ f. ⌜ f ≡ finishedWith d (ownPlaces (now (classes .entry)) (length (now (classes .entry)))) ⌝ }
 {
+    let num_ir = grgrid::own_places(classes) as i64;
     Finished {
         tested: Tested::Accepted,
-        d: d,
-        num_ir: grgrid::own_places(classes) as i64,
+        d,
+        num_ir,
     }
 }
 

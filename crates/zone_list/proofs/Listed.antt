@@ -46,8 +46,11 @@ use Rattle.zone.proofs.ChainWhole.{rooms-agreed}
 use Rattle.zone_list.specs.List.{chainJob, afterReading, textOf, answerFor, textFor, printTests, printAnswer, printText, finished, text, listTests, listAnswer, listText, listAddresses, listMap, listGrg, listLists, Whole, Ran}
 
 -- the end of a part that begins at 0
-whole : (k : ℕ) → k - 0 ≡ k
+pub whole : (k : ℕ) → k - 0 ≡ k
 whole k = omega arith
+
+pub first-places : {k m : ℕ} (l : List ℤ) → k ≡ m → take (k - 0) l ≡ take m l
+first-places {k} l e = ap (λ k. take k l) (whole k ∙ e)
 
 -- ---- a job that was read
 module _ (b : List ℕ) (r : Rooms) where
@@ -74,19 +77,20 @@ module _ (b : List ℕ) (r : Rooms) where
 
     -- as it is handed to the chain, by numbers that stand for the type and q0
     module _ {a : List (List ℤ)} (ea : a ≡ rows (matrixAt (j .a) 0)) {l : List ℤ} (er : l ≡ rotationsWritten b 1728) {lattice : List (List Float)} (el : lattice ≡ rows (floatNine (j .lattice))) {u p : ℤ} (eu : u ≡ j .«grid_type») (ep : p ≡ j .q0) where
-      abbrev given : Job
-      given = job a (take (9 * j .count - 0) l) lattice (pos 0 ∷ pos 0 ∷ pos 0 ∷ []) (j .«time_reversal») (j .swapping) u p
+      abbrev given : List ℤ → Job
+      given shift = job a (take (9 * j .count - 0) l) lattice shift (j .«time_reversal») (j .swapping) u p
 
-      same-job : given ≡ chainJob b
-      unfolding chainJob
-      same-job = λ i. job ((ea ∙ ap (λ j. rows (matrixAt (j .a) 0)) ej) i) (rotations-are er i) ((el ∙ ap (λ j. rows (floatNine (j .lattice))) ej) i) (pos 0 ∷ pos 0 ∷ pos 0 ∷ []) (ej i .«time_reversal») (ej i .swapping) ((eu ∙ ap (λ j. j .«grid_type») ej) i) ((ep ∙ ap (λ j. j .q0) ej) i)
+      module _ {shift : List ℤ} where
+        same-job : shift ≡ pos 0 ∷ pos 0 ∷ pos 0 ∷ [] → given shift ≡ chainJob b
+        unfolding chainJob
+        same-job es = λ i. job ((ea ∙ ap (λ j. rows (matrixAt (j .a) 0)) ej) i) (rotations-are er i) ((el ∙ ap (λ j. rows (floatNine (j .lattice))) ej) i) (es i) (ej i .«time_reversal») (ej i .swapping) ((eu ∙ ap (λ j. j .«grid_type») ej) i) ((ep ∙ ap (λ j. j .q0) ej) i)
 
-      pub job-finished : {f : Finished} → f ≡ chainAnswer given r → f ≡ finished b r
-      unfolding finished
-      job-finished ef = ef ∙ ap (λ j. chainAnswer j r) same-job ∙ sym (ap (λ t. afterReading t (chainAnswer (chainJob b) r)) was-accepted)
+        pub job-finished : {f : Finished} → f ≡ chainAnswer (given shift) r → shift ≡ pos 0 ∷ pos 0 ∷ pos 0 ∷ [] → f ≡ finished b r
+        unfolding finished
+        job-finished ef es = ef ∙ ap (λ j. chainAnswer j r) (same-job es) ∙ sym (ap (λ t. afterReading t (chainAnswer (chainJob b) r)) was-accepted)
 
-      pub job-ran : {x y z : List ℤ} {l : Lists} → x ≡ chainAddresses given r → y ≡ chainMap given r → z ≡ chainGrg given r → l ≡ chainLists given r → Ran (chainJob b) r x y z l
-      job-ran ex ey ez el = record { addresses-are = ex ∙ ap (λ j. chainAddresses j r) same-job; map-is = ey ∙ ap (λ j. chainMap j r) same-job; grg-is = ez ∙ ap (λ j. chainGrg j r) same-job; lists-are = el ∙ ap (λ j. chainLists j r) same-job }
+        pub job-ran : {x y z : List ℤ} {l : Lists} → x ≡ chainAddresses (given shift) r → y ≡ chainMap (given shift) r → z ≡ chainGrg (given shift) r → l ≡ chainLists (given shift) r → shift ≡ pos 0 ∷ pos 0 ∷ pos 0 ∷ [] → Ran (chainJob b) r x y z l
+        job-ran ex ey ez el es = let e = same-job es in record { addresses-are = ex ∙ ap (λ j. chainAddresses j r) e; map-is = ey ∙ ap (λ j. chainMap j r) e; grg-is = ez ∙ ap (λ j. chainGrg j r) e; lists-are = el ∙ ap (λ j. chainLists j r) e }
 
 -- ---- the number of classes of a whole list, as it is held
 module _ {f : Finished} {m n : ℕ} (w : Whole f m n) where
@@ -120,22 +124,23 @@ module _ (f : Finished) (classes triplets : List ℤ) (n : ℕ) where
       let t = textOf f classes triplets in
       (sym (ap (λ s. answerFor (after s (require (leb (length t) n) WrongLength Accepted)) (length t)) e), el ∙ sym (ap (λ s. textFor (after s (require (leb (length t) n) WrongLength Accepted)) t n) e))
 
-  -- by what stands for the number of points and of classes
-  module _ (e : f .tested ≡ Accepted) {m : ℕ} (em : m ≡ size (sidesOf (f .d))) {u : ℤ} (eu : u ≡ f .«num_ir») where
-    abbrev written : List ℕ
-    written = listing (f .d) (take (m - 0) classes) u (take (natAbs u * 3 - 0) triplets)
+  -- by what stands for the number of classes, and what is printed of the class map
+  module _ (e : f .tested ≡ Accepted) {u : ℤ} (eu : u ≡ f .«num_ir») where
+    abbrev written : List ℤ → List ℕ
+    written points = listing (f .d) points u (take (natAbs u * 3 - 0) triplets)
 
-    same-text : written ≡ textOf f classes triplets
+    same-text : {points : List ℤ} → points ≡ take (size (sidesOf (f .d))) classes → written points ≡ textOf f classes triplets
     unfolding textOf
-    same-text = λ i. listing (f .d) (take ((whole m ∙ em) i) classes) (eu i) (take ((whole (natAbs u * 3) ∙ ap (λ u. natAbs u * 3) eu) i) triplets)
+    same-text ec = λ i. listing (f .d) (ec i) (eu i) (take ((whole (natAbs u * 3) ∙ ap (λ u. natAbs u * 3) eu) i) triplets)
 
-    pub print-accepted : {p : Printed} {l : List ℕ} → p ≡ printedAnswer written n → l ≡ printed written n → (listingOf p ≡ printAnswer f (textOf f classes triplets) n) × (l ≡ printText f (textOf f classes triplets) n)
+    pub print-accepted : {points : List ℤ} {p : Printed} {l : List ℕ} → p ≡ printedAnswer (written points) n → l ≡ printed (written points) n → points ≡ take (size (sidesOf (f .d))) classes
+        → (listingOf p ≡ printAnswer f (textOf f classes triplets) n) × (l ≡ printText f (textOf f classes triplets) n)
     unfolding printAnswer printText printTests printedAnswer printed
-    print-accepted ep el =
+    print-accepted ep el ec =
         let t = textOf f classes triplets in
         let s : Tested → Tested = (λ x. after x (require (leb (length t) n) WrongLength Accepted)) in (
-          ap listingOf (ep ∙ ap (λ t. printedAnswer t n) same-text) ∙ answered (leb (length t) n) (length t) ∙ sym (ap (λ x. answerFor (s x) (length t)) e),
-          el ∙ ap (λ t. printed t n) same-text ∙ kept (leb (length t) n) t refl ∙ sym (ap (λ x. textFor (s x) t n) e),
+          ap listingOf (ep ∙ ap (λ t. printedAnswer t n) (same-text ec)) ∙ answered (leb (length t) n) (length t) ∙ sym (ap (λ x. answerFor (s x) (length t)) e),
+          el ∙ ap (λ t. printed t n) (same-text ec) ∙ kept (leb (length t) n) t refl ∙ sym (ap (λ x. textFor (s x) t n) e),
         )
       where
         answered : (t : Bool) (k : ℕ) → listingOf (pick t (print.Bytes k) print.NoRoom) ≡ answerFor (require t WrongLength Accepted) k
@@ -180,7 +185,7 @@ few-classes : (g : Grid) → count g ≤ pointsOf g
 few-classes g = subst (λ k. ownPlaces (classMap g) (length (classMap g)) ≤ k) (length-classes g) (own-few (classMap g) (length (classMap g)))
 
 module _ (j : Job) (r : Rooms) where
-  whole-chain : chainTests j r ≡ Accepted → Whole (chainAnswer j r) (r .classes) (r .triplets)
+  pub whole-chain : chainTests j r ≡ Accepted → Whole (chainAnswer j r) (r .classes) (r .triplets)
   unfolding chainAnswer chainTests gridTests gridOf
   whole-chain e =
       let a = passed (roomsAgree r) WrongLength _ e in
@@ -203,14 +208,14 @@ module _ (j : Job) (r : Rooms) where
       go (Refused r) e = absurd (not-accepted e)
 
 -- ---- a job that is listed
-refusal-of : (t : Tested) (k : ℕ) {x : Refusal} → answerFor t k ≡ answer.Refused x → t ≡ Refused x
+pub refusal-of : (t : Tested) (k : ℕ) {x : Refusal} → answerFor t k ≡ answer.Refused x → t ≡ Refused x
 refusal-of Accepted k e = absurd (let z : _≡_ {A = ℕ} 0 1 = cc in never z)
   where
     never : _≡_ {A = ℕ} 0 1 → ⊥
     never z = omega arith
 refusal-of (Refused r) k e = cc
 
-acceptance-of : (t : Tested) (k : ℕ) {n : ℕ} → answerFor t k ≡ answer.Bytes n → t ≡ Accepted
+pub acceptance-of : (t : Tested) (k : ℕ) {n : ℕ} → answerFor t k ≡ answer.Bytes n → t ≡ Accepted
 acceptance-of Accepted k e = refl
 acceptance-of (Refused r) k e = absurd (let z : _≡_ {A = ℕ} 0 1 = cc in never z)
   where
@@ -218,7 +223,7 @@ acceptance-of (Refused r) k e = absurd (let z : _≡_ {A = ℕ} 0 1 = cc in neve
     never z = omega arith
 
 module _ (b : List ℕ) (r : Rooms) {f : Finished} (ef : f ≡ finished b r) where
-  chain-answered : f .tested ≡ Accepted → (f ≡ chainAnswer (chainJob b) r) × (chainTests (chainJob b) r ≡ Accepted)
+  pub chain-answered : f .tested ≡ Accepted → (f ≡ chainAnswer (chainJob b) r) × (chainTests (chainJob b) r ≡ Accepted)
   unfolding finished
   chain-answered e = go (jobOf b .tested) ef
     where

@@ -10,8 +10,8 @@ use Rattle.zone.proofs.count_classes.Tie as tie
 own-places-requires : tie.Need-own-places-requires
 own-places-requires c κs = search needs
 
-cast-t5 : tie.Need-cast-t5
-cast-t5 c = search needs
+cast-num-ir : tie.Need-cast-num-ir
+cast-num-ir c = search needs
 
 returns : tie.Need-returns
 returns c =
@@ -19,4 +19,4 @@ returns c =
     λ i. record { tested = Accepted; d = c .before .args .d; «num_ir» = e i }
 
 pub count-classes-spec : {M : Type 1} → statement M
-count-classes-spec = tie.close (tie.spec own-places-requires cast-t5 returns)
+count-classes-spec = tie.close (tie.spec own-places-requires cast-num-ir returns)

@@ -3,7 +3,7 @@ use Prim.Native.Nat.{_≤_}
 use lib.ListN.{length}
 use Rattle.grgrid.specs.Grid.{size}
 use Rattle.grgrid.proofs.Accepted.{grid-fits}
-use Rattle.zone_list.proofs.Listed.{listingOf, count-natural, count-small, count-room, held-count, print-refused, print-accepted}
+use Rattle.zone_list.proofs.Listed.{first-places, listingOf, count-natural, count-small, count-room, held-count, print-refused, print-accepted}
 use borrow.Author.Needs.{needs}
 use Rattle.zone_list.proofs.print_finished.Statement.{statement}
 use Rattle.zone_list.proofs.print_finished.Tie as tie
@@ -82,7 +82,8 @@ returns-2 c =
     let s = c .before .before .before .before .before .before .before .before .before .before .before .before .before .before .before .before .before .before in
     let e = c .before .before .before .before .before .before .before .before .before .before .before .before .before .before .before .enum-told .given .1 in
     let p = c .before .before .before .before .before .print-listing .ensures in
-    let r = print-accepted (s .args .f) (s .args .classes .now) (s .args .triplets .now) (length (s .args .text .now)) e (c .before .before .before .before .before .before .before .before .before .before .before .before .points .ensures ∙ ap size (c .before .before .before .before .before .before .before .before .before .before .before .before .before .grid-of .ensures)) (held-count (s .pre e)) (p .0) (p .1) in
+    let h = first-places (s .args .classes .now) (c .before .before .before .before .before .before .before .before .before .before .before .before .points .ensures ∙ ap size (c .before .before .before .before .before .before .before .before .before .before .before .before .before .grid-of .ensures)) in
+    let r = print-accepted (s .args .f) (s .args .classes .now) (s .args .triplets .now) (length (s .args .text .now)) e (held-count (s .pre e)) (p .0) (p .1) (search needs) in
     (sym (ap listingOf (c .before .b .given .1)) ∙ r .0, r .1)
 
 same-length-3 : tie.Need-same-length-3
@@ -93,7 +94,8 @@ returns-3 c =
     let s = c .before .before .before .before .before .before .before .before .before .before .before .before .before .before .before .before .before in
     let e = c .before .before .before .before .before .before .before .before .before .before .before .before .before .before .enum-told .given .1 in
     let p = c .before .before .before .before .print-listing .ensures in
-    let r = print-accepted (s .args .f) (s .args .classes .now) (s .args .triplets .now) (length (s .args .text .now)) e (c .before .before .before .before .before .before .before .before .before .before .before .points .ensures ∙ ap size (c .before .before .before .before .before .before .before .before .before .before .before .before .grid-of .ensures)) (held-count (s .pre e)) (p .0) (p .1) in
+    let h = first-places (s .args .classes .now) (c .before .before .before .before .before .before .before .before .before .before .before .points .ensures ∙ ap size (c .before .before .before .before .before .before .before .before .before .before .before .before .grid-of .ensures)) in
+    let r = print-accepted (s .args .f) (s .args .classes .now) (s .args .triplets .now) (length (s .args .text .now)) e (held-count (s .pre e)) (p .0) (p .1) (search needs) in
     (sym (ap listingOf (c .enum-told2 .given .1)) ∙ r .0, r .1)
 
 pub print-finished-spec : {M : Type 1} → statement M

@@ -1,4 +1,4 @@
-use mathlib.Core.Path.{sym, _∙_, ap}
+use mathlib.Core.Path.{refl, sym, _∙_, ap}
 use lib.ListN.{length}
 use Rattle.integer.proofs.Fits.{held-is}
 use Rattle.zone_steps.specs.Steps.{Rooms}
@@ -92,8 +92,8 @@ returns-2 c =
     let b = s .args .bytes .now in
     let eu = held-is (r .result .«grid_type») (search needs) in
     let ep = held-is (r .result .q0) (search needs) in (
-      job-finished b (roomsAt s) (r .ensures .0) e (c .before .before .before .before .before .before .before .before .before .before .before .before .before .before .before .before .before .before .before .before .before .before .before .nested .ensures) (r .ensures .1) (c .before .before .before .before .before .before .before .before .before .before .before .before .before .before .before .before .before .before .before .before .nested2 .ensures) eu ep (f .0),
-      λ _. job-ran b (roomsAt s) (r .ensures .0) e (c .before .before .before .before .before .before .before .before .before .before .before .before .before .before .before .before .before .before .before .before .before .before .before .nested .ensures) (r .ensures .1) (c .before .before .before .before .before .before .before .before .before .before .before .before .before .before .before .before .before .before .before .before .nested2 .ensures) eu ep (f .1 .0) (f .1 .1 .0) (f .1 .1 .1 .0) (f .1 .1 .1 .1 .0),
+      job-finished b (roomsAt s) (r .ensures .0) e (c .before .before .before .before .before .before .before .before .before .before .before .before .before .before .before .before .before .before .before .before .before .before .before .nested .ensures) (r .ensures .1) (c .before .before .before .before .before .before .before .before .before .before .before .before .before .before .before .before .before .before .before .before .nested2 .ensures) eu ep (f .0) refl,
+      λ _. job-ran b (roomsAt s) (r .ensures .0) e (c .before .before .before .before .before .before .before .before .before .before .before .before .before .before .before .before .before .before .before .before .before .before .before .nested .ensures) (r .ensures .1) (c .before .before .before .before .before .before .before .before .before .before .before .before .before .before .before .before .before .before .before .before .nested2 .ensures) eu ep (f .1 .0) (f .1 .1 .0) (f .1 .1 .1 .0) (f .1 .1 .1 .1 .0) refl,
     )
 
 pub run-job-spec : {M : Type 1} → statement M

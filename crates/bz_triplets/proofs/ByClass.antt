@@ -26,8 +26,8 @@ use Rattle.bz_triplets.proofs.Rising.{own-points}
 
 -- ---- the three places of a triplet, one after the other
 pub places-stored : (t : Triplet) (at : ℕ) (out : List ℤ) → at + 3 ≤ length out → {a b c : ℤ} → a ≡ stepPlace (t .step) (t .x) → b ≡ stepPlace (t .step) (t .y) → c ≡ stepPlace (t .step) (t .z)
-    → set (set (set out at a) (at + 1) b) (at + 2) c ≡ take at out ++ (placesOf (stateOf t) ++ drop (at + 3) out)
-places-stored t at out h ea eb ec = (λ i. set (set (set out at (ea i)) (add-one at i) (eb i)) (add-two at i) (ec i)) ∙ go (t .step)
+    → (last : ℕ) → last ≡ at + 2 → set (set (set out at a) (at + 1) b) last c ≡ take at out ++ (placesOf (stateOf t) ++ drop (at + 3) out)
+places-stored t at out h ea eb ec last el = (λ i. set (set (set out at (ea i)) (add-one at i) (eb i)) ((el ∙ add-two at) i) (ec i)) ∙ go (t .step)
   where
     stored : (x y z : ℤ) → set (set (set out at x) (suc at) y) (suc (suc at)) z ≡ take at out ++ ((x ∷ y ∷ z ∷ []) ++ drop (at + 3) out)
     stored x y z = sets-eq (x ∷ y ∷ z ∷ []) out at h ∙ append-assoc (take at out) (x ∷ y ∷ z ∷ []) (drop (at + 3) out)

@@ -249,7 +249,7 @@ fn store_places(out: &mut [i64], at: usize, t: Triplet)
     out[at * 3 + 2] = place_of(s, t.z);
 }
 
-// A triplet for each class that bears the number of its place, from the lowest up; or a read was outside.
+// A triplet for each entry of the class map that equals its own place, from the lowest up; or a read was outside.
 pub fn fill_triplets(
     t: GridType,
     g: Grid,
@@ -277,7 +277,8 @@ pub fn fill_triplets(
                 return false;
             }
             store_places(&mut *out, at, found);
-            left[at] = mark_of(found);
+            let mark = mark_of(found);
+            left[at] = mark;
             left_length[at] = length_of(found);
             at += 1;
         }

@@ -348,10 +348,11 @@ pub fn place_images(addresses: &[i64], m: usize, g: Grid, map: &mut [i64])
     requires { ⌜ GridFits (sides g) ⌝ ∗ ⌜ length (now map) ≡ size (sides g) ⌝ ∗ ⌜ 3 * m ≤ length (now addresses) ⌝ ∗ ⌜ m < 1099511627776 ⌝ }
     ensures { λ _. ⌜ now (map .exit) ≡ placedFlat (sides g) (now (addresses .entry)) m (now (map .entry)) ⌝ }
 {
-    let mut k = 0;
-    while k < m {
+    let mut left = m;
+    while 0 < left {
+        let k = m - left;
         let at = grgrid::grid_index_from_address(common::row_at(addresses, 3 * k), g);
         map[at] = k as i64;
-        k += 1;
+        left -= 1;
     }
 }

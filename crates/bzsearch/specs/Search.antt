@@ -1,4 +1,4 @@
--- The images of a grid point: the addresses that fold to it and are nearest to the origin, up to a tolerance.
+-- The images of a grid point: of the candidates in the Rust's range those under the least squared length found plus the tolerance. All fold to the point.
 use mathlib.Core.Bool.{Bool, true, false, _&&_, _||_}
 use mathlib.Core.List.{List, [], _∷_, _++_, foldl}
 use Prim.Native.Nat.{ℕ, zero, suc, _+_, _-_}
@@ -58,7 +58,7 @@ lengthSquared v = dot floats (side v) (side v)
 unfoldable pub distance : Search → Vec Float → Vec ℤ → Float
 distance s s0 m = lengthSquared (applyOver floats (s .lattice) (moved s0 m))
 
--- ---- the range of m along an axis, which holds every candidate that can lower the least length or be kept
+-- ---- the Rust's range of m along an axis: in f64 it may miss a candidate that would be kept (docs/DIFFERENCES.md)
 pub record Span : Type 0 where
   pub lo : ℤ
   pub hi : ℤ

@@ -225,7 +225,8 @@ impl BzSearch {
         ensures { λ r. ⌜ r ≡ lower (searchOf self) (floatVector s0) least (vectorOf m) ⌝ }
     {
         let x = self.distance(s0, m);
-        if x < least - self.tolerance { x } else { least }
+        let below = least - self.tolerance;
+        if x < below { x } else { least }
     }
 
     fn least_one(self, s0: [f64; 3], m: [i64; 3], rest: bool, least: f64) -> f64

@@ -239,7 +239,7 @@ impl BzSearch {
         length_squared(l, shift(s0, m))
     }
 
-    // Contains every candidate that can lower the least length or be kept.
+    // The Rust's range: in f64 it may miss a candidate that would be kept.
     pub fn search_range(self, s0: [f64; 3]) -> Range
         ensures { λ r. ⌜ rangeView r ≡ searchRange (searchOf self) (floatVector s0) ⌝ }
     {

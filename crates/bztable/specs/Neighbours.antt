@@ -30,7 +30,7 @@ foundOr lo (here i) = i
 foundOr lo nowhere = lo
 
 -- ---- the image at address b
--- type 1: the point itself where the doubled mesh has none
+-- type 1: the point itself where the doubled mesh holds 8 N: an empty place, or image 8 N, which is taken for one
 abbrev pub sparseNeighbour : Vec ℕ → List ℤ → Vec ℤ → Read ℕ
 sparseNeighbour d map b = placeAt map (index (doubled d) b) then λ i. got (pick (eqb i (empty d)) (index d b) i)
 

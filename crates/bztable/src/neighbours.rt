@@ -38,7 +38,8 @@ fn sparse_neighbour(b: [i64; 3], map: &[i64], g: Grid) -> Place
     ensures { λ r. ⌜ placeView r ≡ sparseNeighbour (sides g) (now (map .entry)) (vectorOf b) ⌝ }
     ensures { λ r. ⌜ PlaceBelow 2199023255552 r ⌝ }
 {
-    let at = grgrid::grid_index_from_address(b, bzgrid::doubled(g));
+    let mesh = bzgrid::doubled(g);
+    let at = grgrid::grid_index_from_address(b, mesh);
     let Place::At(i) = reading::place_at(map, at) else {
         return Place::Outside;
     };

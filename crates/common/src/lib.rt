@@ -81,7 +81,7 @@ pub enum Tested {
     Refused(Refusal),
 }
 
-// A refusal leaves -1 in every place of every output.
+// A refusal leaves -1 in every place of every output of whole numbers.
 pub fn fill(out: &mut [i64], v: i64)
     ensures { λ _. ⌜ now (out .exit) ≡ replicate (length (now (out .entry))) v ⌝ }
 {

@@ -138,7 +138,7 @@ difference (small m e p h) fx =
     let u = value-same (cross x y) (cross y x) (c * den y) (value-of (round binary64 false r c) false r c (fraction-value m e r fx R (omega arith) p)) C (omega arith) in
     value-same r 0 c (rounds-exact (sub-rounds binary64 x y tt (floor-whole s .number)) D u (round-fits binary64 false r c)) D (omega arith)
 
-abbrev half : Float
+abbrev pub half : Float
 half = fin false 1 (negsuc 0)
 
 pub round-down : {x : Float} → Small x → T (fits binary64 x) → T (lt (sub binary64 x (floorOf x)) half) → floorOf x ≡ roundOf x

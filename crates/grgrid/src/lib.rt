@@ -250,15 +250,17 @@ pub enum IrGridMap {
     Refused(Refusal),
 }
 
-// The class map: for each point the lowest one of its class.
+// The class map: the first rotation that lands lower gives a point its number, else it keeps its own. proofs/Classes says when that is the lowest of an orbit.
 pub fn ir_grid_map(rotations: &[i64], d: [i64; 3], ps: [i64; 3], map: &mut [i64]) -> IrGridMap
     ensures { λ r. ⌜ r ≡ irGridMapAnswer (now (rotations .entry)) d ps (length (now (map .entry))) ⌝ }
     ensures { λ _. ⌜ now (map .exit) ≡ irGridMapWritten (now (rotations .entry)) d ps (length (now (map .entry))) ⌝ }
 {
-    match map_tests(rotations, d, ps, map.len()) {
+    let places = map.len();
+    match map_tests(rotations, d, ps, places) {
         Tested::Accepted => {
             number_points(rotations, grid_of(d), ps, map);
-            IrGridMap::Classes(own_places(map) as i64)
+            let classes = own_places(map) as i64;
+            IrGridMap::Classes(classes)
         }
         Tested::Refused(r) => {
             common::fill(map, -1);

@@ -83,7 +83,8 @@ fn rounds(s: Triple) -> Snf
             return refuse(Refusal::Overflow);
         }
         if o.done {
-            return answer(finalize::finalize(u), n + 1);
+            let passed = n + 1;
+            return answer(finalize::finalize(u), passed);
         }
         t = u;
         n += 1;

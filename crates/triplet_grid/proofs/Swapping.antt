@@ -1,14 +1,16 @@
 -- A class map as an output holds it; the lower of a number and its partner's; and a turn of the swapped pass.
-use mathlib.Core.Path.{_≡_, sym, _∙_, ap, ap₂}
+use mathlib.Core.Path.{_≡_, refl, sym, _∙_, ap, ap₂, subst}
 use mathlib.Core.Logic.{⊎-elim}
 use mathlib.Core.Bool.{Bool, true, false}
 use mathlib.Core.List.{List, map, map-map, map-id}
-use Prim.Native.Nat.{ℕ, _+_, _<_}
+use Prim.Native.Nat.{ℕ, _+_, _<_, _≤_}
 use native.Mathlib.Nat.{eq-or-lt-of-le}
 use native.Mathlib.Omega.{arith}
 use lib.IntN.{ℤ, pos, natAbs}
 use lib.ListN.{length, getD, set, length-map, List·getD-map}
+use lib.Dec.{ltb}
 use lib.Signed.{ltZ}
+use borrow.Author.Tests.{ltb-true}
 use Rattle.integer.specs.Checked.{pick}
 use Rattle.common.specs.Matrix.{Vec, Mat, origin}
 use Rattle.common.specs.Array.{vectorOf, items}
@@ -36,6 +38,10 @@ numbered d ps ms e =
 pub classes-numbered : (q0 : ℕ) (d : Vec ℕ) (ms : List (Mat ℤ)) (time : Bool) {l : List ℤ} → l ≡ map pos (classesAt q0 d ms time) → Numbered (size d) l
 unfolding classesAt
 classes-numbered q0 d ms time e = numbered d origin (stabilizer d q0 (pointGroup ms time false)) e
+
+pub classes-low : (q0 : ℕ) (d : Vec ℕ) (ms : List (Mat ℤ)) (time : Bool) (p : ℕ) → p < size d → getD (classesAt q0 d ms time) p 0 ≤ p
+classes-low q0 d ms time p h =
+    subst (λ l. getD l p 0 ≤ p) (numbers-of (classesAt q0 d ms time) refl) (classes-numbered q0 d ms time {l = map pos (classesAt q0 d ms time)} refl .low p h)
 
 pub numbered-at : {n : ℕ} {l : List ℤ} → Numbered n l → (p : ℕ) → getD l p (pos 0) ≡ pos (getD (map natAbs l) p 0)
 numbered-at {n} {l} h p = ap (λ l. getD l p (pos 0)) (h .natural) ∙ List·getD-map pos (map natAbs l) p 0
@@ -75,6 +81,22 @@ module _ (d : Vec ℕ) (q0 : ℕ) {n : ℕ} {l : List ℤ} (c : Numbered n l) wh
 pub plain : (d : Vec ℕ) (q0 : ℕ) (classes : List ℕ) → length classes ≡ size d → mapTriplets false d q0 classes ≡ classes
 unfolding mapTriplets
 plain d q0 classes e = build-list classes 0 (size d) e
+
+lower-low : (a b n : ℕ) → b ≤ n → lowerOf a b ≤ n
+lower-low a b n h = by (ltb a b) refl
+  where
+    by : (t : Bool) → ltb a b ≡ t → pick t a b ≤ n
+    by true e = let l = ltb-true a b e in omega arith
+    by false e = h
+
+-- no number lies above its point
+pub triplets-low : (swappable : Bool) (d : Vec ℕ) (q0 : ℕ) (classes : List ℕ) → ((p : ℕ) → p < size d → getD classes p 0 ≤ p) → (p : ℕ) → p < size d → getD (mapTriplets swappable d q0 classes) p 0 ≤ p
+unfolding mapTriplets
+triplets-low swappable d q0 classes low p h = rw (build-at (λ q1 done. numbersOf swappable d q0 classes q1) 0 (size d) p h) (by swappable)
+  where
+    by : (s : Bool) → numbersOf s d q0 classes p ≤ p
+    by true = lower-low (getD classes (partner d q0 (getD classes p 0)) 0) (getD classes p 0) p (low p h)
+    by false = low p h
 
 module _ (swappable : Bool) (d : Vec ℕ) (q0 : ℕ) (classes : List ℕ) {out : List ℤ} (e : out ≡ map pos (mapTriplets swappable d q0 classes)) where
   pub length-triplets : length out ≡ size d

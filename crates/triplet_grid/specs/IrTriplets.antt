@@ -27,7 +27,7 @@ unfoldable pub mapQ : Vec ℕ → ℕ → List (Mat ℤ) → List ℕ
 unfolding classMap stabilizer
 mapQ d q0 l = classMap d origin (stabilizer d q0 l)
 
--- ---- with swapping, a class and that of its partners become one, under the lower number
+-- ---- with swapping, a point of number r gets the lower of r and the number of r's partner; proofs/Joining says when that makes one class of two
 abbrev pub lowerOf : ℕ → ℕ → ℕ
 lowerOf a b = pick (ltb a b) a b
 

@@ -104,7 +104,7 @@ fn swapped_number(map_q: &[i64], address0: [i64; 3], q1: usize, g: Grid) -> i64
     }
 }
 
-// Swappable case: q1 and q2 can be exchanged. A class is numbered by its lowest point, which comes first.
+// Swappable case: q1 and q2 can be exchanged. A number in `map_q` is the lowest point that bears it, which comes first.
 fn ir_triplets_at_q_perm_q1q2(map_q: &[i64], q0: usize, g: Grid, map_triplets: &mut [i64])
     requires { ⌜ GridFits (sides g) ⌝ ∗ ⌜ q0 < size (sides g) ⌝ ∗ ⌜ Numbered (size (sides g)) (now «map_q») ⌝ ∗ ⌜ (length (now «map_q») ≡ size (sides g)) × (length (now «map_triplets») ≡ size (sides g)) ⌝ }
     ensures { λ _. ⌜ now («map_triplets» .exit) ≡ map pos (mapTriplets true (sides g) q0 (map natAbs (now («map_q» .entry)))) ⌝ }
@@ -114,9 +114,11 @@ fn ir_triplets_at_q_perm_q1q2(map_q: &[i64], q0: usize, g: Grid, map_triplets: &
     while q1 < map_triplets.len() {
         let own = map_q[q1];
         if own == q1 as i64 {
-            map_triplets[q1] = swapped_number(map_q, address0, q1, g);
+            let number = swapped_number(map_q, address0, q1, g);
+            map_triplets[q1] = number;
         } else {
-            map_triplets[q1] = map_triplets[own as usize];
+            let number = map_triplets[own as usize];
+            map_triplets[q1] = number;
         }
         q1 += 1;
     }
@@ -128,8 +130,9 @@ fn ir_triplets_at_q_noperm(map_q: &[i64], map_triplets: &mut [i64])
     ensures { λ _. ⌜ now («map_triplets» .exit) ≡ now («map_q» .entry) ⌝ }
 {
     let mut q1 = 0;
-    while q1 < map_triplets.len() {
-        map_triplets[q1] = map_q[q1];
+    while q1 < map_q.len() {
+        let number = map_q[q1];
+        map_triplets[q1] = number;
         q1 += 1;
     }
 }

@@ -24,7 +24,7 @@ use Rattle.bzgrid.specs.BzGridAddresses.{gridType, padded, bzAnswer, addressesW
 use Rattle.triplet_grid.specs.IrTriplets.{tripletTests, mapTripletsWritten, mapQWritten}
 use Rattle.bz_triplets.specs.BzTriplets.{bzTripletTests, tripletsWritten, leftWritten, leftLengthWritten}
 
--- how many places are lent: for the image tables, and for each class one in `classes`, `points`, `left` and `lengths`, three in `triplets`
+-- how many places are lent: for the image tables, and for each point one in `classes`, `points`, `left` and `lengths`, three in `triplets`
 pub record Rooms : Type 0 where
   pub addresses : ℕ
   pub map : ℕ

@@ -57,7 +57,8 @@ returns c =
     let s = c .before .before .before .before .before .before in
     let n = c .before .before .before .before .loop .n in
     let e = carried (sides (s .args .g)) (s .args .ps) (s .args .rotations .now) (s .args .p) n (c .before .rotated-index .ensures .0) (c .before .before .matrix-at .ensures) (c .before .before .before .before .before .doubled-point .ensures) in
-    e ∙ sym (lower-here (rotate (sides (s .args .g)) (vectorOf (s .args .ps))) (s .args .rotations .now) (s .args .p) n (length (s .args .rotations .now) / 9) (c .before .before .before .loop-test .taken) (rw e at (c .if1 .taken))) ∙ c .before .before .before .before .loop .inv .1
+    let first = e ∙ sym (lower-here (rotate (sides (s .args .g)) (vectorOf (s .args .ps))) (s .args .rotations .now) (s .args .p) n (length (s .args .rotations .now) / 9) (c .before .before .before .loop-test .taken) (rw e at (c .if1 .taken))) ∙ c .before .before .before .before .loop .inv .1 in
+    search needs
 
 add-n : tie.Need-add-n Inv-loop μ-loop
 add-n c = search needs

@@ -17,6 +17,9 @@ use borrow.Author.Needs.{needs}
 use Rattle.grgrid.proofs.ir_grid_map.Statement.{statement}
 use Rattle.grgrid.proofs.ir_grid_map.Tie as tie
 
+tested : (c : tie.After-map-tests) → let a = c .before .args in c .map-tests .result ≡ mapTests (a .rotations .now) (a .d) (a .ps) (length (a .map .now))
+tested c = search needs
+
 map-tests-requires : tie.Need-map-tests-requires
 map-tests-requires c κs = search needs
 
@@ -26,19 +29,19 @@ enum-told c = search needs
 grid-of-requires : tie.Need-grid-of-requires
 grid-of-requires c κs =
     let s = c .before .before .before in
-    map-accepted (s .args .rotations .now) (s .args .d) (s .args .ps) (length (s .args .map .now)) (sym (c .before .before .map-tests .ensures) ∙ c .enum-told .given .1) .grid
+    map-accepted (s .args .rotations .now) (s .args .d) (s .args .ps) (length (s .args .map .now)) (sym (tested (c .before .before)) ∙ c .enum-told .given .1) .grid
 
 number-points-requires : tie.Need-number-points-requires
 number-points-requires c κs =
     let s = c .before .before .before .before .before in
-    let a = map-accepted (s .args .rotations .now) (s .args .d) (s .args .ps) (length (s .args .map .now)) (sym (c .before .before .before .before .map-tests .ensures) ∙ c .before .before .enum-told .given .1) in
+    let a = map-accepted (s .args .rotations .now) (s .args .d) (s .args .ps) (length (s .args .map .now)) (sym (tested (c .before .before .before .before)) ∙ c .before .before .enum-told .given .1) in
     (a .entries, (shift-sized (s .args .ps) (search needs) (a .shift), (rw (c .before .grid-of .ensures) (grid-fits (s .args .d) (a .grid)), a .places ∙ ap size (sym (c .before .grid-of .ensures)))))
 
 own-places-requires : tie.Need-own-places-requires
 own-places-requires c κs = search needs
 
-cast-t16 : tie.Need-cast-t16
-cast-t16 c = search needs
+cast-classes : tie.Need-cast-classes
+cast-classes c = search needs
 
 enum-known-r : tie.Need-enum-known-r
 enum-known-r c = search needs
@@ -56,7 +59,7 @@ returns c =
     let d = sidesOf (s .args .d) in
     let ps = vectorOf (s .args .ps) in
     let ms = matrices (s .args .rotations .now) in
-    let e : Accepted ≡ mapTests (s .args .rotations .now) (s .args .d) (s .args .ps) (length (s .args .map .now)) = sym (sym (c .before .before .before .before .before .before .before .before .map-tests .ensures) ∙ c .before .before .before .before .before .before .enum-told .given .1) in
+    let e : Accepted ≡ mapTests (s .args .rotations .now) (s .args .d) (s .args .ps) (length (s .args .map .now)) = sym (sym (tested (c .before .before .before .before .before .before .before .before)) ∙ c .before .before .before .before .before .before .enum-told .given .1) in
     let w = c .before .before .before .number-points .ensures ∙ ap (λ g. map pos (classMap g ps ms)) (c .before .before .before .before .before .grid-of .ensures) in
     let k = toZ-pos w64 (search needs) ∙ ap pos (c .own-places .ensures .0 ∙ own-classes d ps ms w .1) in
     (ap answer.Classes k ∙ ap (λ t. irGridMap t (classes d ps ms)) e, w ∙ ap (λ t. outputOf t (length (s .args .map .now)) (map pos (classMap d ps ms))) e)
@@ -71,7 +74,7 @@ returns-2 c =
     let d = sidesOf (s .args .d) in
     let ps = vectorOf (s .args .ps) in
     let ms = matrices (s .args .rotations .now) in
-    let e : Refused _ ≡ mapTests (s .args .rotations .now) (s .args .d) (s .args .ps) (length (s .args .map .now)) = sym (sym (c .before .before .before .before .before .before .map-tests .ensures) ∙ c .before .before .before .before .r .given .1) in
+    let e : Refused _ ≡ mapTests (s .args .rotations .now) (s .args .d) (s .args .ps) (length (s .args .map .now)) = sym (sym (tested (c .before .before .before .before .before .before)) ∙ c .before .before .before .before .r .given .1) in
     let w : _ ≡ replicate (length (s .args .map .now)) (negsuc 0) = c .before .fill .ensures in
     (ap (λ t. irGridMap t (classes d ps ms)) e, w ∙ ap (λ t. outputOf t (length (s .args .map .now)) (map pos (classMap d ps ms))) e)
 
@@ -84,7 +87,7 @@ ir-grid-map-spec =
     grid-of-requires
     number-points-requires
     own-places-requires
-    cast-t16
+    cast-classes
     enum-known-r
     fill-requires
     same-length

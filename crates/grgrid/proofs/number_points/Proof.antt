@@ -12,7 +12,7 @@ use Rattle.integer.proofs.Fits.{held-is}
 use Rattle.common.specs.Array.{vectorOf, matrices}
 use Rattle.grgrid.specs.Grid.{size, rotate}
 use Rattle.grgrid.specs.Sides.{sides}
-use Rattle.grgrid.specs.ClassMap.{number, classMap}
+use Rattle.grgrid.specs.ClassMap.{firstLower, number, classMap}
 use Rattle.grgrid.proofs.Built.{written, written-end}
 use Rattle.grgrid.proofs.Numbers.{lower-stored, own-stored}
 use Rattle.grgrid.proofs.number_points.Statement.{statement}
@@ -28,6 +28,10 @@ Inv-loop rotations g ps out₀ p₀ out p =
 abbrev μ-loop : tie.MeasureT-loop
 μ-loop rotations g ps out₀ p₀ out p = length out₀ - p
 
+lower-is : (c : tie.After-first-lower Inv-loop μ-loop)
+    → let a = c .before .before .before .args in c .first-lower .result ≡ firstLower (map (rotate (sides (a .g)) (vectorOf (a .ps))) (matrices (a .rotations .now))) (c .before .before .loop .p)
+lower-is c = search needs
+
 loop-holds : tie.Need-loop-holds Inv-loop μ-loop
 loop-holds c = search needs
 
@@ -40,17 +44,11 @@ mul-out c = search needs
 slice-copy-out-out : tie.Need-slice-copy-out-out Inv-loop μ-loop
 slice-copy-out-out c = search needs
 
-mul-t12 : tie.Need-mul-t12 Inv-loop μ-loop
-mul-t12 c = search needs
-
 slice-set-from-out : tie.Need-slice-set-from-out Inv-loop μ-loop
 slice-set-from-out c = search needs
 
 cast-out : tie.Need-cast-out Inv-loop μ-loop
 cast-out c = search needs
-
-mul-t15 : tie.Need-mul-t15 Inv-loop μ-loop
-mul-t15 c = search needs
 
 slice-set-from-out-2 : tie.Need-slice-set-from-out-2 Inv-loop μ-loop
 slice-set-from-out-2 c = search needs
@@ -68,8 +66,8 @@ loop-again c =
     let gs = map (rotate (sides (s .args .g)) (vectorOf (s .args .ps))) (matrices (s .args .rotations .now)) in (
       search needs,
       ⊎-elim (λ w. ap length (w .2) ∙ (simp length-set) ∙ l .inv .1) (λ w. ap length (w .1) ∙ (simp length-set) ∙ l .inv .1) (c .if1 .came),
-      ⊎-elim (λ w. w .2 ∙ ap (set (l .out) (l .p)) (held-is (getD (l .out) _ (pos 0)) (w .1 .given)) ∙ lower-stored gs (l .p) (search needs) (s .args .out .now) (l .out) (l .inv .2) (search needs) (search needs))
-          (λ w. w .1 ∙ ap (set (l .out) (l .p)) (toZ-pos w64 (search needs)) ∙ own-stored gs (l .p) (c .before .first-lower .ensures) (s .args .out .now) (l .out) (l .inv .2) (search needs) (search needs))
+      ⊎-elim (λ w. w .2 ∙ ap (set (l .out) (l .p)) (held-is (getD (l .out) _ (pos 0)) (w .1 .given)) ∙ lower-stored gs (l .p) (lower-is (c .before)) (s .args .out .now) (l .out) (l .inv .2) (search needs) (search needs))
+          (λ w. w .1 ∙ ap (set (l .out) (l .p)) (toZ-pos w64 (search needs)) ∙ own-stored gs (l .p) (lower-is (c .before)) (s .args .out .now) (l .out) (l .inv .2) (search needs) (search needs))
           (c .if1 .came),
     )
 
@@ -96,10 +94,10 @@ number-points-spec =
     first-lower-requires
     mul-out
     slice-copy-out-out
-    mul-t12
+    (λ c. search needs)
     slice-set-from-out
     cast-out
-    mul-t15
+    (λ c. search needs)
     slice-set-from-out-2
     add-p
     loop-less

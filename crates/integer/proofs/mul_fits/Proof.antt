@@ -24,7 +24,7 @@ returns c =
     let x = c .before .before .before .unsigned-abs .ensures ∙ ap natAbs (toZ-ofZ (s .fits .a)) in
     let y = c .before .unsigned-abs2 .ensures ∙ ap natAbs (toZ-ofZ (s .fits .b)) in
     let p : natAbs (s .args .a) ≤ 0x80000000 = omega arith in
-    let q : natAbs (s .args .b) ≤ 0x80000000 = omega (arith, ltb-true (c .before .unsigned-abs2 .result) 0x80000000 (c .if2 .taken)) in
+    let q : natAbs (s .args .b) ≤ 0x80000000 = omega (arith, ltb-true) in
     small-fits (s .args .a) (s .args .b) (lt-of-le-of-lt (mul-le-mul p q) (lit< tt))
 
 product-fits-requires : tie.Need-product-fits-requires

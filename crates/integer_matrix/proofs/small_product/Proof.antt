@@ -12,8 +12,8 @@ use Rattle.integer_matrix.proofs.small_product.Tie as tie
 returns : tie.Need-returns
 returns c =
     let s = c .before .before in
-    let p : s .args .x ≤ 0x3fffffff = omega (arith, c .before .if1 .taken) in
-    let q : s .args .y ≤ 0x3fffffff = omega (arith, ltb-true (s .args .y) 0x40000000 (c .if2 .taken)) in
+    let p : s .args .x ≤ 0x40000000 = omega (arith, c .before .if1 .taken) in
+    let q : s .args .y ≤ 0x40000000 = omega (arith, ltb-true) in
     sym (le-leb (s .args .x * s .args .y) 3074457345618258602 (le-trans (mul-le-mul p q) (lit≤ tt)))
 
 returns-2 : tie.Need-returns-2

@@ -5,7 +5,7 @@ use Prim.Native.Nat.{ℕ, suc, _+_, _≤_, _-_}
 use native.Mathlib.Omega.{arith}
 use native.Mathlib.Numerals.{add-one}
 use Rattle.snf_steps.specs.Result.{_then_, provided, fitting}
-use Rattle.snf_steps.specs.StagesView.{threeOf, outcomeOf}
+use Rattle.snf_steps.specs.StagesView.{threeOf, tripleOf, outcomeOf}
 use Rattle.snf_steps.specs.Finalize.{finalize}
 use Rattle.snf3x3.specs.Snf3x3.{answer, round, rounds}
 use Rattle.snf3x3.specs.Written.{written}
@@ -46,11 +46,11 @@ returns c =
     let o = r .round .result in
     c .refuse .ensures ∙ sym (ap written (l .inv .2 ∙ left-range (99 - l .n) (l .n) (left r) (threeOf (l .t)) (fitting (o .left .fits)) (o .done) (threeOf (o .left)) (made r) (flag-off (o .left .fits) (c .before .if1 .taken))))
 
+add-passed : tie.Need-add-passed Inv-loop μ-loop
+add-passed c = search needs
+
 finalize-requires : tie.Need-finalize-requires Inv-loop μ-loop
 finalize-requires c κs = search needs
-
-add-answer : tie.Need-add-answer Inv-loop μ-loop
-add-answer c = search needs
 
 answer-requires : tie.Need-answer-requires Inv-loop μ-loop
 answer-requires c κs = search needs
@@ -61,7 +61,8 @@ returns-2 c =
     let l = r .before .before .loop in
     let o = r .round .result in
     let e = flag-on (o .left .fits) (c .before .before .before .if1 .left) in
-    c .answer .ensures ∙ (λ i. written (answer (add-one (l .n) i) ((c .before .finalize .ensures ∙ ap (λ (b : Bool). provided b (threeOf (o .left)) then finalize) e) i)))
+    let told : c .answer .result ≡ written (answer (l .n + 1) (tripleOf (c .before .finalize .result))) = search needs in
+    told ∙ (λ i. written (answer (add-one (l .n) i) ((c .before .finalize .ensures ∙ ap (λ (b : Bool). provided b (threeOf (o .left)) then finalize) e) i)))
     ∙ sym (ap written (l .inv .2 ∙ through (99 - l .n) (l .n) (left r) (threeOf (l .t)) (fitting (o .left .fits)) (o .done) (threeOf (o .left)) (made r) e (c .before .before .if2 .taken)))
 
 add-n : tie.Need-add-n Inv-loop μ-loop
@@ -100,8 +101,8 @@ rounds-spec =
     round-requires
     refuse-requires
     returns
+    add-passed
     finalize-requires
-    add-answer
     answer-requires
     returns-2
     add-n

@@ -58,7 +58,7 @@ returns c =
     let m = matrixAt (s .args .rotations .now) (l .n) in
     let e = c .before .before .before .transform .ensures ∙ ap (λ r. rows (transformOver (floatMatrix (s .args .q-inv)) (floatMatrix (s .args .q)) (floatVector (s .args .d)) (floatMatrix r))) (c .before .before .before .before .rotation-at .ensures) in
     let f = near-whole (g m) e (c .before .before .nint-matrix .ensures) (c .before .all-near .ensures) in
-    (broken g (s .args .rotations .now) (length (s .args .rotations .now) / 9) (l .n) (c .before .before .before .before .before .loop-test .taken) (l .inv .2) (no f (c .if1 .taken)), λ h. absurd (never h))
+    (broken g (s .args .rotations .now) (length (s .args .rotations .now) / 9) (l .n) (search needs) (l .inv .2) (no f (c .if1 .taken)), λ h. absurd (never h))
 
 mul-store : tie.Need-mul-store Inv-loop μ-loop
 mul-store c = search needs
@@ -84,7 +84,7 @@ loop-again c =
     let k = ap (λ k. sets (l .out) (l .n * 9) (entries (matrixOf k) [])) (rounded-rows (g m) e (near .before .nint-matrix .ensures)) in (
       search needs,
       search needs,
-      turned-on g (s .args .rotations .now) (length (s .args .rotations .now) / 9) (l .n) (near .before .before .before .before .loop-test .taken) (l .inv .2) (search needs) (yes f (c .before .before .before .if1 .left)) (c .before .store .ensures ∙ k),
+      turned-on g (s .args .rotations .now) (length (s .args .rotations .now) / 9) (l .n) (search needs) (l .inv .2) (search needs) (yes f (c .before .before .before .if1 .left)) (c .before .store .ensures ∙ k),
     )
 
 same-length-2 : tie.Need-same-length-2 Inv-loop μ-loop
@@ -96,7 +96,8 @@ returns-2 c =
     let l = c .before .loop in
     let g = transformBy (floatMatrix (s .args .q-inv)) (floatMatrix (s .args .q)) (floatVector (s .args .d)) in
     let n = length (s .args .rotations .now) in
-    (all-whole g (s .args .rotations .now) (n / 9) (l .n) (c .loop-test .left) (l .inv .2), λ _. all-listed g (s .args .rotations .now) (n / 9) (l .n) (c .loop-test .left) (l .inv .2) (ended n (l .n) (s .pre .1 .0) (c .loop-test .left) (search needs)))
+    let over : n / 9 ≤ l .n = search needs in
+    (all-whole g (s .args .rotations .now) (n / 9) (l .n) over (l .inv .2), λ _. all-listed g (s .args .rotations .now) (n / 9) (l .n) over (l .inv .2) (ended n (l .n) (s .pre .1 .0) over (search needs)))
 
 pub transform-each-spec : {M : Type 1} → statement M
 transform-each-spec =

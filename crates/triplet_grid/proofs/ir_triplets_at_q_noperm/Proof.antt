@@ -19,17 +19,17 @@ abbrev μ-loop : tie.MeasureT-loop
 loop-holds : tie.Need-loop-holds Inv-loop μ-loop
 loop-holds c = search needs
 
-mul-map-triplets : tie.Need-mul-map-triplets Inv-loop μ-loop
-mul-map-triplets c = search needs
+mul-number : tie.Need-mul-number Inv-loop μ-loop
+mul-number c = search needs
 
-shared-slice-copy-out-map-triplets : tie.Need-shared-slice-copy-out-map-triplets Inv-loop μ-loop
-shared-slice-copy-out-map-triplets c = search needs
+shared-slice-copy-out-number : tie.Need-shared-slice-copy-out-number Inv-loop μ-loop
+shared-slice-copy-out-number c = search needs
 
-mul-t8 : tie.Need-mul-t8 Inv-loop μ-loop
-mul-t8 c = search needs
+mul-number-2 : tie.Need-mul-number-2 Inv-loop μ-loop
+mul-number-2 c = search needs
 
-slice-set-from-map-triplets : tie.Need-slice-set-from-map-triplets Inv-loop μ-loop
-slice-set-from-map-triplets c = search needs
+slice-set-from-number : tie.Need-slice-set-from-number Inv-loop μ-loop
+slice-set-from-number c = search needs
 
 add-q1 : tie.Need-add-q1 Inv-loop μ-loop
 add-q1 c = search needs
@@ -41,7 +41,7 @@ loop-again : tie.Need-loop-again Inv-loop μ-loop
 loop-again c =
     let s = c .before .before .before in
     let l = c .before .before .loop in
-    (search needs, search needs, written-more (λ p done. getD (s .args .map-q .now) p (pos 0)) (λ z. z) (l .q1) (s .args .map-triplets .now) (l .inv .2) (search needs) (held-is _ (c .map-triplets .given)))
+    (search needs, search needs, written-more (λ p done. getD (s .args .map-q .now) p (pos 0)) (λ z. z) (l .q1) (s .args .map-triplets .now) (l .inv .2) (search needs) (held-is _ (c .number .given)))
 
 same-length : tie.Need-same-length Inv-loop μ-loop
 same-length c = search needs
@@ -63,10 +63,10 @@ ir-triplets-at-q-noperm-spec =
     Inv-loop
     μ-loop
     loop-holds
-    mul-map-triplets
-    shared-slice-copy-out-map-triplets
-    mul-t8
-    slice-set-from-map-triplets
+    mul-number
+    shared-slice-copy-out-number
+    mul-number-2
+    slice-set-from-number
     add-q1
     loop-less
     loop-again

@@ -46,11 +46,11 @@ swapped-number-requires c κs =
       (rw (c .before .before .before .before .grid-address-from-index .ensures) (address-sized (sides (s .args .g)) (s .pre .0) (s .args .q0) (s .pre .1 .0)), (search needs, (s .pre .1 .1 .0, s .pre .1 .1 .1 .0))),
     )
 
-mul-t13 : tie.Need-mul-t13 Inv-loop μ-loop
-mul-t13 c = search needs
+mul-number : tie.Need-mul-number Inv-loop μ-loop
+mul-number c = search needs
 
-slice-set-from-map-triplets : tie.Need-slice-set-from-map-triplets Inv-loop μ-loop
-slice-set-from-map-triplets c = search needs
+slice-set-from-number : tie.Need-slice-set-from-number Inv-loop μ-loop
+slice-set-from-number c = search needs
 
 -- the number of q1, as it is held
 number : (c : tie.After-own Inv-loop μ-loop) → let l = c .before .before .before .before .args .map-q .now in let q1 = c .before .before .loop .q1 in
@@ -60,20 +60,20 @@ number c =
     let q1 = c .before .before .loop .q1 in
     (held-is _ (c .own .given) ∙ numbered-at (s .pre .1 .1 .0) q1, s .pre .1 .1 .0 .low q1 (search needs))
 
-cast-map-triplets : tie.Need-cast-map-triplets Inv-loop μ-loop
-cast-map-triplets c = let n = number (c .before) in rw (n .0) (tt, search needs)
+cast-number : tie.Need-cast-number Inv-loop μ-loop
+cast-number c = let n = number (c .before) in rw (n .0) (tt, search needs)
 
-mul-map-triplets : tie.Need-mul-map-triplets Inv-loop μ-loop
-mul-map-triplets c = let n = number (c .before) in rw (n .0) (search needs)
+mul-number-2 : tie.Need-mul-number-2 Inv-loop μ-loop
+mul-number-2 c = let n = number (c .before) in rw (n .0) (search needs)
 
-slice-copy-out-map-triplets : tie.Need-slice-copy-out-map-triplets Inv-loop μ-loop
-slice-copy-out-map-triplets c = let n = number (c .before) in rw (n .0) (search needs)
+slice-copy-out-number : tie.Need-slice-copy-out-number Inv-loop μ-loop
+slice-copy-out-number c = let n = number (c .before) in rw (n .0) (search needs)
 
-mul-t19 : tie.Need-mul-t19 Inv-loop μ-loop
-mul-t19 c = search needs
+mul-number-3 : tie.Need-mul-number-3 Inv-loop μ-loop
+mul-number-3 c = search needs
 
-slice-set-from-map-triplets-2 : tie.Need-slice-set-from-map-triplets-2 Inv-loop μ-loop
-slice-set-from-map-triplets-2 c = search needs
+slice-set-from-number-2 : tie.Need-slice-set-from-number-2 Inv-loop μ-loop
+slice-set-from-number-2 c = search needs
 
 add-q1 : tie.Need-add-q1 Inv-loop μ-loop
 add-q1 c = search needs
@@ -122,13 +122,13 @@ ir-triplets-at-q-perm-q1q2-spec =
     shared-slice-copy-out-own
     cast-if1
     swapped-number-requires
-    mul-t13
-    slice-set-from-map-triplets
-    cast-map-triplets
-    mul-map-triplets
-    slice-copy-out-map-triplets
-    mul-t19
-    slice-set-from-map-triplets-2
+    mul-number
+    slice-set-from-number
+    cast-number
+    mul-number-2
+    slice-copy-out-number
+    mul-number-3
+    slice-set-from-number-2
     add-q1
     loop-less
     loop-again

@@ -105,11 +105,11 @@ store-places-requires c κs =
 mark-of-requires : tie.Need-mark-of-requires Inv-loop μ-loop
 mark-of-requires c κs = tt
 
-mul-t25 : tie.Need-mul-t25 Inv-loop μ-loop
-mul-t25 c = record { fits = omega (arith, few (c .before .before .before .before .before .before .before)) }
+mul-mark : tie.Need-mul-mark Inv-loop μ-loop
+mul-mark c = record { fits = omega (arith, few (c .before .before .before .before .before .before .before)) }
 
-slice-set-from-left : tie.Need-slice-set-from-left Inv-loop μ-loop
-slice-set-from-left c = let t = c .before .before .before .before .before .before .before in omega (arith, below t, t .before .before .before .loop .inv .1 .room .left)
+slice-set-from-mark : tie.Need-slice-set-from-mark Inv-loop μ-loop
+slice-set-from-mark c = let t = c .before .before .before .before .before .before .before in omega (arith, below t, t .before .before .before .loop .inv .1 .room .left)
 
 length-of-requires : tie.Need-length-of-requires Inv-loop μ-loop
 length-of-requires c κs = tt
@@ -179,8 +179,8 @@ fill-triplets-spec =
     returns
     store-places-requires
     mark-of-requires
-    mul-t25
-    slice-set-from-left
+    mul-mark
+    slice-set-from-mark
     length-of-requires
     mul-left-length
     slice-write-left-length

@@ -61,6 +61,7 @@ returns c =
     (held-is (x .place-of .result) (x .place-of .ok) ∙ x .place-of .ensures)
     (held-is (y .place-of2 .result) (y .place-of2 .ok) ∙ y .place-of2 .ensures)
     (held-is (c .place-of3 .result) (c .place-of3 .ok) ∙ c .place-of3 .ensures)
+    _ (search needs)
 
 pub store-places-spec : {M : Type 1} → statement M
 store-places-spec =

@@ -11,7 +11,7 @@ sub-if1 c = search needs
 returns : tie.Need-returns
 returns c =
     let s = c .before .before .before .before .before .args .s in
-    second-test (negsuc 1) (pos 2) (s .lo) (s .hi) (held-is (s .lo) (search needs)) (held-is (s .hi) (search needs)) (c .before .before .if1 .taken)
+    second-test (negsuc 1) (pos 2) (s .lo) (s .hi) (held-is (s .lo) (search needs)) (held-is (s .hi) (search needs)) (search needs)
 
 returns-2 : tie.Need-returns-2
 returns-2 c =

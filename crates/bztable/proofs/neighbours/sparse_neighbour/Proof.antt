@@ -16,8 +16,9 @@ use Rattle.bztable.proofs.neighbours.sparse_neighbour.Tie as tie
 read : (c : tie.After-place-at) → let s = c .before .before .before .args in placeView (c .place-at .result) ≡ placeAt (s .map .now) (index (doubled (sides (s .g))) (vectorOf (s .b)))
 read c =
     let s = c .before .before .before .args in
+    let at : c .before .grid-index-from-address .result ≡ index (sides (c .before .before .doubled .result)) (vectorOf (s .b)) = search needs in
     c .place-at .ensures .0
-    ∙ ap (placeAt (s .map .now)) (c .before .grid-index-from-address .ensures .0 ∙ ap (λ d. index d (vectorOf (s .b))) (c .before .before .doubled .ensures))
+    ∙ ap (placeAt (s .map .now)) (at ∙ ap (λ d. index d (vectorOf (s .b))) (c .before .before .doubled .ensures))
 
 doubled-requires : tie.Need-doubled-requires
 doubled-requires c κs = search needs

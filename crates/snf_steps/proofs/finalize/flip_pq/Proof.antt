@@ -1,4 +1,5 @@
 use mathlib.Core.Path.{_≡_, sym, _∙_, ap}
+use mathlib.Core.Bool.{true, false}
 use lib.IntN.{pos}
 use lib.Signed.{ltZ}
 use Rattle.integer.proofs.Test.{holds}
@@ -52,7 +53,8 @@ returns-2 c =
     let d = c .before .before .before in
     let s = d .before .before .before .before .args .s in
     let x = threeOf s in
-    let t = sym (sign-is (c .before .before)) ∙ c .before .if2 .taken in
+    let negative : ltZ (held (c .before .before .det-i .result)) (pos 0) ≡ true = search needs in
+    let t = sym (sign-is (c .before .before)) ∙ negative in
     c .negate-pq .ensures
     ∙ same-step (fitting (s .fits)) x negatePQ flipPQ (λ k. provided (sym (yes (fits-is (d .before)) (d .if1 .left)) k) (sym t k) then λ b. when b negatePQ x)
 
@@ -62,7 +64,8 @@ returns-3 c =
     let d = c .before .before in
     let s = d .before .before .before .before .args .s in
     let x = threeOf s in
-    let t = sym (sign-is (c .before)) ∙ c .if2 .left in
+    let positive : ltZ (held (c .before .det-i .result)) (pos 0) ≡ false = search needs in
+    let t = sym (sign-is (c .before)) ∙ positive in
     kept (fitting (s .fits)) x flipPQ (λ k. provided (yes (fits-is (d .before)) (d .if1 .left) k) (t k) then λ b. when b negatePQ x)
 
 pub flip-pq-spec : {M : Type 1} → statement M

@@ -18,7 +18,8 @@ returns c =
     let z = c .before .before in
     let a = z .args in
     let x = threeOf (a .s) in
-    let t : ltZ (a .y) (a .x) ≡ true = rw (toZ-ofZ (z .fits .y), toZ-ofZ (z .fits .x)) at (c .before .if1 .taken) in
+    let test = rw (toZ-ofZ (z .fits .y), toZ-ofZ (z .fits .x)) at (c .before .if1 .taken) in
+    let t : ltZ (a .y) (a .x) ≡ true = search needs in
     c .swap-diag-elems .ensures ∙ same-step (fitting (a .s .fits)) x (swapDiagElems (a .i) (a .j)) (order (a .i) (a .j) (a .x) (a .y)) (λ k. when (sym t k) (swapDiagElems (a .i) (a .j)) x)
 
 returns-2 : tie.Need-returns-2
@@ -26,7 +27,8 @@ returns-2 c =
     let z = c .before in
     let a = z .args in
     let x = threeOf (a .s) in
-    let t : ltZ (a .y) (a .x) ≡ false = rw (toZ-ofZ (z .fits .y), toZ-ofZ (z .fits .x)) at (c .if1 .left) in
+    let test = rw (toZ-ofZ (z .fits .y), toZ-ofZ (z .fits .x)) at (c .if1 .left) in
+    let t : ltZ (a .y) (a .x) ≡ false = search needs in
     kept (fitting (a .s .fits)) x (order (a .i) (a .j) (a .x) (a .y)) (λ k. when (t k) (swapDiagElems (a .i) (a .j)) x)
 
 pub order-spec : {M : Type 1} → statement M

@@ -58,7 +58,9 @@ t-test : (c : tie.After-less-fits2) → let e = given (c .before .before .before
 t-test c =
     let d = c .before .before .before .before .before .before .before in
     let h = all-held (d .before .before) in
-    c .less-fits2 .ensures ∙ (λ j. lessFits (h j .t) (quotient-is d j) (h j .t1))
+    let e = heldAll (given (d .before .before)) in
+    let tested : c .less-fits2 .result ≡ lessFits (e .t) (held (d .div-euclid .result)) (e .t1) = search needs in
+    tested ∙ (λ j. lessFits (h j .t) (quotient-is d j) (h j .t1))
 
 quot-fits-requires : tie.Need-quot-fits-requires
 quot-fits-requires c κs = search needs

@@ -1,18 +1,24 @@
-use mathlib.Core.Path.{_∙_}
-use mathlib.Core.Bool.{_&&_}
-use lib.IntN.{pos}
+use mathlib.Core.Path.{_≡_, sym, _∙_}
+use Prim.Native.Nat.{_<_}
+use lib.Dec.{T}
+use lib.IntN.{ℤ, pos}
 use lib.ListN.{getD}
+use lib.Signed.{mag}
 use Rattle.integer.specs.Checked.{isZero}
-use Rattle.integer.proofs.Fits.{held-is}
+use Rattle.integer.proofs.Size.{zero-test}
+use Rattle.integer.proofs.Test.{and-l, and-r, holds}
+use Rattle.integer.proofs.Fits.{held, held-is}
 use Rattle.snf_steps.specs.Result.{fitting}
 use Rattle.snf_steps.specs.Stages.{second}
 use Rattle.snf_steps.specs.StagesView.{threeOf}
 use Rattle.snf_steps.proofs.Binding.{kept}
 use Rattle.snf_steps.proofs.Settled.{second-kept}
-use Rattle.snf_steps.proofs.Fitting.{two-zeros}
 use borrow.Author.Needs.{needs}
 use Rattle.snf_steps.proofs.stages.second.Statement.{statement}
 use Rattle.snf_steps.proofs.stages.second.Tie as tie
+
+zero-held : (z : ℤ) → mag z < 0x8000000000000000 → T (isZero (held z)) → z ≡ pos 0
+zero-held z h t = sym (held-is z h) ∙ zero-test (held z) t
 
 array-copy-out-both-zero : tie.Need-array-copy-out-both-zero
 array-copy-out-both-zero c = search needs
@@ -27,8 +33,10 @@ returns : tie.Need-returns
 returns c =
     let v = c .before in
     let s = v .before .before .before .before .args .s in
-    let z = two-zeros (v .both-zero .ensures ∙ (λ i. isZero (held-is (getD (s .a) 5 (pos 0)) (v .before .before .both-zero-arg .given) i) && isZero (held-is (getD (s .a) 7 (pos 0)) (v .before .both-zero-arg2 .given) i))) (c .if1 .taken) in
-    kept (fitting (s .fits)) (threeOf s) second (second-kept (threeOf s) (z .0) (z .1))
+    let both = holds (sym (v .both-zero .ensures) ∙ c .if1 .taken) in
+    let f : T (isZero (held (getD (s .a) 5 (pos 0)))) = search (and-l, and-r) in
+    let h : T (isZero (held (getD (s .a) 7 (pos 0)))) = search (and-l, and-r) in
+    kept (fitting (s .fits)) (threeOf s) second (second-kept (threeOf s) (zero-held (getD (s .a) 5 (pos 0)) (search needs) f) (zero-held (getD (s .a) 7 (pos 0)) (search needs) h))
 
 second-steps-requires : tie.Need-second-steps-requires
 second-steps-requires c κs = search needs

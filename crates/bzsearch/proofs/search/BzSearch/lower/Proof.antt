@@ -1,3 +1,6 @@
+use mathlib.Core.Path.{_≡_}
+use mathlib.Core.Bool.{true, false}
+use lib.Ieee.{binary64, lt, sub}
 use Rattle.common.specs.Array.{vectorOf}
 use Rattle.common.specs.FloatMatrix.{floatVector}
 use Rattle.bzsearch.specs.SearchView.{searchOf}
@@ -12,12 +15,14 @@ distance-requires c κs = search needs
 returns : tie.Need-returns
 returns c =
     let s = c .before .before .before .args in
-    lowered (searchOf (s .self)) (floatVector (s .s0)) (s .least) (vectorOf (s .m)) (c .before .before .distance .ensures) (c .if1 .taken)
+    let test : lt (c .before .before .distance .result) (sub binary64 (s .least) (s .self .tolerance)) ≡ true = search needs in
+    lowered (searchOf (s .self)) (floatVector (s .s0)) (s .least) (vectorOf (s .m)) (c .before .before .distance .ensures) test
 
 returns-2 : tie.Need-returns-2
 returns-2 c =
     let s = c .before .before .before .args in
-    lowered (searchOf (s .self)) (floatVector (s .s0)) (s .least) (vectorOf (s .m)) (c .before .before .distance .ensures) (c .if1 .left)
+    let test : lt (c .before .before .distance .result) (sub binary64 (s .least) (s .self .tolerance)) ≡ false = search needs in
+    lowered (searchOf (s .self)) (floatVector (s .s0)) (s .least) (vectorOf (s .m)) (c .before .before .distance .ensures) test
 
 pub lower-spec : {M : Type 1} → statement M
 lower-spec = tie.close (tie.spec distance-requires returns returns-2)

@@ -3,6 +3,7 @@
 use phonors::common::Vec3I;
 use phonors::{bzgrid, bzgrid_watched};
 
+use crate::bench::{call, Call, Timed};
 use crate::function::{Function, Outputs};
 use crate::inputs::images::Images;
 use crate::inputs::lattices;
@@ -11,7 +12,7 @@ use crate::inputs::matrices::is_within;
 use crate::limits::Q_ENTRY;
 use crate::panics::watched;
 use crate::port;
-use crate::refusals::{ACCEPTED, BAD_GRID_TYPE, NOT_UNIMODULAR_Q, REFUSED_PLACE, SINGULAR_LATTICE};
+use crate::refusals::{BAD_GRID_TYPE, NOT_UNIMODULAR_Q, REFUSED_PLACE, SINGULAR_LATTICE};
 use crate::tests::{fixed, lattice, length, limit, matrix, points, shift_fits};
 
 /// The three tables of a grid.
@@ -23,7 +24,7 @@ pub struct Tables {
 }
 
 /// The call of the Rust, or of the version that is watched.
-macro_rules! built {
+macro_rules! called {
     ($module:ident, $given:expr) => {{
         let Images {
             d,
@@ -32,7 +33,14 @@ macro_rules! built {
             lattice,
             bz_grid_type,
         } = *$given;
-        let answer = $module::bz_grid_addresses(d, q, ps, lattice, bz_grid_type);
+        $module::bz_grid_addresses(d, q, ps, lattice, bz_grid_type)
+    }};
+}
+
+/// Its tables or its refusal.
+macro_rules! built {
+    ($module:ident, $given:expr) => {{
+        let answer = called!($module, $given);
         let tables = answer.map(|tables| Tables {
             addresses: tables.addresses,
             map: tables.bz_map,
@@ -92,11 +100,9 @@ pub fn given(input: &ImagesInput) -> Result<Images, i64> {
 pub struct BzGridAddresses;
 
 impl Function for BzGridAddresses {
-    const NAME: &'static str = "bz_grid_addresses";
-
     const VECTORS: usize = 512;
 
-    const TIMED: usize = 4;
+    const HELD: &'static [usize] = &[2_048, 4_096, 2_048];
 
     type Input = ImagesInput;
 
@@ -132,14 +138,14 @@ impl Function for BzGridAddresses {
             Ok(())
         })
     }
+}
 
-    /// The Rust lends no slices: it is not held to copy its tables.
-    fn timed(input: &ImagesInput, outputs: &mut Outputs) -> i64 {
+impl Timed for BzGridAddresses {
+    const INPUTS: usize = 4;
+
+    fn bare(input: &ImagesInput) -> Call<'_> {
         let given = given(input).expect("within the limits");
-        let tables = built!(bzgrid, &given).expect("accepted");
-        let lengths = tables.lengths().map(|length| length as i64);
-        outputs.told.copy_from_slice(&lengths);
-        ACCEPTED
+        call(given, |given, _| called!(bzgrid, given))
     }
 }
 
@@ -156,6 +162,7 @@ mod tests {
     use crate::inputs::lent_images::{diag_d, sheared};
     use crate::inputs::matrices::diag;
     use crate::random::Random;
+    use crate::refusals::ACCEPTED;
     use crate::{compare, vectors};
 
     /// The Rust's answer, and the outputs.
@@ -360,8 +367,6 @@ mod tests {
     struct FirstWins;
 
     impl Function for FirstWins {
-        const NAME: &'static str = "first_wins";
-
         type Input = ImagesInput;
 
         fn outputs(input: &ImagesInput) -> Outputs {
@@ -398,8 +403,6 @@ mod tests {
     struct Reordered;
 
     impl Function for Reordered {
-        const NAME: &'static str = "reordered";
-
         type Input = ImagesInput;
 
         fn outputs(input: &ImagesInput) -> Outputs {
@@ -478,9 +481,6 @@ mod tests {
             let input = input(&mut random);
             let (answer, outputs) = asked(&input);
             assert!(answer == 0 && outputs.told[2] >= 4096);
-            let mut timed = BzGridAddresses::outputs(&input);
-            assert_eq!(BzGridAddresses::timed(&input, &mut timed), 0);
-            assert_eq!(timed.told, outputs.told);
         }
         assert!(
             tables(&Images::new([16; 3], SKEWED, DENSE))

@@ -6,6 +6,7 @@ use phonors::common::{MatD, MatI, Vec3I};
 use phonors::watched::{Left, Walked, Watched};
 use phonors::{triplet_grid, triplet_grid_watched};
 
+use crate::bench::{call, Call, Timed};
 use crate::function::{Function, Outputs};
 use crate::inputs::images::DENSE;
 use crate::inputs::lattices;
@@ -62,7 +63,7 @@ impl Given<'_> {
         limit(self.bz_grid_type == DENSE || (0..points).contains(&self.q0))
     }
 
-    fn rust(&self) -> Result<Vec<Vec3I>, i64> {
+    fn call(&self) -> Result<Vec<Vec3I>, triplet_grid::BzTripletsError> {
         triplet_grid::bz_triplets_at_q(
             self.q0,
             self.addresses,
@@ -73,7 +74,11 @@ impl Given<'_> {
             self.lattice,
             self.bz_grid_type,
         )
-        .map_err(|triplet_grid::BzTripletsError::BadGridType| BAD_GRID_TYPE)
+    }
+
+    fn rust(&self) -> Result<Vec<Vec3I>, i64> {
+        let answer = self.call();
+        answer.map_err(|triplet_grid::BzTripletsError::BadGridType| BAD_GRID_TYPE)
     }
 
     fn watched(&self, walked: &mut Walked) -> Result<Vec<Vec3I>, i64> {
@@ -151,13 +156,11 @@ fn bits(x: f64) -> i64 {
 pub struct BzTripletsAtQ;
 
 impl Function for BzTripletsAtQ {
-    const NAME: &'static str = "bz_triplets_at_q";
-
     const VECTORS: usize = 512;
 
-    const FLOATS: usize = 1;
+    const HELD: &'static [usize] = &[2_048, 1_024, 1_024];
 
-    const TIMED: usize = 8;
+    const FLOATS: usize = 1;
 
     type Input = TripletsInput;
 
@@ -201,13 +204,14 @@ impl Function for BzTripletsAtQ {
         }
         answer
     }
+}
 
-    /// The Rust's call alone: it tests no limits, and tells nothing of what is left.
-    fn timed(input: &TripletsInput, outputs: &mut Outputs) -> i64 {
+impl Timed for BzTripletsAtQ {
+    const INPUTS: usize = 8;
+
+    fn bare(input: &TripletsInput) -> Call<'_> {
         let given = Given::of(input, &input.places).expect("right lengths");
-        let triplets = given.rust().expect("accepted");
-        outputs.slices[0][0] = triplets[0][0];
-        ACCEPTED
+        call(given, |given, _| given.call())
     }
 }
 
@@ -351,8 +355,6 @@ mod tests {
     struct Innermost;
 
     impl Function for Innermost {
-        const NAME: &'static str = "innermost";
-
         type Input = TripletsInput;
 
         fn outputs(input: &TripletsInput) -> Outputs {
@@ -427,9 +429,6 @@ mod tests {
             let input = input(&mut random);
             let (answer, slices) = asked(&input);
             assert!(answer == 0 && slices[1].len() > 100);
-            let mut outputs = BzTripletsAtQ::outputs(&input);
-            assert_eq!(BzTripletsAtQ::timed(&input, &mut outputs), 0);
-            assert_eq!(outputs.slices[0][0], slices[0][0]);
         }
     }
 }

@@ -173,8 +173,6 @@ fn leave<S: Side>(input: &ChainInput, outputs: &mut Outputs) -> (i64, Option<boo
 pub struct Chain;
 
 impl Function for Chain {
-    const NAME: &'static str = "chain";
-
     const LENT: bool = false;
 
     type Input = ChainInput;
@@ -252,8 +250,6 @@ mod tests {
     struct Unswapped;
 
     impl Function for Unswapped {
-        const NAME: &'static str = "unswapped";
-
         const LENT: bool = false;
 
         type Input = ChainInput;

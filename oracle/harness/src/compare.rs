@@ -1,5 +1,7 @@
 //! The differential run: the port and the Rust on the same random cases.
 
+use std::any::type_name;
+
 use crate::function::{Function, Input, Outputs};
 use crate::random::Random;
 
@@ -20,26 +22,32 @@ pub fn run<F: Function>(cases: u64, seed: u64) -> u64 {
             Some(input) => input,
             None => F::Input::random(&mut random),
         };
-        let mut expected = F::outputs(&input);
+        let mut outputs = F::outputs(&input);
         if F::LENT && random.one_in(DAMAGED_OUTPUTS) {
-            expected.damage(&mut random);
+            outputs.damage(&mut random);
         }
-        let oracle = F::oracle(&input, &mut expected);
-        let mut written = expected.unlike();
-        let port = F::port(&input, &mut written);
-        if port != oracle || written != expected {
+        let [port, rust] = both::<F>(&input, outputs);
+        if port != rust {
             differences += 1;
             if differences <= PRINTED {
-                eprintln!("{} {input:?}", F::NAME);
-                print_side("port", port, &written);
-                print_side("Rust", oracle, &expected);
+                eprintln!("{} {input:?}", type_name::<F>());
+                print_side("port", &port);
+                print_side("Rust", &rust);
             }
         }
     }
     differences
 }
 
-fn print_side(side: &str, answer: i64, outputs: &Outputs) {
+/// What the port and the Rust answer, and what they leave in such outputs.
+pub fn both<F: Function>(input: &F::Input, mut outputs: Outputs) -> [(i64, Outputs); 2] {
+    let rust = F::oracle(input, &mut outputs);
+    let mut written = outputs.unlike();
+    let port = F::port(input, &mut written);
+    [(port, written), (rust, outputs)]
+}
+
+fn print_side(side: &str, (answer, outputs): &(i64, Outputs)) {
     eprint!("  {side} answers {answer}, told {:?}", outputs.told);
     for slice in &outputs.slices {
         eprint!(", out {slice:?}");
@@ -56,8 +64,6 @@ mod tests {
     struct Lazy;
 
     impl Function for Lazy {
-        const NAME: &'static str = "lazy";
-
         type Input = [i64; 1];
 
         fn outputs(_: &[i64; 1]) -> Outputs {

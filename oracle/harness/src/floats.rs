@@ -3,6 +3,7 @@
 
 use phonors::common::nint;
 
+use crate::bench::{call, Call, Timed};
 use crate::function::{Function, Outputs};
 use crate::inputs::floats::words;
 use crate::port;
@@ -13,8 +14,6 @@ macro_rules! floats {
         pub struct $row;
 
         impl Function for $row {
-            const NAME: &'static str = stringify!($name);
-
             const LENT: bool = false;
 
             type Input = f64;
@@ -34,6 +33,19 @@ macro_rules! floats {
                 ACCEPTED
             }
         }
+
+        impl Timed for $row {
+            fn bare(x: &f64) -> Call<'_> {
+                call(*x, |&x, _| {
+                    let rust: fn(f64) -> _ = $rust;
+                    rust(x)
+                })
+            }
+
+            fn export(x: &f64) -> Call<'_> {
+                call(*x, |&x, _| port::$name(x))
+            }
+        }
     )+};
 }
 
@@ -51,8 +63,6 @@ floats! {
 pub struct ToF64;
 
 impl Function for ToF64 {
-    const NAME: &'static str = "to_f64";
-
     const LENT: bool = false;
 
     type Input = [i64; 1];
@@ -69,6 +79,16 @@ impl Function for ToF64 {
     fn oracle(&[n]: &[i64; 1], outputs: &mut Outputs) -> i64 {
         outputs.told.copy_from_slice(&words(n as f64));
         ACCEPTED
+    }
+}
+
+impl Timed for ToF64 {
+    fn bare(&[n]: &[i64; 1]) -> Call<'_> {
+        call(n, |&n, _| n as f64)
+    }
+
+    fn export(&[n]: &[i64; 1]) -> Call<'_> {
+        call(n, |&n, _| port::to_f64(n))
     }
 }
 

@@ -22,9 +22,6 @@ pub trait Input: Debug + Sized {
 
 /// An exported function: both sides of it.
 pub trait Function {
-    /// The export's name without its prefix.
-    const NAME: &'static str;
-
     /// Whether its outputs are lent, so that their lengths may be wrong.
     const LENT: bool = true;
 
@@ -32,12 +29,11 @@ pub trait Function {
     /// far as the file has room.
     const VECTORS: usize = 64;
 
+    /// Places of its slices that the program which replays the vectors holds.
+    const HELD: &'static [usize] = &[8_192; 3];
+
     /// Its last slices that hold floats, which stand there as their bits.
     const FLOATS: usize = 0;
-
-    /// Inputs of the bench: few enough for those of a small function to stay in
-    /// the cache.
-    const TIMED: usize = 64;
 
     type Input: Input;
 
@@ -49,11 +45,6 @@ pub trait Function {
 
     /// The Rust's answer, likewise.
     fn oracle(input: &Self::Input, outputs: &mut Outputs) -> i64;
-
-    /// What the bench takes the time of on the Rust's side.
-    fn timed(input: &Self::Input, outputs: &mut Outputs) -> i64 {
-        Self::oracle(input, outputs)
-    }
 }
 
 /// The lent output slices of one call.

@@ -3,6 +3,7 @@
 use phonors::common::Vec3I;
 use phonors::grgrid::{all_grid_addresses, ir_grid_map};
 
+use crate::bench::{call, Call, Timed};
 use crate::function::{Function, Input, Line, Outputs};
 use crate::inputs::groups::{self, CUBIC};
 use crate::inputs::{grids, lent};
@@ -86,8 +87,6 @@ impl Input for MapInput {
 pub struct IrGridMap;
 
 impl Function for IrGridMap {
-    const NAME: &'static str = "ir_grid_map";
-
     type Input = MapInput;
 
     fn outputs(input: &MapInput) -> Outputs {
@@ -112,6 +111,18 @@ impl Function for IrGridMap {
             slices[0].copy_from_slice(&classes.map);
             told[0] = classes.num_ir;
             Ok(())
+        })
+    }
+}
+
+impl Timed for IrGridMap {
+    const INPUTS: usize = 8;
+
+    fn bare(input: &MapInput) -> Call<'_> {
+        let rotations = tests::matrices(&input.rotations).expect("matrices");
+        let [d, ps] = [&input.d, &input.ps].map(|slice| tests::fixed(slice).expect("three"));
+        call((rotations, d, ps), |(rotations, d, ps), _| {
+            ir_grid_map(rotations, *d, *ps)
         })
     }
 }
@@ -151,8 +162,6 @@ impl Input for GridInput {
 pub struct AllGridAddresses;
 
 impl Function for AllGridAddresses {
-    const NAME: &'static str = "all_grid_addresses";
-
     type Input = GridInput;
 
     fn outputs(input: &GridInput) -> Outputs {
@@ -171,5 +180,14 @@ impl Function for AllGridAddresses {
             slices[0].copy_from_slice(addresses.as_flattened());
             Ok(())
         })
+    }
+}
+
+impl Timed for AllGridAddresses {
+    const INPUTS: usize = 1;
+
+    fn bare(input: &GridInput) -> Call<'_> {
+        let d = tests::fixed(&input.d).expect("three");
+        call(d, |d, _| all_grid_addresses(*d))
     }
 }

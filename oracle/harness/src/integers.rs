@@ -1,5 +1,6 @@
 //! The integer functions: Rust's `i64::checked_*`.
 
+use crate::bench::{call, Call, Timed};
 use crate::function::{Function, Outputs};
 use crate::{oracle, port};
 
@@ -8,8 +9,6 @@ macro_rules! checked {
         pub struct $row;
 
         impl Function for $row {
-            const NAME: &'static str = stringify!($name);
-
             type Input = [i64; $arity];
 
             fn outputs(_: &Self::Input) -> Outputs {
@@ -22,6 +21,12 @@ macro_rules! checked {
 
             fn oracle(&[$($operand),+]: &Self::Input, outputs: &mut Outputs) -> i64 {
                 oracle::$name($($operand,)+ &mut outputs.told)
+            }
+        }
+
+        impl Timed for $row {
+            fn bare(input: &Self::Input) -> Call<'_> {
+                call(*input, |&[$($operand),+], _| i64::$name($($operand),+))
             }
         }
     )+};

@@ -2,6 +2,7 @@
 
 use phonors::triplet_grid::ir_triplets_at_q;
 
+use crate::bench::{call, Call, Timed};
 use crate::function::{Function, Outputs};
 use crate::grgrid::lent_points;
 use crate::inputs::lent_classes::ClassesInput;
@@ -9,7 +10,6 @@ use crate::limits::ROTATION_ENTRY;
 use crate::panics::counted;
 use crate::port;
 use crate::recip_rotations::number;
-use crate::refusals::ACCEPTED;
 use crate::tests::{fixed, length, limit, matrices, points, rotations_fit};
 
 /// A line of the vectors: the point; the slices d and rotations, each as its length
@@ -19,11 +19,7 @@ use crate::tests::{fixed, length, limit, matrices, points, rotations_fit};
 pub struct IrTripletsAtQ;
 
 impl Function for IrTripletsAtQ {
-    const NAME: &'static str = "ir_triplets_at_q";
-
     const VECTORS: usize = 512;
-
-    const TIMED: usize = 8;
 
     type Input = ClassesInput;
 
@@ -72,23 +68,18 @@ impl Function for IrTripletsAtQ {
             Ok(())
         })
     }
+}
 
-    /// The Rust lends no slices: it is not held to copy its maps.
-    fn timed(input: &ClassesInput, outputs: &mut Outputs) -> i64 {
+impl Timed for IrTripletsAtQ {
+    const INPUTS: usize = 8;
+
+    fn bare(input: &ClassesInput) -> Call<'_> {
         let rotations = matrices(&input.rotations).expect("matrices");
-        let d = fixed(&input.d).expect("three numbers");
-        let ClassesInput {
-            q0,
-            time_reversal,
-            swappable,
-            ..
-        } = *input;
-        let answer = ir_triplets_at_q(q0, d, &rotations, time_reversal, swappable);
-        let Ok(classes) = answer else {
-            panic!("refused");
-        };
-        outputs.told[0] = classes.num_ir;
-        ACCEPTED
+        let d = fixed(&input.d).expect("three");
+        call((input, d, rotations), |(input, d, rotations), _| {
+            let [time_reversal, swappable] = [input.time_reversal, input.swappable];
+            ir_triplets_at_q(input.q0, *d, rotations, time_reversal, swappable)
+        })
     }
 }
 
@@ -203,8 +194,6 @@ mod tests {
     struct Unjoined;
 
     impl Function for Unjoined {
-        const NAME: &'static str = "unjoined";
-
         type Input = ClassesInput;
 
         fn outputs(input: &ClassesInput) -> Outputs {
@@ -252,11 +241,7 @@ mod tests {
             ClassesInput::typical,
         ] {
             let input = input(&mut random);
-            let (answer, expected) = asked(&input);
-            assert_eq!((answer, input.rotations.len()), (0, 9 * 48));
-            let mut outputs = IrTripletsAtQ::outputs(&input);
-            assert_eq!(IrTripletsAtQ::timed(&input, &mut outputs), 0);
-            assert_eq!(outputs.told, expected.told);
+            assert_eq!((asked(&input).0, input.rotations.len()), (0, 9 * 48));
         }
     }
 }

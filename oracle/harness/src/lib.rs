@@ -1,9 +1,6 @@
 //! The port beside the Rust: inputs, both sides of every exported function, and
-//! what the three commands do with them.
-//!
-//! A function is added by its declaration and wrapper in `port`, and an
-//! implementation of `function::Function`, in a file named for its module, with
-//! a line in `rows`.
+//! what the commands do with them. The README of the folder oracle/ says how a
+//! function is added.
 
 pub mod arguments;
 pub mod bench;

@@ -4,12 +4,13 @@ use phonors::common::Vec3I;
 use phonors::watched::Watched;
 use phonors::{bzgrid, bzgrid_watched};
 
+use crate::bench::{call, Call, Timed};
 use crate::function::{Function, Outputs};
 use crate::inputs::lent_neighbours::NeighboursInput;
 use crate::limits::OFFSET;
 use crate::panics::watched;
 use crate::port;
-use crate::refusals::{ACCEPTED, BAD_GRID_TYPE};
+use crate::refusals::BAD_GRID_TYPE;
 use crate::rotate_bz_grid_index::{address_fits, map_value_fits};
 use crate::tests::{addresses, fixed, length, limit, points};
 
@@ -25,7 +26,7 @@ struct Given<'a> {
 
 /// The call of the Rust, or of the version that is watched, with the forms of its
 /// tables.
-macro_rules! filled {
+macro_rules! called {
     ($module:ident, $given:expr, $out:expr, $addresses:expr, $map:expr) => {{
         let view = $module::BzGridView {
             d_diag: $given.d,
@@ -34,12 +35,18 @@ macro_rules! filled {
             bz_grid_type: $given.bz_grid_type,
         };
         let (points, offsets) = ($given.points, $given.offsets);
-        let answer = $module::neighboring_grid_points_many($out, points, offsets, &view);
-        answer.map_err(|error| {
+        $module::neighboring_grid_points_many($out, points, offsets, &view)
+    }};
+}
+
+/// The number of its refusal.
+macro_rules! number {
+    ($module:ident) => {
+        |error| {
             assert_eq!(error, $module::BzGridError::BadGridType);
             BAD_GRID_TYPE
-        })
-    }};
+        }
+    };
 }
 
 impl Given<'_> {
@@ -63,8 +70,12 @@ impl Given<'_> {
         limit(numbers.all(|number| (-OFFSET..=OFFSET).contains(number)))
     }
 
+    fn call(&self, out: &mut [i64]) -> Result<(), bzgrid::BzGridError> {
+        called!(bzgrid, self, out, self.addresses, self.map)
+    }
+
     fn rust(&self, out: &mut [i64]) -> Result<(), i64> {
-        filled!(bzgrid, self, out, self.addresses, self.map)
+        self.call(out).map_err(number!(bzgrid))
     }
 
     fn watched(&self, out: &mut [i64]) -> Result<(), i64> {
@@ -76,7 +87,7 @@ impl Given<'_> {
             items: self.map,
             fits: map_value_fits,
         };
-        filled!(bzgrid_watched, self, out, addresses, map)
+        called!(bzgrid_watched, self, out, addresses, map).map_err(number!(bzgrid_watched))
     }
 
     /// A list of no offsets is accepted, where the Rust panics.
@@ -99,11 +110,9 @@ impl Given<'_> {
 pub struct NeighboringGridPoints;
 
 impl Function for NeighboringGridPoints {
-    const NAME: &'static str = "neighboring_grid_points";
-
     const VECTORS: usize = 512;
 
-    const TIMED: usize = 4;
+    const HELD: &'static [usize] = &[4_096];
 
     type Input = NeighboursInput;
 
@@ -131,13 +140,15 @@ impl Function for NeighboringGridPoints {
             Ok(())
         })
     }
+}
 
-    /// The Rust's call alone, which tests no limits.
-    fn timed(input: &NeighboursInput, outputs: &mut Outputs) -> i64 {
-        let out = &mut outputs.slices[0];
-        let given = Given::of(input, out.len()).expect("right lengths");
-        given.rust(out).expect("accepted");
-        ACCEPTED
+impl Timed for NeighboringGridPoints {
+    const INPUTS: usize = 4;
+
+    /// The Rust is lent its output too.
+    fn bare(input: &NeighboursInput) -> Call<'_> {
+        let given = Given::of(input, input.places).expect("right lengths");
+        call(given, |given, outputs| given.call(&mut outputs.slices[0]))
     }
 }
 
@@ -152,6 +163,7 @@ mod tests {
     use crate::inputs::tables::LentTables;
     use crate::limits::{ADDRESS, MAP_VALUE};
     use crate::random::Random;
+    use crate::refusals::ACCEPTED;
     use crate::{compare, vectors};
 
     /// The Rust's answer, and the output.
@@ -266,8 +278,6 @@ mod tests {
     struct Plain;
 
     impl Function for Plain {
-        const NAME: &'static str = "plain";
-
         type Input = NeighboursInput;
 
         fn outputs(input: &NeighboursInput) -> Outputs {
@@ -302,6 +312,34 @@ mod tests {
         assert!(compare::run::<Plain>(5_000, 1) > 1_000);
     }
 
+    /// Wrong from a place on.
+    struct WrongFrom<const PLACE: usize>;
+
+    impl<const PLACE: usize> Function for WrongFrom<PLACE> {
+        type Input = NeighboursInput;
+
+        fn outputs(input: &NeighboursInput) -> Outputs {
+            NeighboringGridPoints::outputs(input)
+        }
+
+        fn port(input: &NeighboursInput, outputs: &mut Outputs) -> i64 {
+            let answer = NeighboringGridPoints::oracle(input, outputs);
+            let places = outputs.slices[0].iter_mut().skip(PLACE);
+            places.for_each(|place| *place = !*place);
+            answer
+        }
+
+        fn oracle(input: &NeighboursInput, outputs: &mut Outputs) -> i64 {
+            NeighboringGridPoints::oracle(input, outputs)
+        }
+    }
+
+    #[test]
+    fn long_outputs_are_compared() {
+        assert!(compare::run::<WrongFrom<200>>(2_000, 1) > 50);
+        assert!(compare::run::<WrongFrom<2_000>>(5_000, 1) > 50);
+    }
+
     #[test]
     fn vectors_of_every_answer() {
         let lines = vectors::lines::<NeighboringGridPoints>(1);
@@ -325,11 +363,8 @@ mod tests {
             NeighboursInput::typical,
         ] {
             let input = input(&mut random);
-            let (answer, out) = asked(&input);
+            let (answer, _) = asked(&input);
             assert!(answer == 0 && input.points.len() > 4_096 && input.offsets.len() == 72);
-            let mut outputs = NeighboringGridPoints::outputs(&input);
-            assert_eq!(NeighboringGridPoints::timed(&input, &mut outputs), 0);
-            assert_eq!(outputs.slices[0], out);
         }
     }
 }

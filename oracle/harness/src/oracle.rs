@@ -3,30 +3,13 @@
 
 use crate::refusals::{ACCEPTED, OVERFLOW, REFUSED_PLACE, WRONG_LENGTH};
 
-/// An integer function of Rust behind the signature of the port's export. It is
-/// called as the export is, so that both sides of the bench pay for a call.
+/// An integer function of Rust with the signature of the port's export.
 macro_rules! checked {
-    ($($name:ident($($operand:ident),+);)+) => {
-        $(
-            pub fn $name($($operand: i64,)+ told: &mut [i64]) -> i64 {
-                unsafe { exported::$name($($operand,)+ told.as_mut_ptr(), told.len()) }
-            }
-        )+
-
-        mod exported {
-            $(
-                #[inline(never)]
-                pub unsafe extern "C" fn $name(
-                    $($operand: i64,)+
-                    told: *mut i64,
-                    told_len: usize,
-                ) -> i64 {
-                    let told = std::slice::from_raw_parts_mut(told, told_len);
-                    super::tell(i64::$name($($operand),+), told)
-                }
-            )+
+    ($($name:ident($($operand:ident),+);)+) => {$(
+        pub fn $name($($operand: i64,)+ told: &mut [i64]) -> i64 {
+            tell(i64::$name($($operand),+), told)
         }
-    };
+    )+};
 }
 
 checked! {
@@ -41,7 +24,6 @@ checked! {
 }
 
 /// Hands over a value, or the refusal of one that 64 bits do not hold.
-#[inline(always)]
 fn tell(value: Option<i64>, told: &mut [i64]) -> i64 {
     match (value, told) {
         (Some(value), [place]) => {

@@ -5,6 +5,7 @@ use phonors::recip_rotations::{
     get_reciprocal_point_group, reciprocal_rotations, ReciprocalRotationsError,
 };
 
+use crate::bench::{call, Call, Timed};
 use crate::function::{Function, Input, Line, Outputs};
 use crate::inputs::groups::{self, CUBIC};
 use crate::limits::{RECIPROCAL_ROTATIONS, ROTATION_ENTRY};
@@ -88,8 +89,6 @@ fn answer(
 pub struct ReciprocalPointGroup;
 
 impl Function for ReciprocalPointGroup {
-    const NAME: &'static str = "reciprocal_point_group";
-
     type Input = ListInput<2>;
 
     fn outputs(_: &Self::Input) -> Outputs {
@@ -116,11 +115,18 @@ impl Function for ReciprocalPointGroup {
     }
 }
 
+impl Timed for ReciprocalPointGroup {
+    fn bare(input: &Self::Input) -> Call<'_> {
+        let rotations = tests::matrices(&input.rotations).expect("matrices");
+        call((rotations, input.flags), |(rotations, flags), _| {
+            get_reciprocal_point_group(rotations, flags[0], flags[1])
+        })
+    }
+}
+
 pub struct ReciprocalRotations;
 
 impl Function for ReciprocalRotations {
-    const NAME: &'static str = "reciprocal_rotations";
-
     type Input = ListInput<1>;
 
     fn outputs(_: &Self::Input) -> Outputs {
@@ -137,6 +143,15 @@ impl Function for ReciprocalRotations {
         let [time_reversal] = input.flags;
         answer(&input.rotations, outputs, |rotations| {
             reciprocal_rotations(rotations, time_reversal)
+        })
+    }
+}
+
+impl Timed for ReciprocalRotations {
+    fn bare(input: &Self::Input) -> Call<'_> {
+        let rotations = tests::matrices(&input.rotations).expect("matrices");
+        call((rotations, input.flags), |(rotations, flags), _| {
+            reciprocal_rotations(rotations, flags[0])
         })
     }
 }

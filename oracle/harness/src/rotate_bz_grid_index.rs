@@ -4,13 +4,14 @@ use phonors::common::{MatI, Vec3I};
 use phonors::watched::Watched;
 use phonors::{bzgrid, bzgrid_watched};
 
+use crate::bench::{call, Call, Timed};
 use crate::function::{Function, Outputs};
 use crate::inputs::lent_rotations::RotateInput;
 use crate::inputs::matrices::is_within;
 use crate::limits::{ADDRESS, MAP_VALUE, ROTATION_ENTRY};
 use crate::panics::watched;
 use crate::port;
-use crate::refusals::{ACCEPTED, BAD_GRID_TYPE};
+use crate::refusals::BAD_GRID_TYPE;
 use crate::tests::{addresses, fixed, length, limit, matrix, points, shift_fits};
 
 pub fn address_fits(address: &Vec3I) -> bool {
@@ -51,7 +52,7 @@ impl Given<'_> {
         limit(is_within(&self.rotation, ROTATION_ENTRY))
     }
 
-    fn rust(&self) -> Result<i64, i64> {
+    fn call(&self) -> Result<i64, bzgrid::RotateBzGridError> {
         bzgrid::rotate_bz_grid_index(
             self.index,
             self.rotation,
@@ -61,7 +62,11 @@ impl Given<'_> {
             self.ps,
             self.bz_grid_type,
         )
-        .map_err(|bzgrid::RotateBzGridError::BadGridType| BAD_GRID_TYPE)
+    }
+
+    fn rust(&self) -> Result<i64, i64> {
+        let answer = self.call();
+        answer.map_err(|bzgrid::RotateBzGridError::BadGridType| BAD_GRID_TYPE)
     }
 
     /// Tells a fallback too.
@@ -91,8 +96,6 @@ impl Given<'_> {
 pub struct RotateBzGridIndex;
 
 impl Function for RotateBzGridIndex {
-    const NAME: &'static str = "rotate_bz_grid_index";
-
     const VECTORS: usize = 512;
 
     type Input = RotateInput;
@@ -125,12 +128,12 @@ impl Function for RotateBzGridIndex {
             Ok(())
         })
     }
+}
 
-    /// The Rust's call alone: it tests no limits and tells no fallback.
-    fn timed(input: &RotateInput, outputs: &mut Outputs) -> i64 {
+impl Timed for RotateBzGridIndex {
+    fn bare(input: &RotateInput) -> Call<'_> {
         let given = Given::of(input).expect("right lengths");
-        outputs.told[0] = given.rust().expect("accepted");
-        ACCEPTED
+        call(given, |given, _| given.call())
     }
 }
 
@@ -147,6 +150,7 @@ mod tests {
     use crate::inputs::tables::{self, LentTables};
     use crate::panics::counted;
     use crate::random::Random;
+    use crate::refusals::ACCEPTED;
     use crate::{compare, vectors};
 
     /// The Rust's answer, and what is told.
@@ -326,8 +330,6 @@ mod tests {
     struct Untested;
 
     impl Function for Untested {
-        const NAME: &'static str = "untested";
-
         type Input = RotateInput;
 
         fn outputs(input: &RotateInput) -> Outputs {
@@ -394,9 +396,6 @@ mod tests {
                 let input = input(&mut random);
                 let (answer, told) = asked(&input);
                 assert_eq!((answer, told[1]), (0, 0));
-                let mut outputs = RotateBzGridIndex::outputs(&input);
-                assert_eq!(RotateBzGridIndex::timed(&input, &mut outputs), 0);
-                assert_eq!(outputs.told, told);
             }
         }
     }

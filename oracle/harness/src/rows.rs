@@ -1,6 +1,6 @@
 //! The functions that the commands know.
 
-use crate::bench::{self, Times};
+use crate::bench::{self, Timed, Times};
 use crate::bz_grid_addresses::*;
 use crate::bz_triplets_at_q::*;
 use crate::chain::*;
@@ -21,81 +21,114 @@ use crate::same_grid::*;
 use crate::snf3x3::*;
 use crate::transform_rotations::*;
 use crate::zone_list::*;
-use crate::{compare, vectors};
+use crate::{compare, vectors, zone_list};
 
 /// What the commands do with one function.
 pub struct Row {
+    /// Most are an export's without its prefix. The script `setup` reads the names off
+    /// this file.
     pub name: &'static str,
     /// Runs random cases from a seed and counts the differences.
     pub compare: fn(cases: u64, seed: u64) -> u64,
     /// The function's lines of the vectors, from a seed, if it has any.
     pub vectors: Option<fn(seed: u64) -> Vec<String>>,
-    pub bench: Option<fn() -> Times>,
+    pub bench: Option<Bench>,
+}
+
+/// A line of the bench, and the part of its table that it stands in.
+#[derive(Clone, Copy)]
+pub struct Bench {
+    pub part: Part,
+    pub run: fn() -> Times,
+}
+
+#[derive(Clone, Copy, Debug, PartialEq)]
+pub enum Part {
+    /// The eleven calls that document 01 names. They have a mean.
+    Call,
+    /// Checked operations and floats. They have a mean of their own.
+    Helper,
+    /// A call that the Rust lacks, or one on other inputs. These have none.
+    Apart,
 }
 
 impl Row {
-    const fn of<F: Function>() -> Row {
+    const fn call<F: Timed>(name: &'static str) -> Row {
+        Row::timed::<F>(name, Part::Call)
+    }
+
+    const fn helper<F: Timed>(name: &'static str) -> Row {
+        Row::timed::<F>(name, Part::Helper)
+    }
+
+    const fn apart<F: Timed>(name: &'static str) -> Row {
+        Row::timed::<F>(name, Part::Apart)
+    }
+
+    const fn timed<F: Timed>(name: &'static str, part: Part) -> Row {
+        let run = bench::run::<F>;
         Row {
-            name: F::NAME,
-            compare: compare::run::<F>,
             vectors: Some(vectors::lines::<F>),
-            bench: Some(bench::run::<F>),
+            bench: Some(Bench { part, run }),
+            ..Row::compared::<F>(name)
         }
     }
 
-    /// Of calls that are only compared: each by itself has its vectors and its bench.
-    const fn compared<F: Function>() -> Row {
+    /// Of several calls, each of which has its own vectors and its bench.
+    const fn compared<F: Function>(name: &'static str) -> Row {
         Row {
+            name,
+            compare: compare::run::<F>,
             vectors: None,
             bench: None,
-            ..Row::of::<F>()
         }
     }
 }
 
 pub static ROWS: &[Row] = &[
-    Row::of::<CheckedAdd>(),
-    Row::of::<CheckedSub>(),
-    Row::of::<CheckedMul>(),
-    Row::of::<CheckedDivEuclid>(),
-    Row::of::<CheckedRemEuclid>(),
-    Row::of::<CheckedDiv>(),
-    Row::of::<CheckedRem>(),
-    Row::of::<CheckedNeg>(),
-    Row::of::<Round>(),
-    Row::of::<Floor>(),
-    Row::of::<Ceil>(),
-    Row::of::<Abs>(),
-    Row::of::<Sqrt>(),
-    Row::of::<ToI64>(),
-    Row::of::<Nint>(),
-    Row::of::<IsFinite>(),
-    Row::of::<ToF64>(),
-    Row::of::<ReciprocalPointGroup>(),
-    Row::of::<ReciprocalRotations>(),
-    Row::of::<IrGridMap>(),
-    Row::of::<AllGridAddresses>(),
-    Row::of::<Snf3x3>(),
-    Row::of::<SameGrid>(),
-    Row::of::<TransformRotations>(),
-    Row::of::<BzGridAddresses>(),
-    Row::of::<RotateBzGridIndex>(),
-    Row::of::<NeighboringGridPoints>(),
-    Row::of::<IrTripletsAtQ>(),
-    Row::of::<BzTripletsAtQ>(),
-    Row::compared::<Chain>(),
-    Row::compared::<ZoneList>(),
+    Row::helper::<CheckedAdd>("checked_add"),
+    Row::helper::<CheckedSub>("checked_sub"),
+    Row::helper::<CheckedMul>("checked_mul"),
+    Row::helper::<CheckedDivEuclid>("checked_div_euclid"),
+    Row::helper::<CheckedRemEuclid>("checked_rem_euclid"),
+    Row::helper::<CheckedDiv>("checked_div"),
+    Row::helper::<CheckedRem>("checked_rem"),
+    Row::helper::<CheckedNeg>("checked_neg"),
+    Row::helper::<Round>("round"),
+    Row::helper::<Floor>("floor"),
+    Row::helper::<Ceil>("ceil"),
+    Row::helper::<Abs>("abs"),
+    Row::helper::<Sqrt>("sqrt"),
+    Row::helper::<ToI64>("to_i64"),
+    Row::helper::<Nint>("nint"),
+    Row::helper::<IsFinite>("is_finite"),
+    Row::helper::<ToF64>("to_f64"),
+    Row::call::<ReciprocalPointGroup>("reciprocal_point_group"),
+    Row::call::<ReciprocalRotations>("reciprocal_rotations"),
+    Row::call::<IrGridMap>("ir_grid_map"),
+    Row::call::<AllGridAddresses>("all_grid_addresses"),
+    Row::call::<Snf3x3>("snf3x3"),
+    Row::apart::<SameGrid>("same_grid"),
+    Row::call::<TransformRotations>("transform_rotations"),
+    Row::call::<BzGridAddresses>("bz_grid_addresses"),
+    Row::call::<RotateBzGridIndex>("rotate_bz_grid_index"),
+    Row::call::<NeighboringGridPoints>("neighboring_grid_points"),
+    Row::call::<IrTripletsAtQ>("ir_triplets_at_q"),
+    Row::call::<BzTripletsAtQ>("bz_triplets_at_q"),
+    Row::compared::<Chain>("chain"),
+    Row {
+        vectors: Some(zone_list::vectors),
+        ..Row::compared::<ZoneList>("zone_list")
+    },
 ];
 
-/// A line of the bench for a function on other inputs: FUNCTION:INPUTS. It is
-/// left out of the mean.
+/// A line of the bench for a function on other inputs: FUNCTION:INPUTS.
 pub type Variant = (&'static str, fn() -> Times);
 
 pub static VARIANTS: &[Variant] = &[
     ("snf3x3:to_10", || {
         bench::run_on::<Snf3x3>(MatrixInput::small)
     }),
-    ("snf3x3:any", || bench::run_on::<Snf3x3>(MatrixInput::any)),
     ("bz_grid_addresses:type_1", || {
         bench::run_on::<BzGridAddresses>(ImagesInput::sparse)
     }),
@@ -127,3 +160,33 @@ pub static VARIANTS: &[Variant] = &[
         bench::run_on::<BzTripletsAtQ>(TripletsInput::dense)
     }),
 ];
+
+/// Every line of the bench.
+pub fn benches() -> Vec<(&'static str, Bench)> {
+    let rows = ROWS.iter().filter_map(|row| Some((row.name, row.bench?)));
+    let part = Part::Apart;
+    let variants = VARIANTS
+        .iter()
+        .map(|&(name, run)| (name, Bench { part, run }));
+    rows.chain(variants).collect()
+}
+
+#[cfg(test)]
+mod tests {
+    use super::*;
+
+    #[test]
+    fn the_calls_of_the_paper() {
+        let call = |row: &&Row| row.bench.is_some_and(|bench| bench.part == Part::Call);
+        assert_eq!(ROWS.iter().filter(call).count(), 11);
+    }
+
+    /// Both sides accept what they are timed on, with the same answer.
+    #[test]
+    fn every_bench_runs() {
+        for (name, bench) in benches() {
+            let Times { port, rust } = (bench.run)();
+            assert!(port > 0.0 && rust > 0.0, "{name}");
+        }
+    }
+}

@@ -2,7 +2,9 @@
 //! diagonalising of both does.
 
 use phonors::common::{negate_i, transpose_i, MatI};
+use phonors::snf3x3::snf3x3;
 
+use crate::bench::{call, Call, Timed};
 use crate::function::{Function, Input, Line, Outputs};
 use crate::inputs::matrices::{self, diag};
 use crate::inputs::walks::{INSIDE, OUTSIDE, SMALLEST};
@@ -91,8 +93,6 @@ impl Input for PairInput {
 pub struct SameGrid;
 
 impl Function for SameGrid {
-    const NAME: &'static str = "same_grid";
-
     const VECTORS: usize = 96;
 
     type Input = PairInput;
@@ -114,6 +114,17 @@ impl Function for SameGrid {
             let [a, b] = [diagonalised(a)?, diagonalised(b)?];
             told[0] = (a.d_diag == b.d_diag).into();
             Ok(())
+        })
+    }
+}
+
+impl Timed for SameGrid {
+    /// The Rust has no such call: it diagonalises both.
+    fn bare(input: &PairInput) -> Call<'_> {
+        let pair = [&input.a, &input.b].map(|slice| matrix(slice).expect("a matrix"));
+        call(pair, |pair, _| {
+            let [a, b] = pair.map(snf3x3);
+            matches!((a, b), (Ok(a), Ok(b)) if a.d_diag == b.d_diag)
         })
     }
 }

@@ -4,6 +4,7 @@ use phonors::common::{MatI, IDENTITY, INVERSION};
 use phonors::snf3x3::{snf3x3, Snf3x3 as Diagonalised, Snf3x3Error};
 use phonors::{snf3x3_counted, snf3x3_measured};
 
+use crate::bench::{call, Call, Timed};
 use crate::function::{Function, Input, Line, Outputs};
 use crate::inputs::matrices::{self, diag};
 use crate::inputs::{lent, walks};
@@ -77,14 +78,6 @@ impl MatrixInput {
             a: typical(random, &[10]),
         }
     }
-
-    /// Singular matrices and overflows too. An overflow is a panic of the Rust, and
-    /// nothing where it is not checked.
-    pub fn any(random: &mut Random) -> MatrixInput {
-        MatrixInput {
-            a: flat(matrices::matrix(random)),
-        }
-    }
 }
 
 impl Input for MatrixInput {
@@ -134,29 +127,7 @@ impl Input for MatrixInput {
 
 pub struct Snf3x3;
 
-impl Snf3x3 {
-    /// The call, with the rounds that stand in `told`.
-    fn answer(
-        input: &MatrixInput,
-        outputs: &mut Outputs,
-        rounds: fn(MatI, &Diagonalised) -> i64,
-    ) -> i64 {
-        outputs.answer(|slices, told| {
-            let a = matrix(&input.a)?;
-            length(slices.iter().map(Vec::len).eq([3, 9, 9]) && told.len() == 1)?;
-            let answer = diagonalised(a)?;
-            slices[0].copy_from_slice(&answer.d_diag);
-            slices[1].copy_from_slice(answer.p.as_flattened());
-            slices[2].copy_from_slice(answer.q.as_flattened());
-            told[0] = rounds(a, &answer);
-            Ok(())
-        })
-    }
-}
-
 impl Function for Snf3x3 {
-    const NAME: &'static str = "snf3x3";
-
     const VECTORS: usize = 144;
 
     type Input = MatrixInput;
@@ -174,12 +145,23 @@ impl Function for Snf3x3 {
     }
 
     fn oracle(input: &MatrixInput, outputs: &mut Outputs) -> i64 {
-        Snf3x3::answer(input, outputs, rounds)
+        outputs.answer(|slices, told| {
+            let a = matrix(&input.a)?;
+            length(slices.iter().map(Vec::len).eq([3, 9, 9]) && told.len() == 1)?;
+            let answer = diagonalised(a)?;
+            slices[0].copy_from_slice(&answer.d_diag);
+            slices[1].copy_from_slice(answer.p.as_flattened());
+            slices[2].copy_from_slice(answer.q.as_flattened());
+            told[0] = rounds(a, &answer);
+            Ok(())
+        })
     }
+}
 
-    /// The Rust does not count its rounds.
-    fn timed(input: &MatrixInput, outputs: &mut Outputs) -> i64 {
-        Snf3x3::answer(input, outputs, |_, _| 0)
+impl Timed for Snf3x3 {
+    fn bare(input: &MatrixInput) -> Call<'_> {
+        let a = matrix(&input.a).expect("a matrix");
+        call(a, |a, _| snf3x3(*a))
     }
 }
 
@@ -285,8 +267,6 @@ mod tests {
     struct Miscounting;
 
     impl Function for Miscounting {
-        const NAME: &'static str = "miscounting";
-
         type Input = MatrixInput;
 
         fn outputs(input: &MatrixInput) -> Outputs {

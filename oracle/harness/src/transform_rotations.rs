@@ -2,6 +2,7 @@
 
 use phonors::transform_rotations::{transform_rotations, TransformRotationsError};
 
+use crate::bench::{call, Call, Timed};
 use crate::function::{Function, Outputs};
 use crate::inputs::lent_transforms::TransformInput;
 use crate::inputs::matrices::is_within;
@@ -14,8 +15,6 @@ use crate::tests::{fixed, length, limit, matrices, matrix, points, rotations_fit
 pub struct TransformRotations;
 
 impl Function for TransformRotations {
-    const NAME: &'static str = "transform_rotations";
-
     const VECTORS: usize = 256;
 
     type Input = TransformInput;
@@ -47,6 +46,17 @@ impl Function for TransformRotations {
             })?;
             slices[0].copy_from_slice(list.as_flattened().as_flattened());
             Ok(())
+        })
+    }
+}
+
+impl Timed for TransformRotations {
+    fn bare(input: &TransformInput) -> Call<'_> {
+        let rotations = matrices(&input.rotations).expect("matrices");
+        let d = fixed(&input.d).expect("three");
+        let q = matrix(&input.q).expect("a matrix");
+        call((rotations, d, q), |(rotations, d, q), _| {
+            transform_rotations(rotations, *d, *q)
         })
     }
 }
@@ -219,8 +229,6 @@ mod tests {
     struct Whole;
 
     impl Function for Whole {
-        const NAME: &'static str = "whole";
-
         type Input = TransformInput;
 
         fn outputs(input: &TransformInput) -> Outputs {

@@ -5,10 +5,9 @@ use crate::function::{Function, Input, Line};
 use crate::inputs::floats::words;
 use crate::random::Random;
 
-/// What the replaying program holds: a line, so that it has under 4,096 numbers;
-/// the places of an output; a file, which is shorter than this.
+/// What the replaying program holds: a line, so that it has under 4,096 numbers; a
+/// file, which is shorter than this.
 const LINE_BYTES: usize = 8_000;
-const PLACES: usize = 8_192;
 const FILE_BYTES: usize = 65_536;
 
 /// Bytes of a file's first line, at most.
@@ -25,14 +24,26 @@ pub fn text(seed: u64, lines: &[String]) -> String {
 }
 
 pub fn lines<F: Function>(seed: u64) -> Vec<String> {
-    let mut random = Random::new(seed);
     let at_limits = F::Input::at_limits();
-    let mut lines: Vec<String> = at_limits.iter().filter_map(line::<F>).collect();
+    filled(seed, F::VECTORS, &at_limits, F::Input::random, line::<F>)
+}
+
+/// The lines of cases at the limits, filled up with random ones to a number of
+/// cases, or as far as the file has room.
+pub fn filled<I>(
+    seed: u64,
+    cases: usize,
+    at_limits: &[I],
+    input: fn(&mut Random) -> I,
+    line: fn(&I) -> Option<String>,
+) -> Vec<String> {
+    let mut random = Random::new(seed);
+    let mut lines: Vec<String> = at_limits.iter().filter_map(line).collect();
     let mut room = FILE_BYTES - HEAD_BYTES;
     lines.iter().for_each(|line| room -= line.len() + 1);
-    for _ in lines.len()..F::VECTORS {
+    for _ in lines.len()..cases {
         let line = loop {
-            let line = line::<F>(&F::Input::random(&mut random));
+            let line = line(&input(&mut random));
             if let Some(line) = line.filter(|line| !lines.contains(line)) {
                 break line;
             }
@@ -50,7 +61,8 @@ pub fn lines<F: Function>(seed: u64) -> Vec<String> {
 /// can hold it.
 fn line<F: Function>(input: &F::Input) -> Option<String> {
     let mut outputs = F::outputs(input);
-    if outputs.slices.iter().any(|slice| slice.len() > PLACES) {
+    let mut held = outputs.slices.iter().zip(F::HELD);
+    if held.any(|(slice, &held)| slice.len() > held) {
         return None;
     }
     let answer = F::oracle(input, &mut outputs);
@@ -59,24 +71,31 @@ fn line<F: Function>(input: &F::Input) -> Option<String> {
     line.number(answer);
     let numbers = outputs.slices.len() - F::FLOATS;
     for (k, slice) in outputs.slices.iter().enumerate() {
-        let places = if k < numbers {
-            slice.clone()
+        if k < numbers {
+            write(&mut line, slice.len(), slice);
         } else {
-            slice
-                .iter()
-                .flat_map(|&bits| words(f64::from_bits(bits as u64)))
-                .collect()
-        };
-        line.number(slice.len() as i64);
-        if slice.len() > LISTED {
-            line.number(sum(&places));
-        } else {
-            line.numbers(&places);
+            let float = |&bits: &i64| words(f64::from_bits(bits as u64));
+            let words: Vec<i64> = slice.iter().flat_map(float).collect();
+            write(&mut line, slice.len(), &words);
         }
     }
     line.numbers(&outputs.told);
-    let text = line.text();
-    (text.len() < LINE_BYTES).then_some(text)
+    line_held(line)
+}
+
+/// An output of so many places: their number, then what they hold or its sum.
+pub fn write(line: &mut Line, places: usize, numbers: &[i64]) {
+    line.number(places as i64);
+    if places > LISTED {
+        line.number(sum(numbers));
+    } else {
+        line.numbers(numbers);
+    }
+}
+
+/// The text of a line that the replaying program can hold.
+pub fn line_held(line: Line) -> Option<String> {
+    Some(line.text()).filter(|text| text.len() < LINE_BYTES)
 }
 
 /// A sum that every place, its sign and its value bear on.

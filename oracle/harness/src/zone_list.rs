@@ -7,10 +7,11 @@ use phonors::common::{MatD, MatI};
 use crate::bz_grid_addresses::BzGridAddresses;
 use crate::bz_triplets_at_q::BzTripletsAtQ;
 use crate::chain::{Rust, Steps};
-use crate::function::{Function, Outputs};
+use crate::function::{Function, Input, Line, Outputs};
 use crate::inputs::groups::flat;
 use crate::inputs::images::{Images, DENSE};
 use crate::inputs::jobs::JobInput;
+use crate::inputs::jobs_at_limits;
 use crate::inputs::lent_classes::ClassesInput;
 use crate::inputs::lent_images::ImagesInput;
 use crate::inputs::lent_transforms::TransformInput;
@@ -24,6 +25,10 @@ use crate::refusals::{ACCEPTED, WRONG_HEADER};
 use crate::snf3x3::{MatrixInput, Snf3x3};
 use crate::tests::{fixed, length, matrices, matrix};
 use crate::transform_rotations::TransformRotations;
+use crate::vectors;
+
+/// Cases of the vectors, as far as the file has room.
+const VECTORS: usize = 512;
 
 /// Places of the doubled mesh and the counts, for the most points.
 const JOB_MAP: usize = 9 * JOB_POINTS + 1;
@@ -140,17 +145,36 @@ fn line(word: &str, numbers: &[i64]) -> String {
     line + "\n"
 }
 
-/// What a job prints, or the number of its refusal.
+/// What a job lists, or the number of its refusal.
 pub fn listing(job: &[u8]) -> Result<String, i64> {
     Job::read(job)?.list()
+}
+
+/// Lines of jobs, with what the program `zonelist` answers and prints.
+pub fn vectors(seed: u64) -> Vec<String> {
+    let at_limits = jobs_at_limits::inputs();
+    vectors::filled(seed, VECTORS, &at_limits, JobInput::random, vector)
+}
+
+/// A line of the vectors: the job as runs, the answer, and the text as its length and
+/// its bytes, or its length and a sum if it has over 432.
+fn vector(input: &JobInput) -> Option<String> {
+    let (answer, text) = match listing(&input.job) {
+        Ok(text) => (ACCEPTED, text),
+        Err(refusal) => (refusal, line("refused", &[refusal])),
+    };
+    let bytes: Vec<i64> = text.bytes().map(i64::from).collect();
+    let mut line = Line::default();
+    input.write(&mut line);
+    line.number(answer);
+    vectors::write(&mut line, bytes.len(), &bytes);
+    vectors::line_held(line)
 }
 
 /// The text stands in the outputs a byte a place. A refusal leaves 0 in it.
 pub struct ZoneList;
 
 impl Function for ZoneList {
-    const NAME: &'static str = "zone_list";
-
     type Input = JobInput;
 
     fn outputs(input: &JobInput) -> Outputs {
@@ -188,7 +212,6 @@ impl Function for ZoneList {
 mod tests {
     use super::*;
     use crate::compare;
-    use crate::function::Input;
     use crate::inputs::images::TYPES;
     use crate::inputs::jobs::{paper, set_word, word, Request, TOTAL, TYPE};
     use crate::inputs::matrices::diag;
@@ -291,12 +314,37 @@ mod tests {
         assert!(met.iter().filter(|met| met.0 == 15).count() > 300);
     }
 
+    /// The job of the paper first, and every number that a job can meet among those at
+    /// the limits.
+    #[test]
+    fn vectors_of_every_answer() {
+        let lines = super::vectors(1);
+        vectors::text(1, &lines);
+        let texts = LISTING.bytes().map(|byte| format!(" {byte}"));
+        let listing = texts.collect::<String>();
+        assert!(lines[0].starts_with("36 1 176 3 0 1 1 3 0 1 32 3 0 1 68 3 0 "));
+        assert!(lines[0].ends_with(&format!(" 1 240 1 63 0 54{listing}")));
+        assert!(lines.contains(&"0 15 11 114 101 102 117 115 101 100 32 49 53 10".into()));
+        let inputs = jobs_at_limits::inputs();
+        assert!(lines.len() > inputs.len());
+        let answers = inputs.iter().map(|input| super::listing(&input.job).err());
+        let met: Vec<i64> = answers.map(|refusal| refusal.unwrap_or(0)).collect();
+        for answer in 0..=15 {
+            let count = met.iter().filter(|&&met| met == answer).count();
+            let least = match answer {
+                2 | 5 | 10 | 14 => 0,
+                1 | 4 | 6 | 8 => 1,
+                7 | 9 | 11 | 12 | 13 => 2,
+                _ => 20,
+            };
+            assert!(count >= least && (count == 0) == (least == 0), "{answer}");
+        }
+    }
+
     /// Reads the words the other way round.
     struct BigEndian;
 
     impl Function for BigEndian {
-        const NAME: &'static str = "big_endian";
-
         type Input = JobInput;
 
         fn outputs(input: &JobInput) -> Outputs {

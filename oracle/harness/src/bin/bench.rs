@@ -1,12 +1,12 @@
-//! bench: for each function, and then for each variant, a line with its name and
-//! the nanoseconds per call of the port and of the Rust.
+//! bench: a line for each function, and for each variant, with the part of the table
+//! that it stands in, its name, and the nanoseconds per call of the port and of the
+//! Rust.
 
-use harness::rows::{ROWS, VARIANTS};
+use harness::rows::benches;
 
 fn main() {
-    let rows = ROWS.iter().filter_map(|row| Some((row.name, row.bench?)));
-    for (name, bench) in rows.chain(VARIANTS.iter().copied()) {
-        let times = bench();
-        println!("{name} {} {}", times.port, times.oracle);
+    for (name, bench) in benches() {
+        let times = (bench.run)();
+        println!("{:?} {name} {} {}", bench.part, times.port, times.rust);
     }
 }

@@ -4,10 +4,10 @@ use phonors::common::{det_i, transpose_i, MatD, MatI, IDENTITY};
 
 use crate::function::{Input, Line};
 use crate::inputs::chains::{crystal, lattice, Crystal};
-use crate::inputs::groups;
 use crate::inputs::images::TYPES;
 use crate::inputs::lattices::{self, REGULAR};
 use crate::inputs::matrices::{self, diag};
+use crate::inputs::{groups, jobs_at_limits};
 use crate::limits::{JOB_BYTES, JOB_HEADER_BYTES, ROTATIONS};
 use crate::random::Random;
 use crate::zone_list::listing;
@@ -185,104 +185,9 @@ fn lent(job: Vec<u8>, random: &mut Random) -> JobInput {
     }
 }
 
-/// The job of the paper with a word of its header at every limit, or cut and lengthened.
-fn headers() -> Vec<Vec<u8>> {
-    let plain = paper().plain();
-    let total = plain.len() as u32;
-    let mut jobs = vec![vec![], plain[..31].to_vec(), plain[..32].to_vec()];
-    let words: [(usize, &[u32]); 8] = [
-        (TOTAL, &[0, total - 1, total + 1, 1 << 31]),
-        (COUNT, &[0, 2, 3, 4, 192, 193, u32::MAX]),
-        (
-            MATRIX,
-            &[0, 31, 32, total - 36, total - 35, total, u32::MAX],
-        ),
-        (LIST, &[31, 32, 33, total - 36, total - 35, u32::MAX - 35]),
-        (LATTICE, &[31, 32, total - 72, total - 71, total, 1 << 31]),
-        (FLAGS, &[0, 1, 2, 3, 4, 1 << 31]),
-        (TYPE, &[0, 1, 2, 3, u32::MAX]),
-        (POINT, &[0, 1, 2, 3, u32::MAX]),
-    ];
-    for (place, values) in words {
-        for &value in values {
-            let mut job = plain.clone();
-            set_word(&mut job, place, value);
-            jobs.push(job);
-        }
-    }
-    // An empty list anywhere from the header's end to the end.
-    for offset in [31, 32, total, total + 1] {
-        let mut job = plain.clone();
-        set_word(&mut job, COUNT, 0);
-        set_word(&mut job, LIST, offset);
-        jobs.push(job);
-    }
-    for length in [JOB_BYTES - 1, JOB_BYTES, JOB_BYTES + 1] {
-        let mut job = plain.clone();
-        job.resize(length, 0);
-        set_word(&mut job, TOTAL, length as u32);
-        jobs.push(job);
-    }
-    jobs
-}
-
-/// Matrices about the limits of the points, and others that are refused on the way.
-fn requests() -> Vec<Request> {
-    let with = |a| Request { a, ..paper() };
-    let numbers = [
-        [16, 16, 1],
-        [17, 16, 1],
-        [17, 17, 1],
-        [256, 1, 1],
-        [257, 1, 1],
-        [0, 1, 1],
-        [-3, 1, 1],
-        [1_000_000, 1, 1],
-        [1_000_001, 1, 1],
-        [8, 8, 4],
-    ];
-    let mut requests: Vec<Request> = numbers.map(|numbers| with(diag(numbers))).to_vec();
-    for type_and_lattice in [3, 1] {
-        // 13 for the points comes before 3 and 9 of the images.
-        requests.push(Request {
-            bz_grid_type: type_and_lattice,
-            lattice: [[f64::NAN; 3]; 3],
-            ..with(diag([17, 17, 1]))
-        });
-        requests.push(Request {
-            bz_grid_type: type_and_lattice,
-            lattice: [[f64::NAN; 3]; 3],
-            ..paper()
-        });
-    }
-    let exchange = [[0, 1, 0], [1, 0, 0], [0, 0, 1]];
-    requests.push(Request {
-        rotations: vec![exchange],
-        ..with(diag([2, 1, 1]))
-    });
-    let distinct = |count| (0..count).map(|k| [[1, k, 0], [0, 1, 0], [0, 0, 1]]);
-    for count in [24, 25, 48, 49, 192] {
-        for flags in [0, 1] {
-            requests.push(Request {
-                rotations: distinct(count).collect(),
-                flags,
-                ..paper()
-            });
-        }
-    }
-    requests.push(Request {
-        rotations: vec![IDENTITY; 192],
-        ..paper()
-    });
-    requests
-}
-
 impl Input for JobInput {
     fn at_limits() -> Vec<JobInput> {
-        let requests = requests().into_iter().map(|request| request.plain());
-        let room = JOB_BYTES;
-        let jobs = headers().into_iter().chain(requests);
-        let mut inputs: Vec<JobInput> = jobs.map(|job| JobInput { job, room }).collect();
+        let mut inputs = jobs_at_limits::inputs();
         let job = paper().plain();
         let length = listing(&job).expect("accepted").len();
         for room in [0, 1, length - 1, length, length + 1] {
@@ -310,6 +215,12 @@ impl Input for JobInput {
         JobInput::random(random)
     }
 
-    /// A job has no vectors.
-    fn write(&self, _: &mut Line) {}
+    /// The job's bytes as runs: their number, then the length and the byte of each.
+    fn write(&self, line: &mut Line) {
+        let runs: Vec<&[u8]> = self.job.chunk_by(|a, b| a == b).collect();
+        line.number(runs.len() as i64);
+        for run in runs {
+            line.numbers(&[run.len() as i64, run[0].into()]);
+        }
+    }
 }

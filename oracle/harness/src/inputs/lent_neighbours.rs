@@ -25,6 +25,9 @@ pub struct NeighboursInput {
     pub places: usize,
 }
 
+/// Once in so many cases the output is long.
+const LONG: usize = 8;
+
 /// Offsets of the bench, of the 26 about a point.
 const TYPICAL_OFFSETS: usize = 24;
 
@@ -93,6 +96,22 @@ fn small() -> Vec<NeighboursInput> {
             inputs.push(NeighboursInput::new(&points, &cube()[9..18], &tables));
             let far = [[0; 3], [2, 0, -2], [OFFSET, -OFFSET, 7], [-3, 5, 1]];
             inputs.push(NeighboursInput::new(&points, &far, &tables));
+        }
+    }
+    inputs
+}
+
+/// Outputs of 200 places and more: about the length that the vectors list, and the
+/// most that they hold.
+fn long() -> Vec<NeighboursInput> {
+    let offset = |n: i64| [n % 5 - 2, n % 3 - 1, n / 15];
+    let mut inputs = Vec::new();
+    for [points, offsets] in [[25, 8], [67, 3], [24, 18], [31, 14], [64, 64]] {
+        for tables in both([3, 2, 1], REGULAR[0]) {
+            let images = tables.images() as i64;
+            let points: Vec<i64> = (0..points).map(|n| n % images).collect();
+            let offsets: Vec<Vec3I> = (0..offsets).map(offset).collect();
+            inputs.push(NeighboursInput::new(&points, &offsets, &tables));
         }
     }
     inputs
@@ -273,14 +292,29 @@ fn refused() -> Vec<NeighboursInput> {
     inputs
 }
 
-fn any_offset(random: &mut Random) -> Vec3I {
-    let size = random.pick(&[1, 1, 3, 10, OFFSET]);
-    [(); 3].map(|()| random.within(size))
+fn any_offsets(random: &mut Random, count: usize) -> Vec<Vec3I> {
+    let offset = |_| {
+        let size = random.pick(&[1, 1, 3, 10, OFFSET]);
+        [(); 3].map(|()| random.within(size))
+    };
+    (0..count).map(offset).collect()
+}
+
+/// Points and offsets that fill 200 to 12,000 places. A single point that is not there
+/// would refuse the call, so most have none.
+fn long_lists(random: &mut Random, tables: &LentTables) -> (Vec<i64>, Vec<Vec3I>) {
+    let count = 20 + random.below(281);
+    let mut points: Vec<i64> = (0..count).map(|_| tables.image(random)).collect();
+    if random.one_in(10) {
+        points[random.below(count)] = tables.no_index(random);
+    }
+    let offsets = 10 + random.below(31);
+    (points, any_offsets(random, offsets))
 }
 
 impl Input for NeighboursInput {
     fn at_limits() -> Vec<NeighboursInput> {
-        let kinds = [small(), empty(), values(), indices(), refused()];
+        let kinds = [small(), long(), empty(), values(), indices(), refused()];
         kinds.into_iter().flatten().collect()
     }
 
@@ -292,13 +326,17 @@ impl Input for NeighboursInput {
         if random.one_in(8) {
             tables.damage(random);
         }
-        let [points, offsets] = [24, 8].map(|most| {
-            let least = usize::from(!random.one_in(40));
-            let more = random.pick(&[1, 2, most]);
-            least + random.below(more)
-        });
-        let points: Vec<i64> = (0..points).map(|_| tables.index(random)).collect();
-        let offsets: Vec<Vec3I> = (0..offsets).map(|_| any_offset(random)).collect();
+        let (points, offsets) = if random.one_in(LONG) {
+            long_lists(random, &tables)
+        } else {
+            let [points, offsets] = [24, 8].map(|most| {
+                let least = usize::from(!random.one_in(40));
+                let more = random.pick(&[1, 2, most]);
+                least + random.below(more)
+            });
+            let points = (0..points).map(|_| tables.index(random)).collect();
+            (points, any_offsets(random, offsets))
+        };
         let mut input = NeighboursInput::new(&points, &offsets, &tables);
         match random.below(100) {
             0 => input.bz_grid_type = random.pick(&NO_TYPES),

@@ -6,6 +6,7 @@ pub mod grids;
 pub mod groups;
 pub mod images;
 pub mod jobs;
+pub mod jobs_at_limits;
 pub mod lattices;
 pub mod lent;
 pub mod lent_classes;

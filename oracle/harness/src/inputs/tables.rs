@@ -66,11 +66,23 @@ impl LentTables {
 
     /// An index of an address, now and then none.
     pub fn index(&self, random: &mut Random) -> i64 {
-        let images = self.images() as i64;
-        if images == 0 || random.one_in(100) {
-            return random.pick(&[-1, images, images + 1, MAP_VALUE, i64::MIN, i64::MAX]);
+        if self.images() == 0 || random.one_in(100) {
+            return self.no_index(random);
         }
-        random.between(0, images - 1)
+        self.image(random)
+    }
+
+    /// An index of an address, if there is any.
+    pub fn image(&self, random: &mut Random) -> i64 {
+        match self.images() as i64 {
+            0 => self.no_index(random),
+            images => random.between(0, images - 1),
+        }
+    }
+
+    pub fn no_index(&self, random: &mut Random) -> i64 {
+        let images = self.images() as i64;
+        random.pick(&[-1, images, images + 1, MAP_VALUE, i64::MIN, i64::MAX])
     }
 
     /// A value of a map, a likely one or one at a limit.

@@ -1,7 +1,113 @@
-/* The exports of libzone_c.a (rt staticlib zone_c).
+/* zone.h: the zone folding of a diffuse-scattering camera. Archive libzone_c.a (`rt staticlib zone_c`), for C99,
+ * C++ and Rust on x86-64 Linux; it needs memcpy and memset and nothing else. examples/ folds a crystal in C and in
+ * Rust.
  *
- * Every slice is a pointer and a length in places. Every function answers 0, or the number of its
- * refusal, and then -1 stands in every place of every output. */
+ * Given a crystal and a grid of points q in its reciprocal space, the calls tell which points are equivalent, where
+ * each lies in the first Brillouin zone (its images), and for a point q0 the classes of triplets q0 + q1 + q2 = G,
+ * a vector of the reciprocal lattice, with one triplet of images for each class.
+ *
+ * CALLS
+ *
+ * A slice is a pointer and its length in places (numbers, not bytes); name[n] below says which length it must have.
+ * Matrices are by rows, nine places each. Inputs stand before outputs. Each function answers 0, or the number of its
+ * refusal, for any numbers in any slices. `told` holds what it answers besides. After a refusal every place of every
+ * output holds -1 (left_length -1.0, text 0).
+ *
+ * THE CRYSTAL
+ *
+ * All of these are said in one basis a1, a2, a3 of the crystal's lattice, best a reduced one (Niggli):
+ *
+ *   rotations  Direct-space, as spglib gives them: R carries the fractional coordinates x of a position to R·x.
+ *   lattice    Reciprocal: the basis vectors b1, b2, b3 are the COLUMNS, so lattice[3 * i + j] is the Cartesian
+ *              component i of vector j; ai·bj is 1 (or 2 pi) for i = j, else 0. It is the inverse (or 2 pi times it)
+ *              of the matrix whose rows are a1, a2, a3.
+ *   A          The grid: the points are the q, in units of b1, b2, b3, for which A·q is whole. diag(n0, n1, n2)
+ *              makes a mesh of n0 by n1 by n2; rows that are n0, n1, n2 times the vectors of a conventional cell,
+ *              in units of a1, a2, a3, make such a mesh of that cell.
+ *
+ * THE GRID
+ *
+ * zone_snf3x3 makes A diagonal, P·A·Q = D = diag(d). The grid has N = d0·d1·d2 = |det A| points, 0 to
+ * N - 1. Point p has the address (p % d0, p / d0 % d1, p / (d0·d1)); any address a belongs to the point
+ * r2·d0·d1 + r1·d0 + r0, where rk is the remainder of ak by dk that is not negative. Address a stands for
+ *
+ *   q = Q·D⁻¹·(a + ps/2),   q_i = sum over k of Q[3 * i + k] * (a[k] + ps[k] / 2.0) / d[k]
+ *
+ * in units of b1, b2, b3; lattice·q is the Cartesian vector. The q of two addresses of one point differ by a vector of
+ * the reciprocal lattice. The shift ps moves the grid by half a step along its own axes, the columns of Q·D⁻¹. With a
+ * shift other than 0 a class map is one of equivalent q only if M·ps - ps is even in each number for every matrix M of
+ * the transformed list, which no call tests; and triplets, which add addresses alone, no longer sum to a G.
+ *
+ * THE ROTATIONS
+ *
+ *   as given       zone_reciprocal_rotations and zone_reciprocal_point_group take the direct-space list
+ *   reciprocal     R transposed acts on q; zone_transform_rotations takes this list, the told part of those calls'
+ *                  output (9 * told[0] places)
+ *   transformed    M = D·Q⁻¹·R·Q·D⁻¹, for each R of the reciprocal list, acts on addresses; zone_ir_grid_map,
+ *                  zone_ir_triplets_at_q and zone_rotate_bz_grid_index take this list, or a matrix of it
+ *
+ * No call can tell one of these lists from another. A list is a group if it holds the identity, no matrix twice, only
+ * determinants of 1 and -1, and every product of two. For other lists a class map need not be one of classes.
+ *
+ * IMAGES
+ *
+ * The images of a point are its addresses whose q is shortest, up to a tolerance: one inside the zone, several on its
+ * border. Image i of a table has the address addresses[3 * i], .. [3 * i + 2] and belongs to point grg[i]. The images
+ * of point p are
+ *
+ *   type 2 (dense)    the places map[p] to map[p + 1] - 1; map has N + 1 places
+ *   type 1 (sparse)   the place p, and the places N + map[8 * N + p] to N + map[8 * N + p + 1] - 1; map has 9 * N + 1
+ *                     places, of which the first 8 * N are a doubled mesh: place i stands at the index of its address
+ *                     with 2·d for d (of several that fall together the last), and 8 * N where no image falls
+ *
+ * Both types have the same images. Squared lengths are compared up to the tolerance, 0.01 times the largest of
+ * |bj|² / dj²; a basis that is far from reduced makes it so large that images are not the shortest.
+ *
+ * THE ORDER OF THE CALLS
+ *
+ *   1  zone_snf3x3                 A                                    d, q
+ *   2  zone_reciprocal_rotations   the rotations, time_reversal         the reciprocal list
+ *   3  zone_transform_rotations    the reciprocal list, d, q            the transformed list
+ *      zone_ir_grid_map            the transformed list, d, ps          the classes of the points, if wanted
+ *   4  zone_bz_grid_addresses      d, q, ps, lattice, type              addresses, map, grg
+ *   5  zone_ir_triplets_at_q       q0, d, the transformed list,         map_triplets, map_q
+ *                                  time_reversal, swappable
+ *   6  zone_bz_triplets_at_q       q0 or an image of it, addresses,     a triplet of images for each class
+ *                                  map, map_triplets, d, q, lattice,
+ *                                  type
+ *
+ * time_reversal says that q and -q are equivalent, swappable that q1 and q2 may change places. d, q, ps, lattice,
+ * type and time_reversal are the same in every call that takes them. For rotations that are a group (with their
+ * negatives, where time reversal joins them) it is proved of calls 1 to 6, each accepted: two points q1 have one
+ * number in map_triplets exactly if a matrix of the transformed list that keeps q0 carries one to the other or, if
+ * swappable, to the other's partner -q0-q1; the number is the lowest point of the class; the triplet of a class sums
+ * to zero if any choice of images does, and else no choice has a squared length that is smaller by more than the
+ * tolerance.
+ *
+ * MEMORY
+ *
+ * No output may overlap another output or an input; inputs may overlap. A pointer is aligned as its type (8 bytes for
+ * int64_t and double) and has as many places as its length says; with length 0 it may be NULL. Nothing is kept after
+ * a call, and there are no globals, no allocation and no input or output: any thread may make any call at any time.
+ * Stack, as built: under 96 KiB for zone_list, under 8 KiB for every other call. The floating-point environment is
+ * that of a C program's start: rounding to nearest, no traps, subnormal numbers kept (so no -ffast-math when linking).
+ *
+ * LIMITS (else 3)
+ *
+ *   A            entries of size at most 1,000,000
+ *   Q            entries of size at most 1,000; call 1 may leave larger ones
+ *   d            each 1 to 256, N at most 65,536; call 1 may leave larger ones
+ *   ps           each 0 or 1
+ *   rotations    at most 192, entries of size at most 100 in zone_transform_rotations, 100,000 elsewhere
+ *   lattice      finite, of size at most 1,000,000
+ *   offsets      of size at most 1,000
+ *   q0           0 to N - 1 (an image index in zone_bz_triplets_at_q of type 2: there 14)
+ *
+ * A list of matrices has a multiple of 9 places, one of addresses a multiple of 3. Tables that are read may have any
+ * length and hold anything.
+ *
+ * REFUSALS stand with each call in the order of their tests; the first that applies is the answer. A length that hangs
+ * on a number outside its limits is not tested: then 3 is given. */
 #ifndef ZONE_H
 #define ZONE_H
 
@@ -13,131 +119,141 @@
 extern "C" {
 #endif
 
-/* Whole numbers of 64 bits: told[1] is the exact result. 4: the result, or the quotient that a
- * remainder belongs to, leaves 64 bits, or the divisor is 0. 13: told has another length. */
-int64_t zone_checked_add(int64_t a, int64_t b, int64_t *told, size_t told_len);
-int64_t zone_checked_sub(int64_t a, int64_t b, int64_t *told, size_t told_len);
-int64_t zone_checked_mul(int64_t a, int64_t b, int64_t *told, size_t told_len);
-int64_t zone_checked_neg(int64_t a, int64_t *told, size_t told_len);
-int64_t zone_checked_div(int64_t a, int64_t d, int64_t *told, size_t told_len);
-int64_t zone_checked_rem(int64_t a, int64_t d, int64_t *told, size_t told_len);
-int64_t zone_checked_div_euclid(int64_t a, int64_t d, int64_t *told, size_t told_len);
-int64_t zone_checked_rem_euclid(int64_t a, int64_t d, int64_t *told, size_t told_len);
+enum zone_refusal {
+    ZONE_ACCEPTED = 0,
+    ZONE_SINGULAR = 1,                     /* the determinant of A is 0 */
+    ZONE_NOT_CONVERGED = 2,                /* 100 rounds end without a diagonal (more than 5 were never seen) */
+    ZONE_OUTSIDE_LIMITS = 3,               /* a number is outside its limits, above */
+    ZONE_OVERFLOW = 4,                     /* a number that zone_snf3x3 works out, in its order, leaves 64 bits */
+    ZONE_SINGULAR_Q = 5,                   /* the determinant of Q is 0 */
+    ZONE_SYMMETRY_BROKEN = 6,              /* a transformed entry is over 1e-5 from whole: R does not keep the grid */
+    ZONE_TOO_MANY_ROTATIONS = 7,           /* a 49th distinct rotation */
+    ZONE_TOO_MANY_FOR_INVERSION = 8,       /* over 24 distinct, and time reversal has their negatives to join */
+    ZONE_BAD_GRID_TYPE = 9,                /* the type is neither 1 nor 2 */
+    ZONE_NOT_UNIMODULAR_Q = 10,            /* the determinant of Q is neither 1 nor -1 */
+    ZONE_SINGULAR_RECIPROCAL_LATTICE = 11, /* the determinant of the lattice, worked out in double, is 0 */
+    ZONE_SEARCH_FAILED = 12,               /* at a point the search for images leaves -16..16 cells along a basis
+                                              vector or finds none: the basis is skewed, or very unequal in length */
+    ZONE_WRONG_LENGTH = 13,                /* a slice has another length than it must, or an image output is short */
+    ZONE_OUTSIDE_TABLE = 14,               /* an index asked for or read is outside its slice, a number read from an
+                                              image map outside 0..2^40, or an address read outside -10^13..10^13 */
+    ZONE_BAD_HEADER = 15                   /* the header of a job file is wrong */
+};
 
-/* Floats, for every f64: as Rust's round (halves away from zero), floor, ceil, abs, sqrt, the cast
- * x as i64, x.round() as i64, is_finite and the cast n as f64. */
-double zone_round(double x);
-double zone_floor(double x);
-double zone_ceil(double x);
-double zone_abs(double x);
-double zone_sqrt(double x);
-int64_t zone_to_i64(double x);
-int64_t zone_nint(double x);
-bool zone_is_finite(double x);
-double zone_to_f64(int64_t n);
+#define ZONE_MOST_ROTATIONS 192
+#define ZONE_GROUP_LENGTH 432 /* of the reciprocal list: room for 48 matrices */
+#define ZONE_MOST_POINTS 65536
+#define ZONE_MAP_LENGTH(type, n) ((type) == 1 ? 9 * (n) + 1 : (n) + 1) /* of the image map of n points */
+#define ZONE_MOST_IMAGES INT64_C(2363359232) /* in a table, whatever the lattice */
+#define ZONE_JOB_LENGTH 8192                 /* of the longest job file, in bytes */
+#define ZONE_TEXT_LENGTH 6940                /* no listing is longer, in bytes */
 
-/* The distinct rotations of a list in order, transposed or not, and under time reversal their
- * negatives after them unless the inversion is among them: out[432], 9 numbers each, then -1; told[1]
- * is their count. reciprocal_rotations transposes. 7: over 48 distinct rotations; 8: over 24, and
- * negatives to join; 13 and 3 as below. */
-int64_t zone_reciprocal_point_group(const int64_t *rotations, size_t rotations_len, bool time_reversal,
-                                    bool transpose, int64_t *out, size_t out_len, int64_t *told,
-                                    size_t told_len);
-int64_t zone_reciprocal_rotations(const int64_t *rotations, size_t rotations_len, bool time_reversal,
-                                  int64_t *out, size_t out_len, int64_t *told, size_t told_len);
+/* A made diagonal: P·A·Q = diag(d), det P = 1, det Q = 1 or -1. The diagonal is not always the Smith form:
+ * diag(2,2,3) gives 2 1 6. In: a[9]. Out: d[3], p[9], q[9], told[1]: the rounds. Refusals: 13, 3, 1, then 4 or 2; of
+ * random matrices 4 meets 1 of 10,000 with entries up to 100, and 7 of 100 with entries up to 1,000. */
+int64_t zone_snf3x3(const int64_t *a, size_t a_len, int64_t *d, size_t d_len, int64_t *p, size_t p_len, int64_t *q,
+                    size_t q_len, int64_t *told, size_t told_len);
 
-/* The matrix a[9] made diagonal: P·A·Q is the diagonal matrix of d[3], with P and Q in p[9] and q[9],
- * all by rows; told[1] is the number of rounds. 1: the determinant is 0; 2: 100 rounds were not enough;
- * 4: a number on the way leaves 64 bits; 13 and 3 as below. */
-int64_t zone_snf3x3(const int64_t *a, size_t a_len, int64_t *d, size_t d_len, int64_t *p, size_t p_len,
-                    int64_t *q, size_t q_len, int64_t *told, size_t told_len);
-
-/* Whether the matrices a[9] and b[9] have the same diagonal numbers: told[1] is 1 or 0. The refusals
- * are those of zone_snf3x3, of a before b. */
+/* Whether zone_snf3x3 gives a[9] and b[9] the same d: told[1] is 1 or 0. Refusals: 13, then those of zone_snf3x3 for
+ * a, then for b. */
 int64_t zone_same_grid(const int64_t *a, size_t a_len, const int64_t *b, size_t b_len, int64_t *told,
                        size_t told_len);
 
-/* The rotations as those of the grid with diagonal numbers d[3] and Q in q[9]: D·Q⁻¹·R·Q·D⁻¹ of each R,
- * in f64, rounded; rotations has 9 numbers each, out is as long. 5: the determinant of Q is 0; 6: a
- * number is over 1e-5 from a whole one; 13 and 3 as below. */
-int64_t zone_transform_rotations(const int64_t *rotations, size_t rotations_len, const int64_t *d,
-                                 size_t d_len, const int64_t *q, size_t q_len, int64_t *out,
-                                 size_t out_len);
+/* The reciprocal list of a direct-space list: each rotation once, in the order of its first place, transposed; then,
+ * under time reversal, their negatives in the same order, unless the inversion is among them. Out:
+ * out[ZONE_GROUP_LENGTH], with -1 past the list; told[1]: the count. Refusals: 13, 3, 7, 8. */
+int64_t zone_reciprocal_rotations(const int64_t *rotations, size_t rotations_len, bool time_reversal, int64_t *out,
+                                  size_t out_len, int64_t *told, size_t told_len);
 
-/* The grid with diagonal numbers d[3], N points. 13: a slice has another length, or rotations is not
- * a list of matrices; 3: a number is outside its limits.
- *
- * The class map: for each point the lowest one of its class; told[1] is the number of classes.
- * rotations has 9 numbers each, ps[3], map[N]. */
+/* The same, transposed only if `transpose` says so. */
+int64_t zone_reciprocal_point_group(const int64_t *rotations, size_t rotations_len, bool time_reversal,
+                                    bool transpose, int64_t *out, size_t out_len, int64_t *told, size_t told_len);
+
+/* Each R of the reciprocal list as M = D·Q⁻¹·R·Q·D⁻¹, which acts on addresses. For det Q = 1 or -1 the call is exact:
+ * it accepts if all entries are whole, and writes those. In: d[3], q[9]. Out: out[rotations_len]. Refusals: 13, 3, 5,
+ * 6. */
+int64_t zone_transform_rotations(const int64_t *rotations, size_t rotations_len, const int64_t *d, size_t d_len,
+                                 const int64_t *q, size_t q_len, int64_t *out, size_t out_len);
+
+/* The class map of the points: from the lowest point up, the first rotation of the transformed list that carries a
+ * point to a lower one gives it that one's number; else it keeps its own. For a group (and a shift as above) that is
+ * the lowest point of its class; for other lists it need not be: d (1,1,7) with diag(1,1,2) alone gives
+ * 0 1 2 3 1 3 3. M carries address a to (M·(2·a + ps) - ps) / 2, rounded toward 0. In: d[3], ps[3]. Out: map[N],
+ * told[1]: how many points keep their own number. Refusals: 13, 3. */
 int64_t zone_ir_grid_map(const int64_t *rotations, size_t rotations_len, const int64_t *d, size_t d_len,
                          const int64_t *ps, size_t ps_len, int64_t *map, size_t map_len, int64_t *told,
                          size_t told_len);
 
-/* The address of each point in index order: out[3 * N]. */
+/* The addresses of the points 0, 1, .. in turn. In: d[3]. Out: out[3 * N]. Refusals: 13, 3. */
 int64_t zone_all_grid_addresses(const int64_t *d, size_t d_len, int64_t *out, size_t out_len);
 
-/* The images of the points in the first Brillouin zone, with Q in q[9] and the reciprocal lattice in
- * lattice[9], both by rows, and ps[3]. Of M images addresses[3 * M], the point of each in grg[M], and
- * in map the places of the images: of type 1 from the doubled mesh and then from the grid, 9 * N + 1
- * places, of type 2 from the grid, N + 1. told[3] are the lengths of addresses, map and grg; outputs
- * may be longer and hold -1 past them. 9: the type is neither 1 nor 2; 10: the determinant of Q is not
- * 1 or -1; 11: that of the lattice is 0; 12: the search at a point leaves -16..16 on an axis or finds
- * no image; 13, also for an output that is too short, and 3 as above. */
-int64_t zone_bz_grid_addresses(const int64_t *d, size_t d_len, const int64_t *q, size_t q_len,
-                               const int64_t *ps, size_t ps_len, const double *lattice,
-                               size_t lattice_len, int64_t bz_grid_type, int64_t *addresses,
-                               size_t addresses_len, int64_t *map, size_t map_len, int64_t *grg,
+/* The image table of the grid. In: d[3], q[9], ps[3], lattice[9], the type. Out: of M images addresses (3 * M
+ * places), map (ZONE_MAP_LENGTH) and grg (M); told[3]: these three lengths. Outputs may be longer and hold -1 past
+ * them. M is not known beforehand: a point has at most 8 shortest addresses, and the tolerance seldom adds any, so
+ * lend room for 8 * N images, and for twice as many as long as the answer is 13. Refusals: 13 for the inputs and
+ * told, 3, 9, 10, 11, 12, 13 for an output that is too short. */
+int64_t zone_bz_grid_addresses(const int64_t *d, size_t d_len, const int64_t *q, size_t q_len, const int64_t *ps,
+                               size_t ps_len, const double *lattice, size_t lattice_len, int64_t bz_grid_type,
+                               int64_t *addresses, size_t addresses_len, int64_t *map, size_t map_len, int64_t *grg,
                                size_t grg_len, int64_t *told, size_t told_len);
 
-/* The image that rotation[9] carries image `index` of such a table to: told[2] is its place, and 0, or
- * 1 where no image has that address and the place is what the map holds at the point. 14: an index
- * leaves its slice, a place in the map 0..2^40 or an address read plus or minus 10^13; 9, 13 and 3 as
- * above. */
+/* Where rotation[9], a matrix of the transformed list, carries image `index` of a table. In: addresses and map as
+ * call 4 left them (here and below: at least their told parts), d[3], ps[3], the type. Out: told[2]. told[0] is the
+ * image at the rotated address, told[1] is 0. Where the rotated point has no image there, told[1] is 1, and told[0]
+ * is the first image of that point (type 2) or map[that point], which means nothing (type 1; it may be 8 * N).
+ * Refusals: 13, 3, 9, 14. */
 int64_t zone_rotate_bz_grid_index(int64_t index, const int64_t *rotation, size_t rotation_len,
-                                  const int64_t *addresses, size_t addresses_len, const int64_t *map,
-                                  size_t map_len, const int64_t *d, size_t d_len, const int64_t *ps,
-                                  size_t ps_len, int64_t bz_grid_type, int64_t *told, size_t told_len);
+                                  const int64_t *addresses, size_t addresses_len, const int64_t *map, size_t map_len,
+                                  const int64_t *d, size_t d_len, const int64_t *ps, size_t ps_len,
+                                  int64_t bz_grid_type, int64_t *told, size_t told_len);
 
-/* The images at the offsets from each of the points, which are places in such a table: offsets has 3
- * numbers each, out a place for each pair, those of the first point first. 9, 13, 3 and 14 as above;
- * without pairs any type is taken. */
+/* The neighbours of images. In: points, which are image indices of the table; offsets, three numbers each, that are
+ * added to their addresses; d[3], the type. Out: a place for each pair, all offsets of the first point first: the
+ * image at the sum or, where there is none, the first image of the sum's point. (Type 1 asks the doubled mesh, so
+ * its answer may be another image of that point.) Refusals: 13, 3, 9, 14; without points or without offsets neither 9
+ * nor 14. */
 int64_t zone_neighboring_grid_points(const int64_t *points, size_t points_len, const int64_t *offsets,
                                      size_t offsets_len, const int64_t *addresses, size_t addresses_len,
                                      const int64_t *map, size_t map_len, const int64_t *d, size_t d_len,
                                      int64_t bz_grid_type, int64_t *out, size_t out_len);
 
-/* The classes of the triplets (q0, q1, q2) with q0 + q1 + q2 = 0 on the grid with diagonal numbers d[3],
- * N points, under the rotations that keep the point q0, their negatives joined under time reversal as in
- * zone_reciprocal_point_group: for each point q1 the lowest one of its class, in map_q[N] under these
- * rotations alone, in map_triplets[N] also where q1 and q2 may be exchanged, if swappable; told[1] is the
- * number of classes of the latter. 7 and 8 as for zone_reciprocal_point_group; 13, and 3, also for a q0
- * outside 0..N-1, as above. */
+/* The classes of triplets at the point q0. In: d[3], the transformed list, to which time reversal joins negatives as
+ * in zone_reciprocal_rotations. Out: map_q[N], the class map (as of zone_ir_grid_map with ps = 0) of those matrices
+ * that keep q0, for each point q1; map_triplets[N], the same or, if swappable, for each number r of it the lower of r
+ * and the number of the partner of r, -q0-r; told[1]: how many points keep their own number in map_triplets. The
+ * weight of a class is how many points bear its number. Refusals: 13, 3, 7, 8. */
 int64_t zone_ir_triplets_at_q(int64_t q0, const int64_t *d, size_t d_len, const int64_t *rotations,
-                              size_t rotations_len, bool time_reversal, bool swappable,
-                              int64_t *map_triplets, size_t map_triplets_len, int64_t *map_q,
-                              size_t map_q_len, int64_t *told, size_t told_len);
+                              size_t rotations_len, bool time_reversal, bool swappable, int64_t *map_triplets,
+                              size_t map_triplets_len, int64_t *map_q, size_t map_q_len, int64_t *told,
+                              size_t told_len);
 
-/* For each class of such a class map a triplet of images (q0, q1, q2) in a table of zone_bz_grid_addresses
- * whose sum is zero or, where no choice of images gives that, of the least squared length that is left
- * over, which falls only by more than the tolerance. q0 is a point for type 1, a place in the table for
- * type 2; class_map is map_triplets or map_q of zone_ir_triplets_at_q, and with k places that hold their
- * own number out has 3 * k places, left and left_length k. left tells 1 for a sum that is zero, 0 for one
- * that is left over, its squared length in left_length, and -1 for a point without images, with -1 in
- * the three places of out; else left_length is 0. After a refusal left_length holds -1.0. 9, 13, 3 and
- * 14 as above. */
-int64_t zone_bz_triplets_at_q(int64_t q0, const int64_t *addresses, size_t addresses_len,
-                              const int64_t *map, size_t map_len, const int64_t *class_map,
-                              size_t class_map_len, const int64_t *d, size_t d_len, const int64_t *q,
-                              size_t q_len, const double *lattice, size_t lattice_len,
-                              int64_t bz_grid_type, int64_t *out, size_t out_len, int64_t *left,
-                              size_t left_len, double *left_length, size_t left_length_len);
+/* For each class, by rising number, a triplet of images of q0, q1 and q2, where q1 is the point of that number and q2
+ * is -q0-q1. In: q0, a point for type 1, any image of it for type 2; class_map, which is map_triplets or map_q;
+ * d[3], q[9], lattice[9], the type. Out: with k places of class_map that hold their own number out[3 * k], left[k]
+ * and left_length[k]. left is 1 where the three addresses sum to 0. It is 0 where no choice of images does: then the
+ * triplet has the shortest sum, up to the tolerance, and left_length its squared length, |lattice·G|² with
+ * G = Q·D⁻¹·sum. left and the three places are -1 where one of the points has no image in the table. left_length is
+ * 0 but where left is 0. The choices are tried one after the other until one sums to 0. Refusals: 13, 3, 9, 14. */
+int64_t zone_bz_triplets_at_q(int64_t q0, const int64_t *addresses, size_t addresses_len, const int64_t *map,
+                              size_t map_len, const int64_t *class_map, size_t class_map_len, const int64_t *d,
+                              size_t d_len, const int64_t *q, size_t q_len, const double *lattice, size_t lattice_len,
+                              int64_t bz_grid_type, int64_t *out, size_t out_len, int64_t *left, size_t left_len,
+                              double *left_length, size_t left_length_len);
 
-/* The listing of a job file, as the program zonelist prints it, for at most 256 points and 1,024 images
- * (else 13): text holds it, then 0 in every place; told[1] is its number of bytes. 15 for a wrong header,
- * else the first refusal that the chain of calls meets, and 13 where text has no room: then every place
- * of text is 0. */
-int64_t zone_list(const uint8_t *job, size_t job_len, uint8_t *text, size_t text_len, int64_t *told,
-                  size_t told_len);
+/* Calls 1 to 6 on a job file, for at most 256 points and 1,024 images (else 13), with ps = 0; type 2 starts from the
+ * first image of q0. The file has a header of eight 32-bit words, and all words are little-endian:
+ *
+ *   0  its length in bytes, 32 to ZONE_JOB_LENGTH      4  the byte at which the lattice stands: 9 doubles
+ *   1  the count of rotations, 0 to 192                5  flags: 1 time reversal, 2 swappable, or their sum
+ *   2  the byte at which A stands: 9 signed words      6  the type
+ *   3  the same of the rotations: 9 words each         7  q0, a point
+ *
+ * Sections stand from byte 32 on and end in the file; they may overlap. 15 if any of this does not hold (of words 6
+ * and 7 nothing is asked here). Out: text, with 0 past the listing, for which ZONE_TEXT_LENGTH places are always
+ * enough; told[1]: the bytes of the listing. Its lines are `grid` with d, `map` with map_triplets, `ir` with the
+ * number of classes, and for each class `triplet` with three image indices. Refusals: 13 for told, 15, those of the
+ * calls in their order (13 for the points before call 4), 13 for text. */
+int64_t zone_list(const uint8_t *job, size_t job_len, uint8_t *text, size_t text_len, int64_t *told, size_t told_len);
 
 #ifdef __cplusplus
 }

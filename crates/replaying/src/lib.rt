@@ -26,10 +26,12 @@ fn print_count(what: &[u8], n: u64) {
     io::print_decimal(1, n);
 }
 
-pub fn print(name: &[u8], tally: Tally) {
+// The tally of a file, and how many of its cases differ once their last number is altered.
+pub fn print(name: &[u8], tally: Tally, altered: Tally) {
     io::write_all(1, name);
     print_count(b" cases ", tally.cases);
     print_count(b" differences ", tally.differences);
     print_count(b" unread ", tally.unread);
+    print_count(b" altered ", altered.differences);
     io::write_all(1, b"\n");
 }

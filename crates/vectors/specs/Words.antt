@@ -7,7 +7,7 @@ use lib.ListN.{length}
 use lib.Ieee.{Float, binary64, toBits}
 use Rattle.integer.specs.Checked.{pick}
 
--- a number that tells sizes and signs apart
+-- the size modulo 1,000,003, and the sign
 abbrev pub termOf : ℤ → ℕ
 termOf (pos n) = n % 1000003 * 2
 termOf (negsuc n) = suc n % 1000003 * 2 + 1

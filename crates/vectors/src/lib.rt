@@ -12,7 +12,7 @@ pub enum Verdict {
     Unread,
 }
 
-// What outputs are lent filled with, so that a place that is not written shows: no answer has it.
+// What outputs are lent filled with, so that a place that is not written shows: no answer in the vectors has it.
 pub const UNWRITTEN: i64 = -7_777_777_777_777;
 
 pub const UNWRITTEN_FLOAT: f64 = -2.5;

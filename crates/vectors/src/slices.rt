@@ -28,7 +28,7 @@ pub fn same(a: &[i64], b: &[i64]) -> bool
     true
 }
 
-// A number that tells sizes and signs apart.
+// The size of v modulo 1,000,003, and its sign.
 fn term(v: i64) -> u64
     ensures { λ r. ⌜ r ≡ termOf v ⌝ }
     ensures { λ r. ⌜ r ≤ 2000006 ⌝ }

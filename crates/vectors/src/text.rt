@@ -112,6 +112,20 @@ pub fn numbers(s: &[u8], out: &mut [i64]) -> usize
     0
 }
 
+// The numbers of a line, as they stand or with another last one: then the case must differ.
+pub fn case(s: &[u8], altered: bool, out: &mut [i64]) -> usize
+    ensures { λ r. ⌜ Front r (now (out .exit)) ⌝ }
+{
+    let n = numbers(s, &mut *out);
+    if altered {
+        if n > 0 {
+            let last = out[n - 1];
+            out[n - 1] = if last == 0 { 1 } else { 0 };
+        }
+    }
+    n
+}
+
 // Whether a case starts at place `at`: the start of a line that is no comment.
 pub fn starts(s: &[u8], at: usize) -> bool {
     if at >= s.len() {

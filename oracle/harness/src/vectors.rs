@@ -10,6 +10,9 @@ use crate::random::Random;
 const LINE_BYTES: usize = 8_000;
 const FILE_BYTES: usize = 65_536;
 
+/// What that program lends outputs filled with, so that no answer may have it.
+const UNWRITTEN: i64 = -7_777_777_777_777;
+
 /// Bytes of a file's first line, at most.
 const HEAD_BYTES: usize = 64;
 
@@ -66,6 +69,8 @@ fn line<F: Function>(input: &F::Input) -> Option<String> {
         return None;
     }
     let answer = F::oracle(input, &mut outputs);
+    let told = outputs.slices.iter().chain([&outputs.told]).flatten();
+    assert!(told.copied().all(|place| place != UNWRITTEN), "{input:?}");
     let mut line = Line::default();
     input.write(&mut line);
     line.number(answer);
@@ -98,7 +103,7 @@ pub fn line_held(line: Line) -> Option<String> {
     Some(line.text()).filter(|text| text.len() < LINE_BYTES)
 }
 
-/// A sum that every place, its sign and its value bear on.
+/// A sum that every place bears on.
 fn sum(places: &[i64]) -> i64 {
     const MODULUS: u64 = 1_000_003;
     let term = |place: &i64| place.unsigned_abs() % MODULUS * 2 + u64::from(*place < 0);

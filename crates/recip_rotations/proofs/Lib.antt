@@ -10,6 +10,7 @@ pub mod Joining
 pub mod Sizes
 pub mod Grouping
 pub mod Answered
+pub mod ToldPart
 pub mod Room
 pub mod Told
 mod Examples

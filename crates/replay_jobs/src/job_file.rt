@@ -48,7 +48,7 @@ fn printed(held: &[u8; 8193], size: usize, n: &[i64], at: usize) -> Verdict {
     let mut left = [UNWRITTEN; 256];
     let mut lengths = [UNWRITTEN_FLOAT; 256];
     let mut text = [UNWRITTEN_BYTE; 8192];
-    let count = zone_list::print_job(
+    let count = zone_print::print_job(
         held,
         size,
         &mut addresses,
@@ -64,15 +64,12 @@ fn printed(held: &[u8; 8193], size: usize, n: &[i64], at: usize) -> Verdict {
     ends_with(Compared::To(at), &text, count, n)
 }
 
-fn is_cleared(text: &[u8]) -> bool {
-    let mut i = 0;
-    while i < text.len() {
-        if text[i] != 0 {
-            return false;
-        }
-        i += 1;
-    }
-    true
+// Zeros in every place.
+fn is_cleared(text: &[u8; 8192]) -> bool {
+    let zeros = [0; 8192];
+    let mut numbers = [UNWRITTEN; 8192];
+    widen(text, 8192, &mut numbers);
+    slices::same(&numbers, &zeros)
 }
 
 // The export's answer, which stands at place `at`, and its text: the listing, or after a refusal zeros.
@@ -97,7 +94,7 @@ fn exported(job: &[u8], n: &[i64], at: usize) -> Verdict {
 }
 
 // A job of over 8,193 bytes is cut, as the program reads it.
-pub fn judge(n: &[i64]) -> Verdict {
+pub fn judge(export: bool, n: &[i64]) -> Verdict {
     let at = slices::after_pairs(n, 0);
     if at < 1 {
         return Verdict::Unread;
@@ -107,8 +104,8 @@ pub fn judge(n: &[i64]) -> Verdict {
     }
     let mut held = [0u8; 8193];
     let size = runs::expand(&n[1..at], &mut held);
-    let Verdict::Same = printed(&held, size, n, at + 1) else {
-        return Verdict::Differs;
-    };
-    exported(&held[..size], n, at)
+    if export {
+        return exported(&held[..size], n, at);
+    }
+    printed(&held, size, n, at + 1)
 }

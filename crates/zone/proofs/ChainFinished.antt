@@ -39,15 +39,15 @@ use Rattle.bz_triplets.specs.BzTriplets.{bzTripletsAnswer, tripletsWritten, tri
 use Rattle.bz_triplets.specs.declared.BzTriplets.the-variants as triplet-answer
 use Rattle.bz_triplets.proofs.CallOutcome.{asked-for}
 use Rattle.zone.specs.declared.Finished.{Finished}
-use Rattle.zone.specs.FinishedList.{Given, as-returned, Starts, Calls}
+use Rattle.demand3.specs.FinishedList.{Given, as-returned, Starts, Calls}
 use Rattle.zone_steps.specs.Steps.{Rooms, Grid, Lists, group, transformed, rotationTests, imagesTested, startOf, pointsOf, classMap, classTests, count, start, choiceTests, triplets, listTests, listsOf, imageAddresses, imageMap, imageTests, gridTests, gridLists}
 use Rattle.zone.specs.Chain.{Job, roomsAgree, diagonal, change, gridOf, chainTests, chainAnswer}
 use Rattle.zone_steps.specs.StepsView.{grid, Listed}
 use Rattle.zone.specs.ChainFinished.{FinishedChain}
-use Rattle.zone.proofs.TableWalks.{then-got}
-use Rattle.zone.proofs.AcceptedTriplets.{triplets-accepted, first-in}
-use Rattle.zone_steps.proofs.ToldPart.{told-part}
-use Rattle.zone.proofs.FinishedList.{finished-list}
+use Rattle.demand3.proofs.TableWalks.{then-got}
+use Rattle.demand3.proofs.AcceptedTriplets.{triplets-accepted, first-in}
+use Rattle.recip_rotations.proofs.ToldPart.{told-part}
+use Rattle.demand3.proofs.FinishedList.{finished-list}
 use Rattle.zone_steps.proofs.ListedClasses.{passed-classes}
 use Rattle.zone.proofs.ChainWhole.{tests}
 

@@ -22,11 +22,11 @@ use Rattle.snf3x3.specs.Snf3x3.{Answer, refused, diagonalised, snf3x3}
 use Rattle.snf3x3.specs.Written.{written}
 use Rattle.zone_steps.specs.Steps.{Rooms, Grid, Lists, transformed, rotationTests, classMap, count, gridTests, gridLists, listsOf, imageAddresses, imageMap, triplets}
 use Rattle.zone_steps.specs.StepsView.{grid}
-use Rattle.zone.specs.FinishedList.{Calls, points, lowestPoints}
+use Rattle.demand3.specs.FinishedList.{Calls, points, lowestPoints}
 use Rattle.zone.specs.Chain as chain
 use Rattle.zone.specs.Chain.{Job, roomsAgree, diagonal, gridOf, listsFor, chainTests, chainAnswer, chainLists}
-use Rattle.zone.proofs.FinishedClasses.{every-number, number-low}
-use Rattle.zone.proofs.FinishedTriplets.{finished-triplets, best-inside, images-room}
+use Rattle.demand3.proofs.FinishedClasses.{every-number, number-low}
+use Rattle.demand3.proofs.FinishedTriplets.{finished-triplets, best-inside, images-room}
 use Rattle.zone.proofs.ChainFinished.{calls, Left, calls-left}
 
 -- every number of a list is natural and below m

@@ -5,7 +5,7 @@ use mathlib.Core.List.{List}
 use Prim.Native.Nat.{ℕ, _*_}
 use lib.IntN.{ℤ, pos}
 use Rattle.bzgrid.specs.BzGridAddresses.{padded}
-use Rattle.zone.specs.FinishedList.{Calls, Demand3}
+use Rattle.demand3.specs.FinishedList.{Calls, Demand3}
 use Rattle.zone_steps.specs.Steps.{Lists}
 use Rattle.zone.specs.Chain.{Job}
 

@@ -1,4 +1,3 @@
-pub mod FinishedList
 pub mod Chain
 pub mod ChainView
 pub mod ChainFinished

@@ -20,9 +20,8 @@ use Rattle.zone.specs.declared.Finished.{Finished}
 use Rattle.zone_steps.specs.Steps.{Rooms}
 use Rattle.zone_list.specs.declared.Listing.{Listing}
 use Rattle.zone_list.specs.declared.Listing.the-variants.{Bytes, Refused}
-use Rattle.zone_list.specs.List.{answerFor, printTests, printAnswer, finished, text, listAnswer, listText}
+use Rattle.zone_list.specs.List.{listRooms, answerFor, printTests, printAnswer, finished, text, listAnswer, listText}
 use Rattle.zone_c.specs.Lists.{listingNumber, listingTold, BytesFit, ZoneListTold}
-use Rattle.zone_list.specs.JobText.{listRooms}
 use Rattle.answers.proofs.Lengths.{taken, left}
 
 -- ---- a listing that was printed had room

@@ -10,8 +10,7 @@ use Rattle.common.specs.declared.Refusal.the-variants.{WrongLength}
 use Rattle.common.specs.Refusal.{numberOf}
 use Rattle.zone_list.specs.declared.Listing.{Listing}
 use Rattle.zone_list.specs.declared.Listing.the-variants.{Bytes, Refused}
-use Rattle.zone_list.specs.List.{listAnswer, listText}
-use Rattle.zone_list.specs.JobText.{listRooms}
+use Rattle.zone_list.specs.List.{listRooms, listAnswer, listText}
 
 abbrev pub listingNumber : Listing → ℤ
 listingNumber (Bytes n) = pos 0

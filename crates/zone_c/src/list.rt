@@ -3,8 +3,7 @@ use common::Refusal;
 use zone_list::Listing;
 ghost use mathlib.Core.Path.{_≡_};
 ghost use lib.ListN.{length};
-ghost use Rattle.zone_list.specs.List.{listAnswer, listText};
-ghost use Rattle.zone_list.specs.JobText.{listRooms};
+ghost use Rattle.zone_list.specs.List.{listRooms, listAnswer, listText};
 ghost use Rattle.zone_c.specs.Lists.{listingNumber, listingTold, BytesFit, ZoneListTold};
 
 // In arrays for 256 points and 1,024 images.

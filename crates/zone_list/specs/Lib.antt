@@ -1,2 +1,1 @@
 pub mod List
-pub mod JobText

@@ -20,8 +20,13 @@ use Rattle.zone.specs.declared.Finished.{Finished}
 use Rattle.zone_list.specs.declared.Listing.{Listing}
 use Rattle.zone_list.specs.declared.Listing.the-variants as answer
 use Rattle.zone_steps.specs.Steps.{Rooms, Lists}
+use Rattle.zone_steps.specs.StepsView.{rooms}
 use Rattle.zone.specs.Chain.{Job, chainAnswer, chainAddresses, chainMap, chainGrg, chainLists, listsFor}
 use Rattle.zone.specs.ChainView.{job, refusedWith}
+
+-- arrays for 256 points and 1,024 images
+abbrev pub listRooms : Rooms
+listRooms = rooms 3072 2305 1024 256 256 768 256 256
 
 -- the chain's job in the bytes of a file, without shift
 unfoldable pub chainJob : List ℕ → Job

@@ -1,10 +1,7 @@
 // A job file, from its bytes to its listing.
-mod program;
-
 use common::Refusal;
 use common::Tested;
 use job::Printed;
-pub use program::print_job;
 use zone::Finished;
 ghost use mathlib.Core.Path.{_≡_};
 ghost use lib.ListN.{length};

@@ -36,7 +36,7 @@ use Rattle.bz_triplets.specs.BzTriplets as triplet
 use Rattle.bz_triplets.specs.BzTriplets.{bzTripletTests, bzTripletsAnswer, tripletsWritten, leftWritten, leftLengthWritten}
 use Rattle.zone_steps.specs.Steps.{group, transformed, rotationTests, imagesTested}
 use Rattle.zone_steps.specs.StepsView.{Chosen}
-use Rattle.zone_steps.proofs.ToldPart.{told-count, told-part}
+use Rattle.recip_rotations.proofs.ToldPart.{told-count, told-part}
 
 pub front-length : {A : Type 0} (n : ℕ) (l : List A) → n ≤ length l → length (take (n - 0) l) ≡ n
 front-length n l h = length-take-le (n - 0) l (omega arith) ∙ whole n

@@ -1,4 +1,3 @@
-pub mod ToldPart
 pub mod CallSteps
 pub mod ListedClasses
 pub mod ListedGrid

@@ -11,7 +11,7 @@ fn main() {
     let mut left = [0; 256];
     let mut lengths = [0.0; 256];
     let mut text = [0u8; 8192];
-    let bytes = zone_list::print_job(
+    let bytes = zone_print::print_job(
         &held,
         n,
         &mut addresses,

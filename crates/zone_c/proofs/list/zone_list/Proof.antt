@@ -2,7 +2,7 @@ use mathlib.Core.Path.{_∙_}
 use Prim.Native.Nat.{_<_}
 use lib.ListN.{length}
 use Rattle.integer.proofs.Fits.{held-is}
-use Rattle.zone_list.specs.JobText.{listRooms}
+use Rattle.zone_list.specs.List.{listRooms}
 use Rattle.zone_c.proofs.JobLists.{bytes-fit, list-unsized, list-passed}
 use borrow.Author.Needs.{needs}
 use Rattle.zone_c.proofs.list.zone_list.Statement.{statement}

@@ -5,11 +5,11 @@ use lib.ListN.{length}
 use borrow.Author.Needs.{needs}
 use Rattle.zone_steps.specs.Steps.{Rooms}
 use Rattle.zone_steps.specs.StepsView.{rooms}
 use Rattle.zone_list.specs.List.{listAnswer, listAddresses, listMap, listGrg, listLists, listText}
-use Rattle.zone_list.specs.JobText.{listRooms}
-use Rattle.zone_list.proofs.JobText.{listing-printed, line-printed}
-use Rattle.zone_list.proofs.program.print_bytes.Statement.{statement}
-use Rattle.zone_list.proofs.program.print_bytes.Tie as tie
+use Rattle.zone_list.specs.List.{listRooms}
+use Rattle.zone_print.proofs.JobText.{listing-printed, line-printed}
+use Rattle.zone_print.proofs.print_bytes.Statement.{statement}
+use Rattle.zone_print.proofs.print_bytes.Tie as tie
 
 -- ---- the places: the arguments are lent, the list is back
 abbrev start : tie.After-list → tie.Start

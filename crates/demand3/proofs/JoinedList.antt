@@ -28,8 +28,8 @@ use Rattle.transform_rotations.specs.TransformRotations.{transformTests, transf
 use Rattle.transform_rotations.proofs.Accepted.{InputAccepted, input-accepted}
 use Rattle.transform_rotations.proofs.ExactCall.{grid-is, sides-positive, tests-input}
 use Rattle.transform_rotations.proofs.ExactTransform.{Fractions, transformOf, whole-accepted, fractions-distinct, call-fractions, call-matrices}
-use Rattle.zone_steps.proofs.ToldPart.{told-part}
-use Rattle.zone.specs.FinishedList.{Given, as-it-stands, as-returned}
+use Rattle.recip_rotations.proofs.ToldPart.{told-part}
+use Rattle.demand3.specs.FinishedList.{Given, as-it-stands, as-returned}
 
 -- ---- the list alone
 distinct-left : (l k : List (Mat ℤ)) → Distinct (l ++ k) → Distinct l

@@ -33,10 +33,10 @@ use Rattle.bz_triplets.specs.BzTriplets.{State, Walk, isZero, placesOf, firstOf
 use Rattle.bz_triplets.proofs.Choosing.{Picks, Length, Triplet, triplet-best, float-order, at-least}
 use Rattle.bz_triplets.proofs.Choosing as choosing
 use Rattle.bz_triplets.proofs.Rising.{own-points}
-use Rattle.zone.specs.FinishedList.{Calls, grid, points, partnerOf, lowestPoints, search, trio, Choice, sum, squaredLength, lessTolerance, at, Best}
-use Rattle.zone.proofs.TableWalks.{Counts, then-got, address-got, closesAt, lengthAt, lessAt, chosen-got, each-got}
-use Rattle.zone.proofs.SumLengths.{sum-size, sum-length}
-use Rattle.zone.proofs.AcceptedTriplets.{classes-accepted, map-counts, starts-in, starts-point, first-got, TripletsAccepted, triplets-accepted}
+use Rattle.demand3.specs.FinishedList.{Calls, grid, points, partnerOf, lowestPoints, search, trio, Choice, sum, squaredLength, lessTolerance, at, Best}
+use Rattle.demand3.proofs.TableWalks.{Counts, then-got, address-got, closesAt, lengthAt, lessAt, chosen-got, each-got}
+use Rattle.demand3.proofs.SumLengths.{sum-size, sum-length}
+use Rattle.demand3.proofs.AcceptedTriplets.{classes-accepted, map-counts, starts-in, starts-point, first-got, TripletsAccepted, triplets-accepted}
 
 -- ---- a sum of zero
 zero-sum : (g : Vec ℤ) → T (isZero g) → g ≡ origin

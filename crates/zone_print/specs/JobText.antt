@@ -7,13 +7,8 @@ use Rattle.common.specs.declared.Tested.{Tested}
 use Rattle.common.specs.declared.Tested.the-variants.{Accepted, Refused}
 use Rattle.job.specs.Listing.{refusal}
 use Rattle.job.specs.Writing.{printed}
-use Rattle.zone_steps.specs.Steps.{Rooms, Lists}
-use Rattle.zone_steps.specs.StepsView.{rooms}
-use Rattle.zone_list.specs.List.{finished, text, listAddresses, listMap, listGrg, listLists}
-
--- arrays for 256 points and 1,024 images
-abbrev pub listRooms : Rooms
-listRooms = rooms 3072 2305 1024 256 256 768 256 256
+use Rattle.zone_steps.specs.Steps.{Lists}
+use Rattle.zone_list.specs.List.{listRooms, finished, text, listAddresses, listMap, listGrg, listLists}
 
 abbrev pub textOrRefusal : Tested → List ℕ → List ℕ
 textOrRefusal Accepted text = text

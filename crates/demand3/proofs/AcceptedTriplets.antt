@@ -36,8 +36,8 @@ use Rattle.triplet_grid.proofs.Outcome.{InputAccepted, input-accepted}
 use Rattle.bz_triplets.specs.BzTriplets.{State, firstOf, pointOf, tripletList, tripletsRead, answerFor, bzTripletTests, bzTripletsAnswer, tripletsWritten}
 use Rattle.bz_triplets.specs.BzTriplets as triplet
 use Rattle.bz_triplets.specs.declared.BzTriplets.the-variants as answer
-use Rattle.zone.specs.FinishedList.{Starts}
-use Rattle.zone.proofs.TableWalks.{Counts, not-got, then-got, place-got, address-got}
+use Rattle.demand3.specs.FinishedList.{Starts}
+use Rattle.demand3.proofs.TableWalks.{Counts, not-got, then-got, place-got, address-got}
 
 -- ---- the class call takes a point of the grid
 module _ (q0 : ℤ) (d rotations : List ℤ) (timeReversal swappable : Bool) (n m : ℕ) {k : ℤ} (e : irTripletsAnswer q0 d rotations timeReversal swappable n m ≡ class-answer.Classes k) where

@@ -1,9 +1,9 @@
 -- Demand 3, whole: from what the five accepted calls left, and the four conditions on the list, all that is said of the finished list.
 use Rattle.common.specs.Array.{matrices}
 use Rattle.grgrid.proofs.MatrixGroup.{MatrixGroup}
-use Rattle.zone.specs.FinishedList.{Calls, FinishedList, Demand3}
-use Rattle.zone.proofs.FinishedTriplets.{finished-triplets}
-use Rattle.zone.proofs.FinishedClasses.{every-number, one-number, lowest-number, lowest-rise, lowest-each}
+use Rattle.demand3.specs.FinishedList.{Calls, FinishedList, Demand3}
+use Rattle.demand3.proofs.FinishedTriplets.{finished-triplets}
+use Rattle.demand3.proofs.FinishedClasses.{every-number, one-number, lowest-number, lowest-rise, lowest-each}
 use Rattle.recip_rotations.proofs.Told.{joined-group}
 
 pub finished-list : (c : Calls) → Demand3 c

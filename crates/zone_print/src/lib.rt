@@ -1,14 +1,14 @@
 // The program's one call, from the bytes that it read to the text that it prints.
-use crate::Listing;
 use common::Refusal;
 use job::Printed;
+use zone_list::Listing;
 ghost use mathlib.Core.Path.{_≡_};
 ghost use Prim.Native.Nat.{_≤_};
 ghost use lib.ListN.{length, take};
 ghost use Rattle.job.specs.Listing.{refusal};
 ghost use Rattle.job.specs.Writing.{printed};
 ghost use Rattle.zone_steps.specs.StepsView.{lists};
-ghost use Rattle.zone_list.specs.JobText.{PrintedJob, printedJob};
+ghost use Rattle.zone_print.specs.JobText.{PrintedJob, printedJob};
 
 fn print_refused(r: Refusal, text: &mut [u8; 8192]) -> usize
     ensures { λ n. ⌜ n ≡ length (refusal r) ⌝ }
@@ -45,7 +45,7 @@ fn print_bytes(
         } in
         ⌜ o ≡ printedJob (now (bytes .entry)) ⌝ }
 {
-    match crate::list(
+    match zone_list::list(
         bytes,
         addresses,
         map,

@@ -30,11 +30,11 @@ use Rattle.zone.specs.declared.Finished.{Finished}
 use Rattle.zone.specs.Chain.{Job, chainTests, chainAnswer, chainLists}
 use Rattle.zone.proofs.ChainNumbers.{Below, Numbers, chain-numbers}
 use Rattle.zone_steps.specs.Steps.{Lists}
 use Rattle.zone_list.specs.declared.Listing.{Listing}
 use Rattle.zone_list.specs.declared.Listing.the-variants as answer
-use Rattle.zone_list.specs.List.{Whole, chainJob, textOf, answerFor, textFor, printTests, printAnswer, printText, finished, text, listTests, listAnswer, listText, listAddresses, listMap, listGrg, listLists}
-use Rattle.zone_list.specs.JobText.{listRooms, textOrRefusal, jobText, PrintedJob, printedJob}
+use Rattle.zone_list.specs.List.{listRooms, Whole, chainJob, textOf, answerFor, textFor, printTests, printAnswer, printText, finished, text, listTests, listAnswer, listText, listAddresses, listMap, listGrg, listLists}
+use Rattle.zone_print.specs.JobText.{textOrRefusal, jobText, PrintedJob, printedJob}
 use Rattle.zone_list.proofs.Listed.{chain-answered, whole-chain, refusal-of, acceptance-of}
 
 -- ---- short numbers
 -- numbers below 10, 100, 1000, .. have at most 1, 2, 3, .. digits

@@ -2,11 +2,11 @@ use mathlib.Core.Path.{sym, _∙_, ap}
 use lib.ListN.{take}
 use lib.Seq.{take-all}
 use borrow.Author.Needs.{needs}
-use Rattle.zone_list.specs.JobText.{printedJob}
+use Rattle.zone_print.specs.JobText.{printedJob}
 use Rattle.zone_list.proofs.Listed.{whole}
-use Rattle.zone_list.proofs.JobText.{printed-fits}
-use Rattle.zone_list.proofs.program.print_job.Statement.{statement}
-use Rattle.zone_list.proofs.program.print_job.Tie as tie
+use Rattle.zone_print.proofs.JobText.{printed-fits}
+use Rattle.zone_print.proofs.print_job.Statement.{statement}
+use Rattle.zone_print.proofs.print_job.Tie as tie
 
 sub-print-bytes : tie.Need-sub-print-bytes
 sub-print-bytes c = search needs

@@ -33,7 +33,7 @@ use Rattle.triplet_grid.specs.IrTriplets.{irTripletsAnswer, mapTripletsWritten}
 use Rattle.triplet_grid.specs.declared.IrTriplets.the-variants as class
 use Rattle.bz_triplets.specs.BzTriplets.{lqdInv, squaredDistance, bzTripletsAnswer, tripletsWritten}
 use Rattle.bz_triplets.specs.declared.BzTriplets.the-variants as triplet
-use Rattle.zone.specs.FinishedList.{Given, as-it-stands, as-returned, Calls}
+use Rattle.demand3.specs.FinishedList.{Given, as-it-stands, as-returned, Calls}
 
 -- ---- what comes from outside
 abbrev list : List ℤ

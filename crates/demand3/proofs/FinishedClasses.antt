@@ -40,8 +40,8 @@ use Rattle.triplet_grid.proofs.Stabilizer.{Operation, carries-equiv, carries-pa
 use Rattle.triplet_grid.proofs.Swapping.{length-triplets, classes-low, triplets-low}
 use Rattle.triplet_grid.proofs.Outcome as outcome
 use Rattle.bz_triplets.proofs.Rising.{Rising, own-rising, own-each}
-use Rattle.zone.specs.FinishedList.{Calls, grid, points, number, carries, partnerOf, Class, lowestPoints}
-use Rattle.zone.proofs.JoinedList.{list-distinct, told-is, given-joined, transformed-joined}
+use Rattle.demand3.specs.FinishedList.{Calls, grid, points, number, carries, partnerOf, Class, lowestPoints}
+use Rattle.demand3.proofs.JoinedList.{list-distinct, told-is, given-joined, transformed-joined}
 
 -- ---- accepted calls
 -- an answer that no refusal gives

@@ -4,9 +4,9 @@ use native.Mathlib.Omega.{arith}
 use lib.ListN.{length}
 use borrow.Author.Needs.{needs}
 use Rattle.job.specs.declared.listing.Printed.the-variants.{Bytes, NoRoom}
-use Rattle.zone_list.proofs.JobText.{refusal-printed}
-use Rattle.zone_list.proofs.program.print_refused.Statement.{statement}
-use Rattle.zone_list.proofs.program.print_refused.Tie as tie
+use Rattle.zone_print.proofs.JobText.{refusal-printed}
+use Rattle.zone_print.proofs.print_refused.Statement.{statement}
+use Rattle.zone_print.proofs.print_refused.Tie as tie
 
 print-refusal-requires : tie.Need-print-refusal-requires
 print-refusal-requires c κs = search needs

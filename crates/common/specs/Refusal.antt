@@ -1,7 +1,9 @@
--- The numbers of the refusals, as document 01 gives them.
+-- The numbers of the refusals.
 use Prim.Native.Nat.{ℕ}
 use Rattle.common.specs.declared.Refusal.{Refusal}
-use Rattle.common.specs.declared.Refusal.the-variants.{Singular, NotConverged, OutsideLimits, Overflow, SingularQ, SymmetryBroken, TooManyRotations, TooManyForInversion, BadGridType, NotUnimodularQ, SingularReciprocalLattice, SearchFailed, WrongLength, OutsideTable, BadHeader}
+use Rattle.common.specs.declared.Refusal.the-variants.{Singular, NotConverged, OutsideLimits, Overflow, SingularQ, SymmetryBroken}
+use Rattle.common.specs.declared.Refusal.the-variants.{TooManyRotations, TooManyForInversion, BadGridType, NotUnimodularQ}
+use Rattle.common.specs.declared.Refusal.the-variants.{SingularReciprocalLattice, SearchFailed, WrongLength, OutsideTable, BadHeader, NotGroup}
 
 abbrev pub numberOf : Refusal → ℕ
 -- `snf3x3`: the determinant is 0
@@ -34,3 +36,5 @@ numberOf WrongLength = 13
 numberOf OutsideTable = 14
 -- job file: wrong header
 numberOf BadHeader = 15
+-- the reciprocal step of the chain: identity missing, a repeat, a determinant other than 1 or -1, or a product not in the list
+numberOf NotGroup = 18

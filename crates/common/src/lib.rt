@@ -41,12 +41,13 @@ pub enum Refusal {
     WrongLength,
     OutsideTable,
     BadHeader,
+    NotGroup,
 }
 
 impl Refusal {
     pub fn number(self) -> u64
         ensures { λ r. ⌜ r ≡ numberOf self ⌝ }
-        ensures { λ r. ⌜ r < 16 ⌝ }
+        ensures { λ r. ⌜ r < 19 ⌝ }
     {
         match self {
             Refusal::Singular => 1,
@@ -64,6 +65,7 @@ impl Refusal {
             Refusal::WrongLength => 13,
             Refusal::OutsideTable => 14,
             Refusal::BadHeader => 15,
+            Refusal::NotGroup => 18,
         }
     }
 

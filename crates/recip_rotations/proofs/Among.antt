@@ -11,7 +11,7 @@ use Rattle.common.specs.Array.{matrixAt, matricesFrom}
 use Rattle.recip_rotations.specs.Unique.{sameMatrix, among}
 
 module _ (l : List ℤ) (k n : ℕ) where
-  from-cons : k < n → matricesFrom l k (n - k) ≡ matrixAt l k ∷ matricesFrom l (k + 1) (n - (k + 1))
+  pub from-cons : k < n → matricesFrom l k (n - k) ≡ matrixAt l k ∷ matricesFrom l (k + 1) (n - (k + 1))
   from-cons h = ap (matricesFrom l k) (left h) ∙ ap (λ j. matrixAt l k ∷ matricesFrom l j (n - (k + 1))) (sym (add-one k))
     where
       left : k < n → n - k ≡ suc (n - (k + 1))

@@ -17,7 +17,7 @@ use Rattle.recip_rotations.proofs.Distinct.{kept-new}
 
 -- ---- the test and membership
 module _ (x : Mat ℤ) where
-  among-in : (l : List (Mat ℤ)) → T (among x l) → x ∈ l
+  pub among-in : (l : List (Mat ℤ)) → T (among x l) → x ∈ l
   among-in [] t = absurd t
   among-in (y ∷ l) t = step (sameMatrix x y) (matrix-eq x y) (among-in l) t
     where
@@ -25,7 +25,7 @@ module _ (x : Mat ℤ) where
       step true e r t = here (e tt)
       step false e r t = there (r t)
 
-  in-among : (l : List (Mat ℤ)) → x ∈ l → T (among x l)
+  pub in-among : (l : List (Mat ℤ)) → x ∈ l → T (among x l)
   in-among [] k = absurd (not-nil k)
   in-among (y ∷ l) k = step (sameMatrix x y) (⊎-elim (λ e. inl (subst (λ z. T (sameMatrix x z)) e (matrix-refl x))) (λ j. inr (in-among l j)) (cases k))
     where

@@ -8,7 +8,7 @@ use lib.ListN.{length, replicate}
 use Rattle.common.specs.Matrix.{Mat, transpose, negate, inversion}
 use Rattle.common.specs.Array.{matrices}
 use Rattle.common.specs.Limits.{wholeMatrices, rotationsFit}
-use Rattle.common.specs.Tested.{require, outputOf}
+use Rattle.common.specs.Tested.{require, after, outputOf}
 use Rattle.common.specs.declared.Tested.{Tested}
 use Rattle.common.specs.declared.Tested.the-variants.{Accepted, Refused}
 use Rattle.common.specs.declared.Refusal.the-variants.{OutsideLimits, TooManyRotations, TooManyForInversion, WrongLength}
@@ -38,13 +38,16 @@ joinTests timeReversal l = require (not (joins timeReversal l) || leb (length l)
 unfoldable pub roomTests : List (Mat ℤ) → Bool → Bool → Tested
 roomTests l timeReversal transposed = require (leb (length (unique l)) 48) TooManyRotations (joinTests timeReversal (turned transposed (unique l)))
 
-unfoldable pub groupTests : List ℤ → Bool → Bool → ℕ → Tested
-unfolding roomTests
-groupTests rotations timeReversal transposed n =
+-- of the input: the list's length, the n places for the group, the limits
+unfoldable pub inputTests : List ℤ → ℕ → Tested
+inputTests rotations n =
     require (wholeMatrices rotations) WrongLength
     (require (eqb n 432) WrongLength
-    (require (rotationsFit 100000 rotations) OutsideLimits
-    (roomTests (matrices rotations) timeReversal transposed)))
+    (require (rotationsFit 100000 rotations) OutsideLimits Accepted))
+
+unfoldable pub groupTests : List ℤ → Bool → Bool → ℕ → Tested
+unfolding inputTests roomTests
+groupTests rotations timeReversal transposed n = after (inputTests rotations n) (roomTests (matrices rotations) timeReversal transposed)
 
 abbrev pub answerFor : Tested → ℕ → PointGroup
 answerFor Accepted n = answer.Rotations n

@@ -1,5 +1,6 @@
 // Reciprocal-space point group construction.
 use common::Refusal;
+use common::Tested;
 ghost use mathlib.Core.Path.{_≡_};
 ghost use mathlib.Core.Bool.{true};
 ghost use mathlib.Core.List.{map};
@@ -12,7 +13,7 @@ ghost use Rattle.common.specs.Array.{matrixAt, matricesFrom, matrices, Sized};
 ghost use Rattle.common.specs.Limits.{allWithin};
 ghost use Rattle.recip_rotations.specs.Unique.{sameMatrix, among, kept, unique};
 ghost use Rattle.recip_rotations.specs.Flat.{laid};
-ghost use Rattle.recip_rotations.specs.PointGroup.{turned, joined, joinTests, roomTests, groupTests, pointGroup, pointGroupAnswer, pointGroupWritten};
+ghost use Rattle.recip_rotations.specs.PointGroup.{turned, joined, joinTests, roomTests, inputTests, groupTests, pointGroup, pointGroupAnswer, pointGroupWritten};
 ghost use Rattle.recip_rotations.specs.Steps.{sameRow, swapped, transposedAt, Counted, Grouped};
 
 // How many rotations the output holds, or why there are none.
@@ -35,7 +36,7 @@ fn same_row(a: &[i64], i: usize, b: &[i64], j: usize) -> bool
 }
 
 // Matrix m of one list and matrix n of another.
-fn same_matrix(a: &[i64], m: usize, b: &[i64], n: usize) -> bool
+pub fn same_matrix(a: &[i64], m: usize, b: &[i64], n: usize) -> bool
     requires { ⌜ (m * 9 + 9 ≤ length (now a)) × (n * 9 + 9 ≤ length (now b)) ⌝ }
     ensures { λ r. ⌜ r ≡ sameMatrix (matrixAt (now (a .entry)) m) (matrixAt (now (b .entry)) n) ⌝ }
 {
@@ -51,7 +52,7 @@ fn same_matrix(a: &[i64], m: usize, b: &[i64], n: usize) -> bool
 }
 
 // Whether matrix n of one list is among the first `count` of another.
-fn contains(a: &[i64], n: usize, list: &[i64], count: usize) -> bool
+pub fn contains(a: &[i64], n: usize, list: &[i64], count: usize) -> bool
     requires { ⌜ (n * 9 + 9 ≤ length (now a)) × (count * 9 ≤ length (now list)) ⌝ }
     ensures { λ r. ⌜ r ≡ among (matrixAt (now (a .entry)) n) (matricesFrom (now (list .entry)) 0 count) ⌝ }
 {
@@ -194,6 +195,22 @@ fn distinct_group(
     join(out, count, is_time_reversal)
 }
 
+// Of the list, and of the places for its group.
+pub fn input_tests(rotations: &[i64], places: usize) -> Tested
+    ensures { λ r. ⌜ r ≡ inputTests (now (rotations .entry)) places ⌝ }
+{
+    if !common::whole_matrices(rotations) {
+        return Tested::Refused(Refusal::WrongLength);
+    }
+    if places != 432 {
+        return Tested::Refused(Refusal::WrongLength);
+    }
+    if !common::rotations_fit(rotations, 100000) {
+        return Tested::Refused(Refusal::OutsideLimits);
+    }
+    Tested::Accepted
+}
+
 // With the tests of the input. A refusal may leave anything in the output.
 fn group_of(
     rotations: &[i64],
@@ -203,16 +220,10 @@ fn group_of(
 ) -> PointGroup
     ensures { λ r. ⌜ Grouped (groupTests (now (rotations .entry)) «is_time_reversal» «is_transpose» (length (now (out .entry)))) (pointGroup (matrices (now (rotations .entry))) «is_time_reversal» «is_transpose») (replicate (length (now (out .entry))) (negsuc 0)) (now (out .exit)) r ⌝ }
 {
-    if !common::whole_matrices(rotations) {
-        return PointGroup::Refused(Refusal::WrongLength);
+    match input_tests(rotations, out.len()) {
+        Tested::Accepted => distinct_group(rotations, is_time_reversal, is_transpose, out),
+        Tested::Refused(r) => PointGroup::Refused(r),
     }
-    if out.len() != 432 {
-        return PointGroup::Refused(Refusal::WrongLength);
-    }
-    if !common::rotations_fit(rotations, 100000) {
-        return PointGroup::Refused(Refusal::OutsideLimits);
-    }
-    distinct_group(rotations, is_time_reversal, is_transpose, out)
 }
 
 // The distinct rotations in order, transposed where asked for, and under time reversal their negatives after them, unless the inversion is among them.

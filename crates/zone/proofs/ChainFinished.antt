@@ -1,4 +1,4 @@
--- Demand 3 of the chain: an accepted chain has made the five calls, each accepted and each given what those before it left.
+-- Demand 3 of the chain: an accepted chain has made the five calls, each accepted and each given what those before it left, and its list is a group.
 use mathlib.Core.Path.{_≡_, refl, sym, _∙_, ap, subst}
 use mathlib.Core.Bool.{true}
 use mathlib.Core.List.{List}
@@ -16,9 +16,11 @@ use Rattle.common.proofs.Tests.{passed, not-accepted, both-accepted}
 use Rattle.common.specs.Tested.{after}
 use Rattle.snf3x3.specs.Snf3x3.{Answer, refused, diagonalised, snf3x3}
 use Rattle.snf3x3.specs.Written.{written}
-use Rattle.recip_rotations.specs.PointGroup.{groupTests, pointGroup, pointGroupAnswer, pointGroupWritten}
+use Rattle.recip_rotations.specs.PointGroup.{pointGroup, pointGroupAnswer, pointGroupWritten}
 use Rattle.recip_rotations.specs.PointGroup as reciprocal
 use Rattle.recip_rotations.specs.declared.PointGroup.the-variants.{Rotations}
+use Rattle.rotation_group.specs.ReciprocalGroup.{reciprocalTests}
+use Rattle.rotation_group.proofs.Accepted.{accepted-joined, accepted-call}
 use Rattle.transform_rotations.specs.TransformRotations.{transformTests, transformAnswer, transformWritten}
 use Rattle.transform_rotations.specs.TransformRotations as transforming
 use Rattle.transform_rotations.specs.declared.Transformed.the-variants as transform
@@ -92,13 +94,13 @@ module _ (j : Job) (r : Rooms) (d : Vec ℤ) (p q : Mat ℤ) (rounds : ℕ) (dia
     abbrev told : ℕ
     told = length (pointGroup (matrices (j .rotations)) (j .timeReversal) true)
 
-    both : (groupTests (j .rotations) (j .timeReversal) true 432 ≡ Accepted) × (transformTests list (items d) (rows q) (length list) ≡ Accepted)
+    both : (reciprocalTests (j .rotations) (j .timeReversal) 432 ≡ Accepted) × (transformTests list (items d) (rows q) (length list) ≡ Accepted)
     unfolding rotationTests
-    both = both-accepted (groupTests (j .rotations) (j .timeReversal) true 432) (transformTests list (items d) (rows q) (length list)) rotations-accepted
+    both = both-accepted (reciprocalTests (j .rotations) (j .timeReversal) 432) (transformTests list (items d) (rows q) (length list)) rotations-accepted
 
     returned : pointGroupAnswer (j .rotations) (j .timeReversal) true 432 ≡ Rotations told
     unfolding pointGroupAnswer
-    returned = ap (λ t. reciprocal.answerFor t told) (both .0)
+    returned = ap (λ t. reciprocal.answerFor t told) (accepted-call (j .rotations) (j .timeReversal) 432 (both .0))
 
     told-list : take (told * 9) (pointGroupWritten (j .rotations) (j .timeReversal) true 432) ≡ list
     unfolding group
@@ -261,7 +263,7 @@ module _ (j : Job) (r : Rooms) (d : Vec ℤ) (p q : Mat ℤ) (rounds : ℕ) (dia
       map-is = k .map-is;
       classes-are = ap (λ l. l .classes) (k .lists-are);
       triplets-are = ap (λ l. l .triplets) (k .lists-are);
-      finished = finished-list calls;
+      finished = finished-list calls (accepted-joined (j .rotations) (j .timeReversal) 432 (both .0));
     }
 
 -- ---- the chain

@@ -1,4 +1,5 @@
--- The chain of calls: diagonalise, take the reciprocal rotations, transform them, build the images, number the classes, choose the triplets.
+-- The chain of calls: diagonalise, take the reciprocal rotations of a group, transform them, build the images, number the classes, choose the
+-- triplets.
 use mathlib.Core.Bool.{Bool, _&&_}
 use mathlib.Core.List.{List}
 use Prim.Native.Nat.{ℕ, _*_, _-_}

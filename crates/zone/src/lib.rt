@@ -119,8 +119,8 @@ fn run_chain(
     }
 }
 
-// Diagonalises a, takes the reciprocal rotations, transforms them, and runs images, classes and triplets. An output may be longer than needed. The last promise is
-// demand 3, said of these slices.
+// Diagonalises a, takes the reciprocal rotations of a list that must be a group, transforms them, and runs images, classes and triplets. An output
+// may be longer than needed. The last promise is demand 3, said of these slices.
 pub fn finished_list(
     a: [[i64; 3]; 3],
     rotations: &[i64],

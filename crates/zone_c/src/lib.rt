@@ -15,6 +15,7 @@ pub use images::zone_bz_grid_addresses;
 pub use images::zone_neighboring_grid_points;
 pub use images::zone_rotate_bz_grid_index;
 pub use list::zone_list;
+pub use recip::zone_reciprocal_group;
 pub use recip::zone_reciprocal_point_group;
 pub use recip::zone_reciprocal_rotations;
 pub use transform::zone_transform_rotations;

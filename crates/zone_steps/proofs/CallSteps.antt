@@ -17,9 +17,10 @@ use Rattle.common.specs.Tested.{after}
 use Rattle.grgrid.specs.Own.{ownPlaces}
 use Rattle.recip_rotations.specs.declared.PointGroup.{PointGroup}
 use Rattle.recip_rotations.specs.declared.PointGroup.the-variants as group-answer
-use Rattle.recip_rotations.specs.PointGroup.{countOf, groupTests, pointGroup, pointGroupAnswer, pointGroupWritten}
-use Rattle.recip_rotations.proofs.Answered.{was-refused}
+use Rattle.recip_rotations.specs.PointGroup.{countOf, pointGroup, pointGroupAnswer}
 use Rattle.recip_rotations.proofs.Room.{count-small}
+use Rattle.rotation_group.specs.ReciprocalGroup.{reciprocalAnswer, reciprocalWritten}
+use Rattle.rotation_group.proofs.Outcome.{tests-accepted, tests-refused, same-answer, same-written}
 use Rattle.transform_rotations.specs.declared.Transformed.{Transformed}
 use Rattle.transform_rotations.specs.declared.Transformed.the-variants as transform-answer
 use Rattle.transform_rotations.specs.TransformRotations as transform
@@ -66,25 +67,28 @@ tripletTested (triplet-answer.Refused r) = Refused r
 -- ---- the rotations in the basis of the grid
 module _ (list : List ℤ) (time : Bool) where
   abbrev answer : PointGroup
-  answer = pointGroupAnswer list time true 432
+  answer = reciprocalAnswer list time 432
 
   module _ {n : ℕ} {a : PointGroup} (e : a ≡ answer) (f : a ≡ group-answer.Rotations n) where
-    pub few-rotations : n * 9 ≤ 432
-    few-rotations = let h : n ≤ 48 = rw (ap countOf (sym e ∙ f)) at (count-small list time true 432) in omega arith
+    call : pointGroupAnswer list time true 432 ≡ group-answer.Rotations n
+    call = same-answer list time 432 (sym e ∙ f)
 
-    told-group : {g : List ℤ} → g ≡ pointGroupWritten list time true 432 → take (n * 9 - 0) g ≡ group list time
+    pub few-rotations : n * 9 ≤ 432
+    few-rotations = let h : n ≤ 48 = rw (ap countOf call) at (count-small list time true 432) in omega arith
+
+    told-group : {g : List ℤ} → g ≡ reciprocalWritten list time 432 → take (n * 9 - 0) g ≡ group list time
     unfolding group
-    told-group {g} k = ap (λ m. take m g) whole ∙ ap (take (n * 9)) k ∙ told-part list time true 432 n (sym e ∙ f)
+    told-group {g} k = ap (λ m. take m g) whole ∙ ap (take (n * 9)) (k ∙ same-written list time 432 (sym e ∙ f)) ∙ told-part list time true 432 n call
       where
         whole : n * 9 - 0 ≡ n * 9
         whole = omega arith
 
     told-length : length (group list time) ≡ n * 9
     unfolding group
-    told-length = length-flat (pointGroup (matrices list) time true) ∙ ap (λ k. k * 9) (sym (told-count list time true 432 n (sym e ∙ f) .1))
+    told-length = length-flat (pointGroup (matrices list) time true) ∙ ap (λ k. k * 9) (sym (told-count list time true 432 n call .1))
 
     -- what the transforming call is given and leaves, in the front of out
-    module _ (d : List ℤ) (q : List (List ℤ)) (out : List ℤ) (room : length out ≡ 432) {g : List ℤ} (k : g ≡ pointGroupWritten list time true 432) where
+    module _ (d : List ℤ) (q : List (List ℤ)) (out : List ℤ) (room : length out ≡ 432) {g : List ℤ} (k : g ≡ reciprocalWritten list time 432) where
       lent : (take (n * 9 - 0) g ≡ group list time) × (length (take (n * 9 - 0) out) ≡ length (group list time))
       lent = (told-group k, front-length (n * 9) out (subst (λ m. n * 9 ≤ m) (sym room) few-rotations) ∙ sym told-length)
 
@@ -92,7 +96,7 @@ module _ (list : List ℤ) (time : Bool) where
       unfolding rotationTests transformAnswer
       turned-tested h =
           ap transformTested (h ∙ ap₂ (λ l m. transformAnswer l d q m) (lent .0) (lent .1)) ∙ again (transformTests (group list time) d q (length (group list time)))
-          ∙ sym (ap (λ t. after t (transformTests (group list time) d q (length (group list time)))) (told-count list time true 432 n (sym e ∙ f) .0))
+          ∙ sym (ap (λ t. after t (transformTests (group list time) d q (length (group list time)))) (tests-accepted list time 432 (sym e ∙ f)))
         where
           again : (t : Tested) → transformTested (transform.answerFor t) ≡ t
           again Accepted = refl
@@ -104,8 +108,8 @@ module _ (list : List ℤ) (time : Bool) where
 
   module _ (d : List ℤ) (q : List (List ℤ)) where
     pub turned-refused : {r : Refusal} {a : PointGroup} → a ≡ answer → a ≡ group-answer.Refused r → Refused r ≡ rotationTests list time d q
-    unfolding rotationTests pointGroupAnswer
-    turned-refused e f = sym (ap (λ t. after t (transformTests (group list time) d q (length (group list time)))) (was-refused (groupTests list time true 432) (length (pointGroup (matrices list) time true)) (sym f ∙ e)))
+    unfolding rotationTests
+    turned-refused e f = sym (ap (λ t. after t (transformTests (group list time) d q (length (group list time)))) (tests-refused list time 432 (sym f ∙ e)))
 
 -- ---- images; a signed number is handed on as its bits, which stand for it
 module _ (d : List ℤ) (q : List (List ℤ)) (ps : List ℤ) (lattice : List (List Float)) (t : ℤ) (a b c : ℕ) where

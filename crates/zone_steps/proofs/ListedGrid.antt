@@ -16,7 +16,7 @@ use Rattle.common.specs.declared.Refusal.the-variants.{WrongLength}
 use Rattle.common.specs.declared.Tested.{Tested}
 use Rattle.common.specs.declared.Tested.the-variants.{Accepted, Refused}
 use Rattle.common.proofs.Tests.{both-accepted}
-use Rattle.recip_rotations.specs.PointGroup.{groupTests}
+use Rattle.rotation_group.specs.ReciprocalGroup.{reciprocalTests}
 use Rattle.transform_rotations.specs.TransformRotations.{transformTests}
 use Rattle.transform_rotations.proofs.Accepted.{input-accepted}
 use Rattle.transform_rotations.proofs.ExactCall.{tests-input}
@@ -74,7 +74,7 @@ module _ (list : List ℤ) (time : Bool) (d : List ℤ) (q : List (List ℤ)) wh
   unfolding rotationTests
   rotations-fit e =
       let l = group list time in
-      input-accepted l d q (length l) (tests-input l d q (length l) (both-accepted (groupTests list time true 432) (transformTests l d q (length l)) e .1)) .grid
+      input-accepted l d q (length l) (tests-input l d q (length l) (both-accepted (reciprocalTests list time 432) (transformTests l d q (length l)) e .1)) .grid
 
   module _ {t : Turned} (et : turnedTested t ≡ rotationTests list time d q) where
     pub basis-refused : {x : Refusal} (next : Tested) → t ≡ turned.Refused x → Refused x ≡ after (rotationTests list time d q) next

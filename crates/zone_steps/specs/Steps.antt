@@ -14,7 +14,8 @@ use Rattle.common.specs.declared.Tested.the-variants.{Accepted, Refused}
 use Rattle.common.specs.declared.Refusal.the-variants.{WrongLength}
 use Rattle.grgrid.specs.Grid.{size}
 use Rattle.grgrid.specs.Own.{ownPlaces}
-use Rattle.recip_rotations.specs.PointGroup.{pointGroup, groupTests}
+use Rattle.recip_rotations.specs.PointGroup.{pointGroup}
+use Rattle.rotation_group.specs.ReciprocalGroup.{reciprocalTests}
 use Rattle.transform_rotations.specs.TransformRotations.{transformTests, transformWritten}
 use Rattle.bzgrid.specs.declared.GridType.{GridType}
 use Rattle.bzgrid.specs.declared.GridType.the-variants.{Sparse, Dense, Unknown}
@@ -47,8 +48,8 @@ module _ (rotations : List ℤ) (timeReversal : Bool) (d : List ℤ) (q : List (
   transformed = transformWritten (group rotations timeReversal) d q (length (group rotations timeReversal))
 
   unfoldable pub rotationTests : Tested
-  unfolding group groupTests transformTests
-  rotationTests = after (groupTests rotations timeReversal true 432) (transformTests (group rotations timeReversal) d q (length (group rotations timeReversal)))
+  unfolding group reciprocalTests transformTests
+  rotationTests = after (reciprocalTests rotations timeReversal 432) (transformTests (group rotations timeReversal) d q (length (group rotations timeReversal)))
 
 -- ---- images, classes and triplets of a grid, whose rotations are in its basis
 pub record Grid : Type 0 where

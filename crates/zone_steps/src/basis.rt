@@ -1,4 +1,4 @@
-// The rotations in the basis of the grid: the reciprocal rotations, transformed.
+// The rotations in the basis of the grid: the reciprocal rotations of a list that is a group, transformed.
 use common::Refusal;
 use recip_rotations::PointGroup;
 use transform_rotations::Transformed;
@@ -27,7 +27,7 @@ pub fn turn_rotations(
     ensures { λ r. ⌜ TurnedInto (transformed (now (rotations .entry)) «is_time_reversal» d q) (now (out .exit)) r ⌝ }
 {
     let mut group = [0; 432];
-    match recip_rotations::reciprocal_rotations(rotations, is_time_reversal, &mut group) {
+    match rotation_group::reciprocal_group(rotations, is_time_reversal, &mut group) {
         PointGroup::Rotations(n) => {
             match transform_rotations::transform_rotations(
                 &group[0..n * 9],

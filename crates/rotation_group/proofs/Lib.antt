@@ -1,0 +1,9 @@
+pub mod EveryMember
+pub mod IsGroup
+pub mod Walking
+pub mod Small
+pub mod Marks
+pub mod Accepted
+pub mod Outcome
+pub mod Exactly
+mod Examples

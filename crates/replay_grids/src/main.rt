@@ -42,6 +42,7 @@ fn replay_file(function: usize, name: &[u8]) {
 fn main() {
     replay_file(outputs::RECIPROCAL_POINT_GROUP, b"reciprocal_point_group");
     replay_file(outputs::RECIPROCAL_ROTATIONS, b"reciprocal_rotations");
+    replay_file(outputs::RECIPROCAL_GROUP, b"reciprocal_group");
     replay_file(outputs::IR_GRID_MAP, b"ir_grid_map");
     replay_file(outputs::ALL_GRID_ADDRESSES, b"all_grid_addresses");
     replay_file(matrices::SNF3X3, b"snf3x3");

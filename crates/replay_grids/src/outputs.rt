@@ -16,6 +16,8 @@ pub const ALL_GRID_ADDRESSES: usize = 5;
 
 pub const TRANSFORM_ROTATIONS: usize = 6;
 
+pub const RECIPROCAL_GROUP: usize = 7;
+
 // From place `at` on: the answer, the output and what was told.
 fn verdict(answer: i64, out: &[i64], told: &[i64], n: &[i64], at: usize) -> Verdict {
     Compared::To(at)
@@ -61,6 +63,20 @@ fn reciprocal_rotations(n: &[i64], at: usize, out: &mut [i64]) -> Verdict {
     verdict(answer, out, &told, n, at)
 }
 
+// Likewise.
+fn reciprocal_group(n: &[i64], at: usize, out: &mut [i64]) -> Verdict {
+    if at < 1 {
+        return Verdict::Unread;
+    }
+    if at > n.len() {
+        return Verdict::Unread;
+    }
+    let list = slices::slice_after(n, 0);
+    let mut told = [UNWRITTEN; 1];
+    let answer = zone_c::zone_reciprocal_group(list, n[at - 1] != 0, out, &mut told);
+    verdict(answer, out, &told, n, at)
+}
+
 // Two flags.
 fn reciprocal_point_group(n: &[i64], at: usize, out: &mut [i64]) -> Verdict {
     if at < 2 {
@@ -85,6 +101,7 @@ fn call(function: usize, n: &[i64], at: usize, out: &mut [i64]) -> Verdict {
     match function {
         RECIPROCAL_POINT_GROUP => reciprocal_point_group(n, at, out),
         RECIPROCAL_ROTATIONS => reciprocal_rotations(n, at, out),
+        RECIPROCAL_GROUP => reciprocal_group(n, at, out),
         IR_GRID_MAP => ir_grid_map(n, at, out),
         TRANSFORM_ROTATIONS => transform_rotations(n, at, out),
         _ => all_grid_addresses(n, at, out),
@@ -97,7 +114,7 @@ fn answer_at(function: usize, n: &[i64]) -> usize
 {
     match function {
         RECIPROCAL_POINT_GROUP => slices::after_slices(n, 1) + 2,
-        RECIPROCAL_ROTATIONS => slices::after_slices(n, 1) + 1,
+        RECIPROCAL_ROTATIONS | RECIPROCAL_GROUP => slices::after_slices(n, 1) + 1,
         IR_GRID_MAP | TRANSFORM_ROTATIONS => slices::after_slices(n, 3),
         _ => slices::after_slices(n, 1),
     }

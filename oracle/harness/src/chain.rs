@@ -17,6 +17,7 @@ use crate::inputs::lent_triplets::TripletsInput;
 use crate::inputs::tables::LentTables;
 use crate::ir_triplets_at_q::IrTripletsAtQ;
 use crate::recip_rotations::{ListInput, ReciprocalPointGroup, ReciprocalRotations};
+use crate::reciprocal_group::{GroupInput, ReciprocalGroup};
 use crate::refusals::ACCEPTED;
 use crate::snf3x3::{MatrixInput, Snf3x3};
 use crate::tests::{fixed, matrices, matrix};
@@ -75,6 +76,10 @@ pub fn listed<S: Side>(steps: &mut Steps, input: &ChainInput) -> Result<Vec<MatI
         Way::Rotations => steps.make::<S, ReciprocalRotations>(&ListInput {
             rotations,
             flags: [reversal],
+        }),
+        Way::Group => steps.make::<S, ReciprocalGroup>(&GroupInput {
+            rotations,
+            time_reversal: reversal,
         }),
         Way::PointGroup(transpose) => steps.make::<S, ReciprocalPointGroup>(&ListInput {
             rotations,
@@ -228,6 +233,8 @@ mod tests {
             let mut outputs = Chain::outputs(&input);
             let (answer, demand) = leave::<Rust>(&input, &mut outputs);
             assert_ne!(demand, Some(false));
+            // An accepted list needs no condition there.
+            assert!(input.way != Way::Group || answer != 0 || demand.is_some());
             met.push((
                 answer,
                 input.bz_grid_type,
@@ -241,7 +248,7 @@ mod tests {
                 assert!(met.iter().filter(|&&met| met == kind).count() > 100);
             }
         }
-        for answer in [0, 1, 3, 4, 6, 7, 9, 12] {
+        for answer in [0, 1, 3, 4, 6, 7, 9, 12, 18] {
             assert!(met.iter().any(|met| met.0 == answer), "{answer}");
         }
     }

@@ -25,16 +25,21 @@ pub struct Finished<'a> {
     pub left: &'a [Option<f64>],
 }
 
-/// Whether the demand speaks of a list: it has the identity, no repeats, determinants of
-/// 1 or -1 and every product of two members.
+/// What makes a list a group: the identity, no repeats, determinants of 1 or -1, and
+/// every product of two members.
+pub const CONDITIONS: [fn(&[MatI]) -> bool; 4] = [
+    |list| list.contains(&IDENTITY),
+    |list| (1..list.len()).all(|i| !list[..i].contains(&list[i])),
+    |list| list.iter().all(|m| [1, -1].contains(&determinant(m))),
+    |list| {
+        let kept = |a| list.iter().all(|b| list.contains(&product(a, b)));
+        list.iter().all(kept)
+    },
+];
+
+/// Whether the demand speaks of a list, and the chain takes it.
 pub fn is_group(list: &[MatI]) -> bool {
-    let distinct = (1..list.len()).all(|i| !list[..i].contains(&list[i]));
-    let unimodular = list.iter().all(|m| [1, -1].contains(&determinant(m)));
-    let closed = || {
-        list.iter()
-            .all(|a| list.iter().all(|b| list.contains(&product(a, b))))
-    };
-    list.contains(&IDENTITY) && distinct && unimodular && closed()
+    CONDITIONS.iter().all(|holds| holds(list))
 }
 
 fn product(a: &MatI, b: &MatI) -> MatI {

@@ -22,6 +22,7 @@ pub mod panics;
 pub mod port;
 pub mod random;
 pub mod recip_rotations;
+pub mod reciprocal_group;
 pub mod refusals;
 pub mod rotate_bz_grid_index;
 pub mod rows;

@@ -44,6 +44,15 @@ extern "C" {
         told: *mut i64,
         told_len: usize,
     ) -> i64;
+    fn zone_reciprocal_group(
+        rotations: *const i64,
+        rotations_len: usize,
+        time_reversal: bool,
+        out: *mut i64,
+        out_len: usize,
+        told: *mut i64,
+        told_len: usize,
+    ) -> i64;
     fn zone_ir_grid_map(
         rotations: *const i64,
         rotations_len: usize,
@@ -236,6 +245,25 @@ pub fn reciprocal_rotations(
 ) -> i64 {
     unsafe {
         zone_reciprocal_rotations(
+            rotations.as_ptr(),
+            rotations.len(),
+            time_reversal,
+            out.as_mut_ptr(),
+            out.len(),
+            told.as_mut_ptr(),
+            told.len(),
+        )
+    }
+}
+
+pub fn reciprocal_group(
+    rotations: &[i64],
+    time_reversal: bool,
+    out: &mut [i64],
+    told: &mut [i64],
+) -> i64 {
+    unsafe {
+        zone_reciprocal_group(
             rotations.as_ptr(),
             rotations.len(),
             time_reversal,

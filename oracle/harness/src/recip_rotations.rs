@@ -15,7 +15,7 @@ use crate::refusals::{REFUSED_PLACE, TOO_MANY_FOR_INVERSION, TOO_MANY_ROTATIONS}
 use crate::{port, tests};
 
 /// Places of the list that is answered.
-const PLACES: usize = 9 * RECIPROCAL_ROTATIONS;
+pub const PLACES: usize = 9 * RECIPROCAL_ROTATIONS;
 
 /// A list of rotations and flags.
 #[derive(Debug)]
@@ -68,16 +68,16 @@ pub fn number(error: ReciprocalRotationsError) -> i64 {
 }
 
 /// Tests the call, makes it, and hands its list over.
-fn answer(
+pub fn answer(
     rotations: &[i64],
     outputs: &mut Outputs,
-    call: impl FnOnce(&[MatI]) -> Result<Vec<MatI>, ReciprocalRotationsError>,
+    call: impl FnOnce(&[MatI]) -> Result<Vec<MatI>, i64>,
 ) -> i64 {
     outputs.answer(|slices, told| {
         let rotations = tests::matrices(rotations)?;
         tests::length(slices[0].len() == PLACES && told.len() == 1)?;
         tests::limit(tests::rotations_fit(&rotations, ROTATION_ENTRY))?;
-        let list = counted(|| call(&rotations))?.map_err(number)?;
+        let list = counted(|| call(&rotations))??;
         let numbers = list.as_flattened().as_flattened();
         slices[0].fill(REFUSED_PLACE);
         slices[0][..numbers.len()].copy_from_slice(numbers);
@@ -110,7 +110,7 @@ impl Function for ReciprocalPointGroup {
     fn oracle(input: &Self::Input, outputs: &mut Outputs) -> i64 {
         let [time_reversal, transpose] = input.flags;
         answer(&input.rotations, outputs, |rotations| {
-            get_reciprocal_point_group(rotations, time_reversal, transpose)
+            get_reciprocal_point_group(rotations, time_reversal, transpose).map_err(number)
         })
     }
 }
@@ -142,7 +142,7 @@ impl Function for ReciprocalRotations {
     fn oracle(input: &Self::Input, outputs: &mut Outputs) -> i64 {
         let [time_reversal] = input.flags;
         answer(&input.rotations, outputs, |rotations| {
-            reciprocal_rotations(rotations, time_reversal)
+            reciprocal_rotations(rotations, time_reversal).map_err(number)
         })
     }
 }

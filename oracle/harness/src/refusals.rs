@@ -1,4 +1,4 @@
-//! The numbers of the answers, from document 01.
+//! The numbers of the answers, from documents 01 and 02.
 
 pub const ACCEPTED: i64 = 0;
 
@@ -17,6 +17,7 @@ pub const SEARCH_RANGE: i64 = 12;
 pub const WRONG_LENGTH: i64 = 13;
 pub const BAD_INDEX: i64 = 14;
 pub const WRONG_HEADER: i64 = 15;
+pub const NOT_GROUP: i64 = 18;
 
 /// What a refusal leaves in every place of every output.
 pub const REFUSED_PLACE: i64 = -1;

@@ -16,6 +16,7 @@ use crate::integers::*;
 use crate::ir_triplets_at_q::*;
 use crate::neighboring_grid_points::*;
 use crate::recip_rotations::*;
+use crate::reciprocal_group::*;
 use crate::rotate_bz_grid_index::*;
 use crate::same_grid::*;
 use crate::snf3x3::*;
@@ -105,6 +106,7 @@ pub static ROWS: &[Row] = &[
     Row::helper::<ToF64>("to_f64"),
     Row::call::<ReciprocalPointGroup>("reciprocal_point_group"),
     Row::call::<ReciprocalRotations>("reciprocal_rotations"),
+    Row::apart::<ReciprocalGroup>("reciprocal_group"),
     Row::call::<IrGridMap>("ir_grid_map"),
     Row::call::<AllGridAddresses>("all_grid_addresses"),
     Row::call::<Snf3x3>("snf3x3"),

@@ -1,11 +1,12 @@
-//! The tests of document 01 that come before a call of the library, as results:
-//! the value, or the number of the refusal.
+//! The tests of documents 01 and 02 that come before a call of the library, as
+//! results: the value, or the number of the refusal.
 
 use phonors::common::{MatD, MatI, Vec3I};
 
+use crate::demand::is_group;
 use crate::inputs::matrices::is_within;
 use crate::limits::{DIAGONAL, POINTS, ROTATIONS};
-use crate::refusals::{OUTSIDE_LIMITS, WRONG_LENGTH};
+use crate::refusals::{NOT_GROUP, OUTSIDE_LIMITS, WRONG_LENGTH};
 
 /// Lengths that are wrong.
 pub fn length(holds: bool) -> Result<(), i64> {
@@ -54,6 +55,11 @@ pub fn lattice(slice: &[f64]) -> Result<MatD, i64> {
 
 pub fn rotations_fit(list: &[MatI], size: i64) -> bool {
     list.len() <= ROTATIONS && list.iter().all(|rotation| is_within(rotation, size))
+}
+
+/// A list, as it is given, that is no group.
+pub fn group(list: &[MatI]) -> Result<(), i64> {
+    is_group(list).then_some(()).ok_or(NOT_GROUP)
 }
 
 /// The number of points of a diagonal within the limits.

@@ -1,4 +1,5 @@
-//! The job file: document 01's section of that name, with the Rust's own calls.
+//! The job file: document 01's section of that name, with the Rust's own calls and
+//! document 02's test of the list.
 
 use std::fmt::Write;
 
@@ -20,7 +21,7 @@ use crate::inputs::tables::LentTables;
 use crate::ir_triplets_at_q::IrTripletsAtQ;
 use crate::limits::{JOB_BYTES, JOB_HEADER_BYTES, JOB_IMAGES, JOB_POINTS, ROTATIONS};
 use crate::port;
-use crate::recip_rotations::{ListInput, ReciprocalRotations};
+use crate::reciprocal_group::{GroupInput, ReciprocalGroup};
 use crate::refusals::{ACCEPTED, WRONG_HEADER};
 use crate::snf3x3::{MatrixInput, Snf3x3};
 use crate::tests::{fixed, length, matrices, matrix};
@@ -91,9 +92,9 @@ impl Job {
         let a = flat(&[self.a]);
         let diagonal = steps.make::<Rust, Snf3x3>(&MatrixInput { a })?;
         let (d, q) = (fixed(&diagonal.slices[0])?, matrix(&diagonal.slices[2])?);
-        let list = steps.make::<Rust, ReciprocalRotations>(&ListInput {
+        let list = steps.make::<Rust, ReciprocalGroup>(&GroupInput {
             rotations: flat(&self.rotations),
-            flags: [self.time_reversal],
+            time_reversal: self.time_reversal,
         })?;
         let list = matrices(&list.slices[0][..9 * list.told[0] as usize])?;
         let transform = TransformInput::new(&list, d, q);
@@ -210,11 +211,16 @@ impl Function for ZoneList {
 
 #[cfg(test)]
 mod tests {
+    use phonors::common::IDENTITY;
+
     use super::*;
     use crate::compare;
+    use crate::inputs::groups::failures;
     use crate::inputs::images::TYPES;
     use crate::inputs::jobs::{paper, set_word, word, Request, TOTAL, TYPE};
+    use crate::inputs::lent_transforms::EXCHANGE;
     use crate::inputs::matrices::diag;
+    use crate::inputs::walks::SMALLEST;
     use crate::random::Random;
 
     const LISTING: &str = "grid 1 1 3\nmap 0 1 0\nir 2\ntriplet 1 0 2\ntriplet 1 1 1\n";
@@ -278,6 +284,29 @@ mod tests {
         assert_eq!(refusal(with(diag([0, 1, 1]))), 1);
     }
 
+    /// The list is tested after diagonalising and its own limits, before transforming
+    /// and the points.
+    #[test]
+    fn the_list_in_the_order() {
+        let with = |a, rotations: &[MatI]| Request {
+            a,
+            rotations: rotations.to_vec(),
+            ..paper()
+        };
+        let long = |entry| [[1, 0, 0], [0, 1, 0], [entry, 0, 1]];
+        let [plain, many] = [paper().a, diag([17, 17, 1])];
+        for list in failures() {
+            assert_eq!(refusal(with(plain, &list)), 18);
+            assert_eq!(refusal(with(many, &list)), 18);
+            assert_eq!(refusal(with(diag([0, 1, 1]), &list)), 1);
+            assert_eq!(refusal(with(SMALLEST[0], &list)), 4);
+        }
+        assert_eq!(refusal(with(plain, &[IDENTITY, long(101)])), 18);
+        assert_eq!(refusal(with(plain, &[IDENTITY, long(100_001)])), 3);
+        assert_eq!(refusal(with(diag([2, 1, 1]), &[EXCHANGE])), 18);
+        assert_eq!(refusal(with(diag([2, 1, 1]), &[IDENTITY, EXCHANGE])), 6);
+    }
+
     #[test]
     fn headers() {
         let plain = paper().plain();
@@ -308,7 +337,7 @@ mod tests {
         for bz_grid_type in TYPES {
             assert!(met.iter().filter(|&&met| met == (0, bz_grid_type)).count() > 500);
         }
-        for answer in [1, 3, 4, 6, 7, 8, 9, 11, 12, 13, 15] {
+        for answer in [1, 3, 4, 6, 9, 11, 12, 13, 15, 18] {
             assert!(met.contains(&(answer, 0)), "{answer}");
         }
         assert!(met.iter().filter(|met| met.0 == 15).count() > 300);
@@ -329,12 +358,12 @@ mod tests {
         assert!(lines.len() > inputs.len());
         let answers = inputs.iter().map(|input| super::listing(&input.job).err());
         let met: Vec<i64> = answers.map(|refusal| refusal.unwrap_or(0)).collect();
-        for answer in 0..=15 {
+        for answer in 0..=18 {
             let count = met.iter().filter(|&&met| met == answer).count();
             let least = match answer {
-                2 | 5 | 10 | 14 => 0,
-                1 | 4 | 6 | 8 => 1,
-                7 | 9 | 11 | 12 | 13 => 2,
+                2 | 5 | 7 | 8 | 10 | 14 | 16 | 17 => 0,
+                1 | 4 | 6 => 1,
+                9 | 11 | 12 | 13 => 2,
                 _ => 20,
             };
             assert!(count >= least && (count == 0) == (least == 0), "{answer}");

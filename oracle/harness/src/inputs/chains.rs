@@ -18,20 +18,23 @@ pub enum Way {
     AsItStands,
     /// As `reciprocal_rotations` returns it.
     Rotations,
+    /// As `reciprocal_group` returns it.
+    Group,
     /// As `get_reciprocal_point_group` returns it, transposed or not.
     PointGroup(bool),
 }
 
-pub const WAYS: [Way; 4] = [
+pub const WAYS: [Way; 5] = [
     Way::AsItStands,
     Way::Rotations,
+    Way::Group,
     Way::PointGroup(false),
     Way::PointGroup(true),
 ];
 
 impl Way {
     fn transposes(self) -> bool {
-        matches!(self, Way::Rotations | Way::PointGroup(true))
+        matches!(self, Way::Rotations | Way::Group | Way::PointGroup(true))
     }
 }
 

@@ -3,19 +3,19 @@
 
 use std::sync::LazyLock;
 
-use phonors::common::{matmul_i, MatI, IDENTITY, INVERSION};
+use phonors::common::{matmul_i, negate_i, MatI, IDENTITY, INVERSION};
 
 use crate::inputs::matrices::{self, elementary, is_within, Elementary};
 use crate::inputs::numbers;
 use crate::limits::{RECIPROCAL_ROTATIONS, ROTATIONS, ROTATION_ENTRY};
 use crate::random::Random;
 
+pub const FOURFOLD: MatI = [[0, -1, 0], [1, 0, 0], [0, 0, 1]];
+pub const THREEFOLD: MatI = [[0, 0, 1], [1, 0, 0], [0, 1, 0]];
+
 /// The 48 signed permutation matrices.
-pub static CUBIC: LazyLock<Vec<MatI>> = LazyLock::new(|| {
-    let fourfold = [[0, -1, 0], [1, 0, 0], [0, 0, 1]];
-    let threefold = [[0, 0, 1], [1, 0, 0], [0, 1, 0]];
-    closure(&[fourfold, threefold, INVERSION])
-});
+pub static CUBIC: LazyLock<Vec<MatI>> =
+    LazyLock::new(|| closure(&[FOURFOLD, THREEFOLD, INVERSION]));
 
 /// The 24 symmetries of the hexagonal lattice.
 pub static HEXAGONAL: LazyLock<Vec<MatI>> = LazyLock::new(|| {
@@ -85,6 +85,23 @@ pub fn list(random: &mut Random, size: i64) -> Vec<MatI> {
     list
 }
 
+/// A group and cosets G·m of it, as far as a list has room and entries are of size at
+/// most `size`. A product of a member of the group and any other stays inside.
+pub fn cosets(random: &mut Random, group: &[MatI], size: i64) -> Vec<MatI> {
+    let mut list = group.to_vec();
+    for _ in 0..ROTATIONS {
+        if list.len() + group.len() > ROTATIONS {
+            break;
+        }
+        let m = matrices::unimodular(random, size);
+        let coset: Vec<MatI> = group.iter().map(|g| matmul_i(g, &m)).collect();
+        if !list.contains(&coset[0]) && coset.iter().all(|r| is_within(r, size)) {
+            list.extend(coset);
+        }
+    }
+    list
+}
+
 /// The list in another order, or with a member dropped, repeated or changed by
 /// one entry of size at most `size`. It may have one member more.
 pub fn damaged(random: &mut Random, mut list: Vec<MatI>, size: i64) -> Vec<MatI> {
@@ -118,7 +135,12 @@ pub fn lent(random: &mut Random) -> Vec<i64> {
         }
         _ => group(random, size),
     };
-    let mut numbers = flat(&rotations);
+    lent_list(random, &rotations)
+}
+
+/// The list as it is lent, now and then outside the limits or of a wrong length.
+pub fn lent_list(random: &mut Random, list: &[MatI]) -> Vec<i64> {
+    let mut numbers = flat(list);
     match random.below(100) {
         0 => drop(numbers.pop()),
         1 => numbers.push(1),
@@ -165,17 +187,35 @@ pub fn distinct_at_limits() -> Vec<Vec<i64>> {
     lists
 }
 
+/// Lists that are no group, each for one reason alone: no identity, a repeat, a
+/// determinant of 0, a product that is missing.
+pub fn failures() -> [Vec<MatI>; 4] {
+    [
+        vec![],
+        vec![IDENTITY, IDENTITY],
+        vec![IDENTITY, matrices::diag([1, 1, 0])],
+        vec![IDENTITY, FOURFOLD],
+    ]
+}
+
+/// A list that is a group only with its negatives.
+pub fn half_a_group() -> Vec<MatI> {
+    let square = matmul_i(&THREEFOLD, &THREEFOLD);
+    vec![IDENTITY, negate_i(&THREEFOLD), negate_i(&square)]
+}
+
+/// The identity and shears, so many in all: a part of a group that has no end.
+pub fn shears(count: usize) -> Vec<MatI> {
+    let shear = |k| [[1, 0, 0], [0, 1, 0], [k as i64, 0, 1]];
+    (0..count).map(shear).collect()
+}
+
 #[cfg(test)]
 mod tests {
     use phonors::common::det_i;
 
     use super::*;
-
-    fn is_group(list: &[MatI]) -> bool {
-        let distinct = (1..list.len()).all(|i| !list[..i].contains(&list[i]));
-        let closed = |a| list.iter().all(|b| list.contains(&matmul_i(a, b)));
-        list.contains(&IDENTITY) && distinct && list.iter().all(closed)
-    }
+    use crate::demand::{is_group, CONDITIONS};
 
     #[test]
     fn orders() {
@@ -203,6 +243,21 @@ mod tests {
         for order in [1, 2, 3, 4, 6, 8, 12, 16, 24, 48] {
             assert!(orders.contains(&order), "no group of order {order}");
         }
+    }
+
+    /// The longest list that is refused by its products alone, and not before a member
+    /// outside of the group is tried.
+    #[test]
+    fn cosets_up_to_the_longest_list() {
+        let mut random = Random::new(1);
+        let list = cosets(&mut random, &CUBIC, 100);
+        assert_eq!(list.len(), ROTATIONS);
+        assert_eq!(
+            CONDITIONS.map(|holds| holds(&list)),
+            [true, true, true, false]
+        );
+        let stays = |a| list.iter().all(|b| list.contains(&matmul_i(a, b)));
+        assert!(CUBIC.iter().all(stays));
     }
 
     #[test]

@@ -1,15 +1,17 @@
 //! Job files at the limits: of the header, of the lengths, of the points and the
 //! images, and one for every refusal that a job can meet.
 //!
-//! Four numbers are met by no job. 2: the diagonalising ends long before 100
-//! rounds. 5 and 10: the Q that it returns has the determinant 1 or -1. 14: the
-//! tables are those of the image call, and q0 is tested (3) before it is read.
+//! Six of document 01's numbers are met by no job. 2: the diagonalising ends long
+//! before 100 rounds. 5 and 10: the Q that it returns has the determinant 1 or -1. 7
+//! and 8: no finite group of whole matrices has over 48 members, nor over 24 without
+//! the inversion. 14: the tables are those of the image call, and q0 is tested (3)
+//! before it is read.
 
-use std::iter;
+use phonors::common::{MatD, MatI, IDENTITY};
 
-use phonors::common::{MatD, MatI, IDENTITY, INVERSION};
-
-use crate::inputs::groups::closure;
+use crate::inputs::groups::{
+    closure, failures, half_a_group, shears, CUBIC, FOURFOLD, HEXAGONAL, THREEFOLD,
+};
 use crate::inputs::images::TYPES;
 use crate::inputs::jobs::{
     paper, set_word, JobInput, Request, COUNT, FLAGS, LATTICE, LIST, MATRIX, POINT, TOTAL, TYPE,
@@ -90,15 +92,18 @@ fn lengths() -> Vec<Vec<u8>> {
         jobs.push(plain[..length].to_vec());
         jobs.push(told(plain[..length].to_vec(), length));
     }
-    // The shortest: all sections at one place, of which the lattice is the longest.
+    // The shortest: all sections at one place, of which the lattice is the longest. A is
+    // the identity, so that the list of one is a group.
     let shortest = JOB_HEADER_BYTES + 72;
     for length in [shortest - 1, shortest] {
-        let mut job = told(plain[..length].to_vec(), length);
-        set_word(&mut job, COUNT, 0);
-        for section in [MATRIX, LIST, LATTICE] {
-            set_word(&mut job, section, JOB_HEADER_BYTES as u32);
+        for count in [0, 1] {
+            let mut job = told(with(IDENTITY).plain()[..length].to_vec(), length);
+            set_word(&mut job, COUNT, count);
+            for section in [MATRIX, LIST, LATTICE] {
+                set_word(&mut job, section, JOB_HEADER_BYTES as u32);
+            }
+            jobs.push(job);
         }
-        jobs.push(job);
     }
     for [length, total] in [
         [JOB_BYTES - 1, JOB_BYTES - 1],
@@ -123,10 +128,9 @@ fn with(a: MatI) -> Request {
 /// Of both types, with every flag, from several points: the job of the paper, and
 /// a tetragonal crystal of 16 points.
 fn accepted() -> Vec<Request> {
-    let fourfold = [[0, -1, 0], [1, 0, 0], [0, 0, 1]];
     let crystal = Request {
         a: diag([4, 4, 1]),
-        rotations: closure(&[fourfold]),
+        rotations: closure(&[FOURFOLD]),
         lattice: REGULAR[4],
         ..paper()
     };
@@ -185,40 +189,53 @@ fn numbers() -> Vec<Request> {
     requests
 }
 
-/// Lists of rotations about the limits of their number and of their entries.
+/// Lists of rotations: groups of the most members, lists that are none, and entries
+/// about their limits.
 fn lists() -> Vec<Request> {
     let listed = |rotations: Vec<MatI>, flags| Request {
         rotations,
         flags,
         ..paper()
     };
-    // They need not be invertible, and of few entries the vectors are short. With the
-    // negative of the identity 24 go through the class call too.
-    let distinct = |count| {
-        let others = (1..count).map(|k| [[0; 3], [0; 3], [k, 0, 0]]);
-        iter::once(IDENTITY).chain(others)
-    };
     let mut requests = Vec::new();
-    for (count, flags) in [
-        (24, 1),
-        (25, 1),
-        (25, 0),
-        (48, 0),
-        (49, 0),
-        (49, 1),
-        (192, 0),
+    // Each keeps the grid. Of 24 without the inversion time reversal makes 48.
+    for (group, a) in [
+        (CUBIC.clone(), diag([2, 2, 2])),
+        (closure(&[FOURFOLD, THREEFOLD]), diag([2, 2, 2])),
+        (HEXAGONAL.clone(), diag([2, 2, 1])),
     ] {
-        requests.push(listed(distinct(count).collect(), flags));
+        for flags in [0, 1] {
+            requests.push(Request {
+                a,
+                ..listed(group.clone(), flags)
+            });
+        }
     }
-    let with_inversion = distinct(47).chain([INVERSION]);
-    requests.push(listed(with_inversion.collect(), 1));
+    // No groups: on the grid of the paper, and where 13 for the points would come next.
+    for a in [paper().a, diag([17, 17, 1])] {
+        for list in failures() {
+            requests.push(Request {
+                a,
+                ..listed(list, 0)
+            });
+        }
+    }
+    requests.push(listed(half_a_group(), 0));
+    requests.push(listed(half_a_group(), 1));
+    for (count, flags) in [(25, 1), (49, 0), (49, 1)] {
+        requests.push(listed(shears(count), flags));
+    }
     for count in [ROTATIONS, ROTATIONS + 1] {
         requests.push(listed(vec![[[0; 3]; 3]; count], 3));
     }
+    // A reflection is a group with the identity, whatever its entry; a shear is none,
+    // which is told before the limit of transforming and after that of the call.
     for entry in [TRANSFORMED_ENTRY, ROTATION_ENTRY] {
         for entry in [entry, entry + 1, -entry, -entry - 1] {
-            let rotation = [[1, 0, 0], [0, 1, 0], [entry, 0, 1]];
-            requests.push(listed(vec![IDENTITY, rotation], 0));
+            for last in [-1, 1] {
+                let rotation = [[1, 0, 0], [0, 1, 0], [entry, 0, last]];
+                requests.push(listed(vec![IDENTITY, rotation], 0));
+            }
         }
     }
     requests
@@ -234,12 +251,14 @@ fn refused() -> Vec<Request> {
         with(SMALLEST[1]),
         with(INSIDE[0]),
     ];
-    // Axes of unequal numbers, and of equal ones.
+    // Axes of unequal numbers, and of equal ones; without the identity 18 comes first.
     for numbers in [[2, 1, 1], [1, 2, 4], [3, 3, 1]] {
-        requests.push(Request {
-            rotations: vec![EXCHANGE],
-            ..with(diag(numbers))
-        });
+        for rotations in [vec![IDENTITY, EXCHANGE], vec![EXCHANGE]] {
+            requests.push(Request {
+                rotations,
+                ..with(diag(numbers))
+            });
+        }
     }
     requests.extend(
         [

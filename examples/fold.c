@@ -86,8 +86,8 @@ int main(int argc, char **argv)
     /* 2 and 3: the rotations, as they act on q and on addresses */
     int64_t direct[48 * 9], reciprocal[ZONE_GROUP_LENGTH], rotations[ZONE_GROUP_LENGTH];
     direct_rotations(direct);
-    accepted("zone_reciprocal_rotations", zone_reciprocal_rotations(direct, 48 * 9, TIME_REVERSAL, reciprocal,
-                                                                    ZONE_GROUP_LENGTH, told, 1));
+    accepted("zone_reciprocal_group",
+             zone_reciprocal_group(direct, 48 * 9, TIME_REVERSAL, reciprocal, ZONE_GROUP_LENGTH, told, 1));
     size_t length = 9 * (size_t)told[0];
     accepted("zone_transform_rotations",
              zone_transform_rotations(reciprocal, length, d, 3, q, 9, rotations, length));

@@ -18,7 +18,7 @@ type Len = usize;
 extern "C" {
     fn zone_snf3x3(
         a: In, a_len: Len, d: Out, d_len: Len, p: Out, p_len: Len, q: Out, q_len: Len, told: Out, told_len: Len) -> i64;
-    fn zone_reciprocal_rotations(
+    fn zone_reciprocal_group(
         rotations: In, rotations_len: Len, time_reversal: bool, out: Out, out_len: Len, told: Out, told_len: Len) -> i64;
     fn zone_transform_rotations(
         rotations: In, rotations_len: Len, d: In, d_len: Len, q: In, q_len: Len, out: Out, out_len: Len) -> i64;
@@ -76,8 +76,8 @@ fn main() {
     let n = (d[0] * d[1] * d[2]) as usize;
 
     let (direct, mut reciprocal, mut count) = (direct_rotations(), [0; GROUP_LENGTH], [0]);
-    accepted("zone_reciprocal_rotations", unsafe {
-        zone_reciprocal_rotations(
+    accepted("zone_reciprocal_group", unsafe {
+        zone_reciprocal_group(
             direct.as_ptr(), direct.len(), TIME_REVERSAL, reciprocal.as_mut_ptr(), GROUP_LENGTH,
             count.as_mut_ptr(), 1)
     });

@@ -40,14 +40,16 @@
  *
  * THE ROTATIONS
  *
- *   as given       zone_reciprocal_rotations and zone_reciprocal_point_group take the direct-space list
+ *   as given       zone_reciprocal_group, zone_reciprocal_rotations and zone_reciprocal_point_group take the
+ *                  direct-space list
  *   reciprocal     R transposed acts on q; zone_transform_rotations takes this list, the told part of those calls'
  *                  output (9 * told[0] places)
  *   transformed    M = D·Q⁻¹·R·Q·D⁻¹, for each R of the reciprocal list, acts on addresses; zone_ir_grid_map,
  *                  zone_ir_triplets_at_q and zone_rotate_bz_grid_index take this list, or a matrix of it
  *
  * No call can tell one of these lists from another. A list is a group if it holds the identity, no matrix twice, only
- * determinants of 1 and -1, and every product of two. For other lists a class map need not be one of classes.
+ * determinants of 1 and -1, and every product of two. For other lists a class map need not be one of classes:
+ * zone_reciprocal_group and zone_list refuse them, every other call takes them.
  *
  * IMAGES
  *
@@ -66,7 +68,7 @@
  * THE ORDER OF THE CALLS
  *
  *   1  zone_snf3x3                 A                                    d, q
- *   2  zone_reciprocal_rotations   the rotations, time_reversal         the reciprocal list
+ *   2  zone_reciprocal_group       the rotations, time_reversal         the reciprocal list
  *   3  zone_transform_rotations    the reciprocal list, d, q            the transformed list
  *      zone_ir_grid_map            the transformed list, d, ps          the classes of the points, if wanted
  *   4  zone_bz_grid_addresses      d, q, ps, lattice, type              addresses, map, grg
@@ -77,12 +79,12 @@
  *                                  type
  *
  * time_reversal says that q and -q are equivalent, swappable that q1 and q2 may change places. d, q, ps, lattice,
- * type and time_reversal are the same in every call that takes them. For rotations that are a group (with their
- * negatives, where time reversal joins them) it is proved of calls 1 to 6, each accepted: two points q1 have one
- * number in map_triplets exactly if a matrix of the transformed list that keeps q0 carries one to the other or, if
- * swappable, to the other's partner -q0-q1; the number is the lowest point of the class; the triplet of a class sums
- * to zero if any choice of images does, and else no choice has a squared length that is smaller by more than the
- * tolerance.
+ * type and time_reversal are the same in every call that takes them. It is proved of calls 1 to 6, each accepted: two
+ * points q1 have one number in map_triplets exactly if a matrix of the transformed list that keeps q0 carries one to
+ * the other or, if swappable, to the other's partner -q0-q1; the number is the lowest point of the class; the triplet
+ * of a class sums to zero if any choice of images does, and else no choice has a squared length that is smaller by
+ * more than the tolerance. With zone_reciprocal_rotations or zone_reciprocal_point_group as call 2 that holds of
+ * rotations that are a group (with their negatives, where time reversal joins them).
  *
  * MEMORY
  *
@@ -137,7 +139,10 @@ enum zone_refusal {
     ZONE_WRONG_LENGTH = 13,                /* a slice has another length than it must, or an image output is short */
     ZONE_OUTSIDE_TABLE = 14,               /* an index asked for or read is outside its slice, a number read from an
                                               image map outside 0..2^40, or an address read outside -10^13..10^13 */
-    ZONE_BAD_HEADER = 15                   /* the header of a job file is wrong */
+    ZONE_BAD_HEADER = 15,                  /* the header of a job file is wrong */
+    ZONE_NOT_GROUP = 18                    /* the rotations, as given, are no group: the identity is missing, one stands
+                                              twice, one has a determinant other than 1 or -1, or the product of two
+                                              is not among them */
 };
 
 #define ZONE_MOST_ROTATIONS 192
@@ -165,7 +170,12 @@ int64_t zone_same_grid(const int64_t *a, size_t a_len, const int64_t *b, size_t 
 int64_t zone_reciprocal_rotations(const int64_t *rotations, size_t rotations_len, bool time_reversal, int64_t *out,
                                   size_t out_len, int64_t *told, size_t told_len);
 
-/* The same, transposed only if `transpose` says so. */
+/* The same for rotations that are a group, before negatives are joined; any other list, also the empty one, gives 18.
+ * Refusals: 13, 3, 18, 7, 8. (No group has so many members that it would meet 7 or 8.) */
+int64_t zone_reciprocal_group(const int64_t *rotations, size_t rotations_len, bool time_reversal, int64_t *out,
+                              size_t out_len, int64_t *told, size_t told_len);
+
+/* As zone_reciprocal_rotations, transposed only if `transpose` says so. */
 int64_t zone_reciprocal_point_group(const int64_t *rotations, size_t rotations_len, bool time_reversal,
                                     bool transpose, int64_t *out, size_t out_len, int64_t *told, size_t told_len);
 
@@ -244,7 +254,7 @@ int64_t zone_bz_triplets_at_q(int64_t q0, const int64_t *addresses, size_t addre
  * first image of q0. The file has a header of eight 32-bit words, and all words are little-endian:
  *
  *   0  its length in bytes, 32 to ZONE_JOB_LENGTH      4  the byte at which the lattice stands: 9 doubles
- *   1  the count of rotations, 0 to 192                5  flags: 1 time reversal, 2 swappable, or their sum
+ *   1  the count of rotations, 0 (then 18) to 192      5  flags: 1 time reversal, 2 swappable, or their sum
  *   2  the byte at which A stands: 9 signed words      6  the type
  *   3  the same of the rotations: 9 words each         7  q0, a point
  *

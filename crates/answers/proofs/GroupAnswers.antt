@@ -19,7 +19,7 @@ use Rattle.recip_rotations.specs.PointGroup.{countOf}
 use Rattle.recip_rotations.specs.declared.PointGroup.{PointGroup}
 use Rattle.recip_rotations.specs.declared.PointGroup.the-variants.{Rotations, Refused}
 use Rattle.answers.specs.PointGroupTold.{groupNumber, groupTold, PointGroupTold}
-use Rattle.answers.proofs.Stored.{stored}
+use Rattle.common.proofs.Stored.{stored}
 
 -- the count fits a place
 pub count-fits : {g : PointGroup} {k : ℕ} → g ≡ Rotations k → countOf g ≤ 48 → SFits w64 (pos k)

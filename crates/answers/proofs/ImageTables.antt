@@ -2,12 +2,12 @@
 use mathlib.Core.Path.{_≡_, sym, _∙_, ap, ap₂}
 use mathlib.Core.Bool.{true, false, _&&_}
 use mathlib.Core.List.{List, [], _∷_}
-use Prim.Native.Nat.{ℕ, suc, _*_, _<_}
+use Prim.Native.Nat.{ℕ, _*_, _<_}
 use native.Mathlib.Omega.{arith}
 use lib.Dec.{T, eqb, leb, leb→le}
 use lib.IntN.{ℤ, pos, negsuc}
 use lib.Ieee.{Float}
-use lib.ListN.{length, replicate, set}
+use lib.ListN.{length, replicate}
 use borrow.Author.Tests.{eqb-true, eq-eqb, ne-eqb}
 use mir.Syntax.{w64}
 use mir.Val.{toZ}
@@ -26,29 +26,7 @@ use Rattle.bztable.specs.Rotate.{rotateTests, rotateRead, rotateAnswer}
 use Rattle.bztable.specs.Neighbours.{inputTests as neighbourInput, neighboursRead, neighbourTests, neighboursAnswer, neighboursWritten}
 use Rattle.bztable.proofs.AcceptedCall.{call-accepted}
 use Rattle.answers.specs.Images.{imageLengths, imagesNumber, imagesTold, Held, LengthsFit, BzGridAddressesTold, rotateLengths, rotatedNumber, rotatedTold, RotateTold, neighboursNumber, NeighboursTold}
-use Rattle.answers.proofs.Stored.{stored}
 use Rattle.answers.proofs.Lengths.{taken, left, both, three-lengths}
-
--- ---- outputs of two and of three places
-pub stored-two : (b : List ℤ) → length b ≡ 2 → (x y : ℤ) → set (set b 0 x) 1 y ≡ x ∷ y ∷ []
-stored-two [] e x y = absurd (never e)
-  where
-    never : _≡_ {A = ℕ} 0 2 → ⊥
-    never e = omega arith
-stored-two (_ ∷ b) e x y = ap (λ l. x ∷ l) (stored b (less (length b) e) y)
-  where
-    less : (n : ℕ) → suc n ≡ 2 → n ≡ 1
-    less n e = omega arith
-
-pub stored-three : (b : List ℤ) → length b ≡ 3 → (x y z : ℤ) → set (set (set b 0 x) 1 y) 2 z ≡ x ∷ y ∷ z ∷ []
-stored-three [] e x y z = absurd (never e)
-  where
-    never : _≡_ {A = ℕ} 0 3 → ⊥
-    never e = omega arith
-stored-three (_ ∷ b) e x y z = ap (λ l. x ∷ l) (stored-two b (less (length b) e) y z)
-  where
-    less : (n : ℕ) → suc n ≡ 3 → n ≡ 2
-    less n e = omega arith
 
 abbrev unwritten : ℕ → List ℤ
 unwritten n = replicate n (negsuc 0)

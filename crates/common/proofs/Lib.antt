@@ -1,6 +1,7 @@
 pub mod Matrix
 pub mod Unimodular
 pub mod Filled
+pub mod Stored
 pub mod Bounds
 pub mod Tests
 pub mod Whole

@@ -10,7 +10,7 @@ use Rattle.integer.specs.Checked.{fits64, pick}
 use Rattle.integer.proofs.Test.{and-l, and-r, and-in}
 use Rattle.integer.proofs.Size.{abs-neg, abs-mul, abs-add}
 use Rattle.integer.proofs.Fits.{size-fits}
-use Rattle.common.specs.Matrix.{Axis, X, Y, Z, allAxes, Mat, entry, cross, dot, expand, minors, integers}
+use Rattle.common.specs.Matrix.{Axis, X, Y, Z, allAxes, Mat, entry, cross, dot, expand, minors, integers, det}
 use Rattle.common.specs.IntegerMatrix.{productsFit, dotFits, productFits, crossFits, minorsFit, expandFits, detFits, larger, largestOf, largest}
 use Rattle.common.proofs.Matrix.{axes-of, all-axes}
 
@@ -121,21 +121,24 @@ module _ (m : Mat ℤ) (h : (j k : Axis) → natAbs (entry m j k) ≤ 1000000) w
   abbrev v : Axis → ℤ
   v = minors integers (entry m Y) (entry m Z)
 
+  term-size : (k : Axis) → natAbs (u k *ℤ v k) ≤ 2000000000000000000
+  term-size k = product-size (u k) (v k) (h X k) (minor-size k)
+
+  two-terms-size : natAbs (u X *ℤ v X -ℤ u Y *ℤ v Y) ≤ 4000000000000000000
+  two-terms-size = difference-size (u X *ℤ v X) (u Y *ℤ v Y) (term-size X) (term-size Y)
+
+  pub det-size : natAbs (det m) ≤ 6000000000000000000
+  det-size = sum-size (u X *ℤ v X -ℤ u Y *ℤ v Y) (u Z *ℤ v Z) two-terms-size (term-size Z)
+
   pub sized-det : T (detFits m)
   unfolding detFits
   sized-det =
       and-in (minorsFit (entry m Y) (entry m Z)) (expandFits u v) (all-axes (minorFits (entry m Y) (entry m Z)) sized-minor)
       (and-in (productsFit u v) (fits64 (u X *ℤ v X -ℤ u Y *ℤ v Y) && fits64 (expand integers u v))
-      (all-axes (λ k. fits64 (u k *ℤ v k)) (λ k. size-fits (u k *ℤ v k) (lt-of-le-of-lt (term k) (lit< tt))))
+      (all-axes (λ k. fits64 (u k *ℤ v k)) (λ k. size-fits (u k *ℤ v k) (lt-of-le-of-lt (term-size k) (lit< tt))))
       (and-in (fits64 (u X *ℤ v X -ℤ u Y *ℤ v Y)) (fits64 (expand integers u v))
-      (size-fits (u X *ℤ v X -ℤ u Y *ℤ v Y) (lt-of-le-of-lt two (lit< tt)))
-      (size-fits (expand integers u v) (lt-of-le-of-lt (sum-size (u X *ℤ v X -ℤ u Y *ℤ v Y) (u Z *ℤ v Z) two (term Z)) (lit< tt)))))
-    where
-      term : (k : Axis) → natAbs (u k *ℤ v k) ≤ 2000000000000000000
-      term k = product-size (u k) (v k) (h X k) (minor-size k)
-
-      two : natAbs (u X *ℤ v X -ℤ u Y *ℤ v Y) ≤ 4000000000000000000
-      two = difference-size (u X *ℤ v X) (u Y *ℤ v Y) (term X) (term Y)
+      (size-fits (u X *ℤ v X -ℤ u Y *ℤ v Y) (lt-of-le-of-lt two-terms-size (lit< tt)))
+      (size-fits (expand integers u v) (lt-of-le-of-lt det-size (lit< tt)))))
 
 -- ---- the largest size
 larger-left : (a b : ℕ) → a ≤ larger a b

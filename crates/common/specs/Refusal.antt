@@ -8,7 +8,7 @@ use Rattle.common.specs.declared.Refusal.the-variants.{SingularReciproca
 abbrev pub numberOf : Refusal → ℕ
 -- `snf3x3`: the determinant is 0
 numberOf Singular = 1
--- `snf3x3`: 100 rounds end without a diagonal
+-- `snf3x3`: 100 rounds end without a diagonal; never given (snf3x3/specs/FewRounds)
 numberOf NotConverged = 2
 -- an input lies outside the limits
 numberOf OutsideLimits = 3

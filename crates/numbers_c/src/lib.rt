@@ -1,5 +1,7 @@
-// Checked operations on i64 and functions of f64, exported for the comparison with the Rust's own. No part of the archive for the camera, zone_c.
+// Checked operations on i64, functions of f64 and the extended gcd, exported for the comparison with the Rust's own.
+// No part of the archive for the camera, zone_c.
 mod floats;
+mod gcd;
 
 use common::Refusal;
 pub use floats::zone_abs;
@@ -11,6 +13,7 @@ pub use floats::zone_round;
 pub use floats::zone_sqrt;
 pub use floats::zone_to_f64;
 pub use floats::zone_to_i64;
+pub use gcd::zone_extended_gcd;
 use integer::Checked;
 ghost use lib.IntN.{negℤ, _+ℤ_, _-ℤ_, _*ℤ_};
 ghost use lib.Signed.{quotZ, remZ};

@@ -15,6 +15,7 @@ use Rattle.snf_steps.specs.Stages.{Triple, Outcome, second}
 use Rattle.snf_steps.specs.Finalize.{finalize}
 use Rattle.common.specs.Limits.{matrixWithin}
 use Rattle.snf3x3.specs.Snf3x3.{Answer, refused, diagonalised, answer, round, after, rounds, snf3x3}
+use Rattle.snf3x3.specs.FewRounds.{begun}
 use Rattle.snf_steps.proofs.Accepted.{Accepted, accepted, overflowed, accepted-bind, accepted-map, accepted-pick}
 use Rattle.snf_steps.proofs.FittingEntries.{given-fits}
 use Rattle.snf_steps.proofs.Keeping.{IsDiagonal, Sound, first-leaves, second-leaves}
@@ -29,9 +30,6 @@ pub record Diagonalises (A : Mat ℤ) (d : Vec ℤ) (P Q : Mat ℤ) : Type 0 whe
 abbrev pub Right : Mat ℤ → Answer → Type 0
 Right A (refused r) = Unit {0}
 Right A (diagonalised d P Q n) = Diagonalises A d P Q
-
-abbrev pub begun : Mat ℤ → Triple
-begun A = record { a = A; p = identity; q = identity }
 
 pub begun-sound : (A : Mat ℤ) → T (matrixWithin 1000000 A) → Sound A (begun A)
 begun-sound A t = record {

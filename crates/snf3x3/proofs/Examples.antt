@@ -2,16 +2,19 @@
 use mathlib.Core.Path.{_≡_, refl}
 use mathlib.Core.List.{List, [], _∷_}
 use Prim.Native.Nat.{ℕ}
+use native.Mathlib.Omega.{arith}
 use lib.IntN.{ℤ, pos, negsuc}
 use Rattle.common.specs.Refusal.{numberOf}
-use Rattle.common.specs.Matrix.{Mat, entries, diagonal}
+use Rattle.common.specs.Matrix.{Mat, entries, diagonal, identity}
 use Rattle.common.specs.IntegerMatrix.{productFits, detFits}
 use Rattle.snf_steps.specs.Result.{Result, ok, overflow}
-use Rattle.snf_steps.specs.Gcd.{Euclid, step, euclid, extendedGcd}
+use Rattle.snf_steps.specs.Gcd.{Euclid, step, euclid, extendedGcd, divisions, steps}
 use Rattle.snf_steps.specs.Columns.{multiply, makeZero, firstColumn, secondColumn}
-use Rattle.snf_steps.specs.Stages.{oneLoop, first, second}
+use Rattle.snf_steps.specs.Pivot.{pivot}
+use Rattle.snf_steps.specs.Stages.{Triple, oneLoop, first, second, again}
 use Rattle.snf_steps.specs.Finalize.{makeDiagPositive, finalizeSort, finalizeDisturb, flipPQ, putInOrder, finalize}
 use Rattle.snf3x3.specs.Snf3x3.{Answer, refused, diagonalised, round, rounds, snf3x3}
+use Rattle.snf3x3.specs.FewRounds.{begun, Reached, from, on}
 
 pub record Row : Type 0 where
   pub computed : List ℤ
@@ -65,3 +68,29 @@ table =
 points : Right table
 unfolding snf3x3 rounds round finalize putInOrder makeDiagPositive finalizeSort finalizeDisturb flipPQ first second oneLoop firstColumn secondColumn makeZero multiply extendedGcd euclid step productFits detFits
 points = (refl, (refl, (refl, (refl, (refl, (refl, (refl, tt)))))))
+
+-- a round without an answer: the pivot that it leaves is 2, which divides the determinant 30
+abbrev uneven : Mat ℤ
+uneven = record { a = pos 6; b = pos 4; c = pos 0; d = pos 0; e = pos 5; f = pos 0; g = pos 0; h = pos 0; i = pos 1 }
+
+abbrev left : Triple
+left = record {
+  a = record { a = pos 2; b = pos 0; c = pos 0; d = negsuc 4; e = pos 15; f = pos 0; g = pos 0; h = pos 0; i = pos 1 };
+  p = identity;
+  q = record { a = pos 1; b = negsuc 0; c = pos 0; d = negsuc 1; e = pos 3; f = pos 0; g = pos 0; h = pos 0; i = pos 1 };
+}
+
+failed : round (begun uneven) ≡ again left
+unfolding round first oneLoop firstColumn makeZero multiply extendedGcd euclid step productFits
+failed = refl
+
+pivot-left : pivot (left .a) ≡ pos 2
+pivot-left = refl
+
+reached : Reached uneven left
+reached = on (from tt (omega arith)) failed
+
+-- the most divisions that a pair of 64 bits takes
+most-steps : steps (pos 4660046610375530309) (pos 7540113804746346429) ≡ 91
+unfolding divisions
+most-steps = refl

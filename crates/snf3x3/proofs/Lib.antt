@@ -1,4 +1,6 @@
 pub mod Passes
 pub mod Comparing
 pub mod Diagonal
+pub mod FailedRound
+pub mod FewRounds
 pub mod Examples

@@ -14,6 +14,7 @@ ghost use Rattle.snf_steps.specs.Result.{_then_, fitting};
 ghost use Rattle.snf_steps.specs.StagesView.{threeOf, tripleOf, outcomeOf};
 ghost use Rattle.snf3x3.specs.Snf3x3 as walk;
 ghost use Rattle.snf3x3.specs.Written.{written};
+ghost use Rattle.snf3x3.specs.FewRounds.{RoundsWithin};
 ghost use Rattle.snf3x3.specs.SameGrid.{sameAs, sameGrid};
 ghost use Rattle.snf3x3.specs.declared.SameGrid.the-variants as same;
 ghost use Rattle.integer.specs.Checked.{pick};
@@ -94,6 +95,7 @@ fn rounds(s: Triple) -> Snf
 
 pub fn snf3x3(a: [[i64; 3]; 3]) -> Snf
     ensures { λ r. ⌜ r ≡ written (walk.snf3x3 (matrixOf a)) ⌝ }
+    ensures { λ r. ⌜ RoundsWithin 82 r ⌝ }
 {
     if !common::matrix_within(a, 1000000) {
         return refuse(Refusal::OutsideLimits);

@@ -2,8 +2,8 @@
 use mathlib.Core.Path.{_≡_, refl, sym, _∙_, ap, subst}
 use mathlib.Core.Bool.{not}
 use mathlib.Core.List.{[], _∷_}
-use Prim.Native.Nat.{ℕ, zero, suc, _+_, _*_, _%_, _/_, _^_, _≤_, _<_}
-use native.Mathlib.Nat.{div-add-mod', mod-lt, lt-of-lt-of-le, two-pow-succ, eq-zero-or-pos}
+use Prim.Native.Nat.{ℕ, zero, suc, _+_, _^_, _≤_, _<_}
+use native.Mathlib.Nat.{le-of-lt, lt-of-lt-of-le, eq-zero-or-pos}
 use native.Mathlib.Omega.{arith}
 use mathlib.Core.Logic.{⊎-elim}
 use lib.Dec.{T, lit≤}
@@ -19,6 +19,7 @@ use Rattle.integer.proofs.Divides.{mul-cancel, divides-refl, divides-zero, divi
 use Rattle.snf_steps.specs.Result.{ok, _then_}
 use Rattle.snf_steps.specs.Gcd.{Euclid, start, stepFits, next, step, euclid, extendedGcd}
 use Rattle.snf_steps.proofs.Accepted.{Accepted, accepted, accepted-bind, accepted-map, accepted-provided, accepted-pick}
+use Rattle.snf_steps.proofs.Halving.{rem-less-than-half, halved}
 
 -- one division
 abbrev pub divided : Euclid → Euclid
@@ -75,18 +76,6 @@ module _ (a b : ℤ) where
   no-division zero e g h = accepted (record { remainders = g; last = h })
   no-division (suc n) e g h = one-division n e g (λ t. absurd (subst (λ z. T (not (isZero z))) h t))
 
-  -- ---- two divisions halve the remainder
-  less-than-half : (m k : ℕ) → zero < k → k < m → m % k + m % k < m
-  less-than-half m k h l = omega (arith, mod-lt m h, div-add-mod' m k, at-least-one (m / k) (m % k) (div-add-mod' m k) (mod-lt m h))
-    where
-      at-least-one : (q r : ℕ) → q * k + r ≡ m → r < k → k ≤ q * k
-      at-least-one zero r e h = absurd (omega arith)
-      at-least-one (suc q) r e h = omega arith
-
-  rem-less-than-half : (r m : ℤ) → NonNeg r → zero < natAbs m → natAbs m < natAbs r → natAbs (remEuclid r m) + natAbs (remEuclid r m) < natAbs r
-  rem-less-than-half (pos n) m p h l = less-than-half n (natAbs m) h l
-  rem-less-than-half (negsuc n) m p h l = absurd (p .sign)
-
   -- from 0 ≤ r' < 2 ^ k on, 2·k divisions are enough
   pub enough-divisions : (k n : ℕ) (e : Euclid) → k + k ≤ n → Remainders e → NonNeg (e .r') → natAbs (e .r') < 2 ^ k → Accepted Ended (euclid n e)
   enough-divisions zero n e l g p h = no-division n e g (abs-zero (e .r') (omega arith))
@@ -96,10 +85,7 @@ module _ (a b : ℤ) where
       let m = remEuclid (e .r) (e .r') in
       one-division (suc n) e g (λ t g1. one-division n (divided e) g1 (λ u g2.
       enough-divisions k n (divided (divided e)) (omega arith) g2 (rem-euclid-nonneg (e .r') m)
-      (halved (natAbs (e .r')) _ (rem-less-than-half (e .r') m p (nonzero-test m u) (rem-euclid-lt (e .r) (e .r') (nonzero-test (e .r') t))) h)))
-    where
-      halved : (m j : ℕ) → j + j < m → m < 2 ^ suc k → j < 2 ^ k
-      halved m j h l = omega (arith, two-pow-succ k)
+      (halved k (natAbs (e .r')) _ (le-of-lt (rem-less-than-half (e .r') m p (nonzero-test m u) (rem-euclid-lt (e .r) (e .r') (nonzero-test (e .r') t)))) h)))
 
   start-remainders : Remainders (start a b)
   start-remainders = record { now = ring (a ∷ b ∷ []) (search reify depth 40) tt; after = ring (a ∷ b ∷ []) (search reify depth 40) tt; common = λ d p q. (p, q) }

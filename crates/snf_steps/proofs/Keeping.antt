@@ -67,7 +67,7 @@ diagonal-by m k f0 h0 = record {
   is = λ j. record { a = m .a; b = k .b0 j; c = k .c0 j; d = k .d0 j; e = m .e; f = f0 j; g = k .g0 j; h = h0 j; i = m .i };
 }
 
-block-transpose : {m : Mat ℤ} → Block m → Block (transpose m)
+pub block-transpose : {m : Mat ℤ} → Block m → Block (transpose m)
 block-transpose k = record { b0 = k .d0; c0 = k .g0; d0 = k .b0; g0 = k .c0 }
 
 module _ (A : Mat ℤ) where

@@ -3,12 +3,15 @@ pub mod Remainders
 pub mod Binding
 pub mod Settled
 pub mod Accepted
+pub mod Halving
 pub mod Bezout
+pub mod Divisions
 pub mod FittingEntries
 pub mod RowOperations
 pub mod SmallRows
 pub mod Zeroing
 pub mod Clearing
 pub mod Keeping
+pub mod Falling
 pub mod Disturbance
 pub mod Ending

@@ -39,3 +39,20 @@ euclid (suc n) e = pick (isZero (e .r')) (ok e) (step e then euclid n)
 
 unfoldable pub extendedGcd : ℤ → ℤ → Result Euclid
 extendedGcd a b = euclid 1000 (start a b)
+
+-- how many divisions it makes, of at most n: the remainders alone decide it
+unfoldable pub divisions : ℕ → ℤ → ℤ → ℕ
+divisions zero r r' = 0
+divisions (suc n) r r' = pick (isZero r') 0 (suc (divisions n r' (remEuclid r r')))
+
+-- those of `extendedGcd a b`: the walk with so many comes to the same result (`steps-enough`), and with fewer its last remainder is not 0 (`no-fewer`)
+abbrev pub steps : ℤ → ℤ → ℕ
+steps a b = divisions 1000 a b
+
+-- where the walk ends, and its steps
+pub record Counted : Type 0 where
+  pub last : Euclid
+  pub count : ℕ
+
+abbrev pub countedGcd : ℤ → ℤ → Result Counted
+countedGcd a b = extendedGcd a b then λ e. ok (record { last = e; count = steps a b })

@@ -7,4 +7,5 @@ pub mod ColumnsView
 pub mod Stages
 pub mod StagesView
 pub mod Finalize
+pub mod Pivot
 pub mod Settled

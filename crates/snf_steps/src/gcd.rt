@@ -3,8 +3,8 @@ ghost use mathlib.Core.Path.{_≡_};
 ghost use Prim.Native.Nat.{_<_};
 ghost use lib.Dec.{T};
 ghost use lib.IntN.{natAbs, _*ℤ_, _-ℤ_};
-ghost use Rattle.snf_steps.specs.Gcd.{lessFits, step, extendedGcd};
-ghost use Rattle.snf_steps.specs.GcdView.{euclidOf, divisionOf};
+ghost use Rattle.snf_steps.specs.Gcd.{lessFits, step, extendedGcd, countedGcd};
+ghost use Rattle.snf_steps.specs.GcdView.{euclidOf, divisionOf, countedOf};
 
 // Two remainders after each other: r = s·a + t·b and r1 = s1·a + t1·b.
 pub struct Euclid {
@@ -63,9 +63,15 @@ fn step(e: Euclid) -> Division
     })
 }
 
+// How the walk ends, and after how many divisions.
+pub enum Counted {
+    Done(Euclid, usize),
+    Overflow,
+}
+
 // r = s·a + t·b, where r divides a and b.
-pub fn extended_gcd(a: i64, b: i64) -> Division
-    ensures { λ r. ⌜ divisionOf r ≡ extendedGcd a b ⌝ }
+pub fn counted_gcd(a: i64, b: i64) -> Counted
+    ensures { λ r. ⌜ countedOf r ≡ countedGcd a b ⌝ }
 {
     let mut e = Euclid {
         r: a,
@@ -79,13 +85,22 @@ pub fn extended_gcd(a: i64, b: i64) -> Division
     while i < 1000 {
         let r1 = e.r1;
         if r1 == 0 {
-            return Division::Done(e);
+            return Counted::Done(e, i);
         }
         let Division::Done(n) = step(e) else {
-            return Division::Overflow;
+            return Counted::Overflow;
         };
         e = n;
         i += 1;
     }
+    Counted::Done(e, i)
+}
+
+pub fn extended_gcd(a: i64, b: i64) -> Division
+    ensures { λ r. ⌜ divisionOf r ≡ extendedGcd a b ⌝ }
+{
+    let Counted::Done(e, _) = counted_gcd(a, b) else {
+        return Division::Overflow;
+    };
     Division::Done(e)
 }

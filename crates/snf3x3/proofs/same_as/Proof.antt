@@ -26,13 +26,13 @@ returns c =
     let y = c .before .before .before .before in
     let d = vectorOf (y .before .args .d) in
     let w = snf3x3 (matrixOf (y .before .args .b)) in
-    c .compared .ensures ∙ ap (λ v. pick (sameVector d (vectorOf (v .«d_diag»))) Same Different) (y .snf3x3 .ensures)
-    ∙ sym (numbers-compared d w (ap (λ v. v .tested) (sym (y .snf3x3 .ensures)) ∙ c .before .enum-told .given .1))
+    c .compared .ensures ∙ ap (λ v. pick (sameVector d (vectorOf (v .«d_diag»))) Same Different) (y .snf3x3 .ensures .0)
+    ∙ sym (numbers-compared d w (ap (λ v. v .tested) (sym (y .snf3x3 .ensures .0)) ∙ c .before .enum-told .given .1))
 
 returns-2 : tie.Need-returns-2
 returns-2 c =
     let y = c .before .before .before .before in
-    sym (second-refused (vectorOf (y .before .args .d)) (snf3x3 (matrixOf (y .before .args .b))) (ap (λ v. v .tested) (sym (y .snf3x3 .ensures)) ∙ c .before .t .given .1))
+    sym (second-refused (vectorOf (y .before .args .d)) (snf3x3 (matrixOf (y .before .args .b))) (ap (λ v. v .tested) (sym (y .snf3x3 .ensures .0)) ∙ c .before .t .given .1))
 
 pub same-as-spec : {M : Type 1} → statement M
 same-as-spec =

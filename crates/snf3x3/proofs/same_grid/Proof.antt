@@ -24,13 +24,13 @@ returns c =
     let x = c .before .before .before .before in
     let a = snf3x3 (matrixOf (x .before .args .a)) in
     let b = snf3x3 (matrixOf (x .before .args .b)) in
-    c .same-as .ensures ∙ ap (λ v. sameAs (vectorOf (v .«d_diag»)) b) (x .snf3x3 .ensures)
-    ∙ sym (first-accepted a b (ap (λ v. v .tested) (sym (x .snf3x3 .ensures)) ∙ c .before .enum-told .given .1))
+    c .same-as .ensures ∙ ap (λ v. sameAs (vectorOf (v .«d_diag»)) b) (x .snf3x3 .ensures .0)
+    ∙ sym (first-accepted a b (ap (λ v. v .tested) (sym (x .snf3x3 .ensures .0)) ∙ c .before .enum-told .given .1))
 
 returns-2 : tie.Need-returns-2
 returns-2 c =
     let x = c .before .before .before .before in
-    sym (first-refused (snf3x3 (matrixOf (x .before .args .a))) (snf3x3 (matrixOf (x .before .args .b))) (ap (λ v. v .tested) (sym (x .snf3x3 .ensures)) ∙ c .before .t .given .1))
+    sym (first-refused (snf3x3 (matrixOf (x .before .args .a))) (snf3x3 (matrixOf (x .before .args .b))) (ap (λ v. v .tested) (sym (x .snf3x3 .ensures .0)) ∙ c .before .t .given .1))
 
 pub same-grid-spec : {M : Type 1} → statement M
 same-grid-spec =

@@ -12,6 +12,7 @@ use Rattle.common.proofs.Whole.{sized-det}
 use Rattle.snf3x3.specs.Snf3x3.{Answer, refused, rounds, snf3x3}
 use Rattle.snf3x3.specs.Written.{written}
 use Rattle.snf_steps.proofs.Fitting.{is-zero, not-zero}
+use Rattle.snf3x3.proofs.FewRounds.{promised}
 use borrow.Author.Needs.{needs}
 use Rattle.snf3x3.proofs.snf3x3.Statement.{statement}
 use Rattle.snf3x3.proofs.snf3x3.Tie as tie
@@ -28,7 +29,9 @@ refuse-requires c κs = search needs
 
 returns : tie.Need-returns
 unfolding snf3x3
-returns c = c .refuse .ensures ∙ ap written (λ k. by (matrixOf (c .before .before .before .args .a)) (sym (no (c .before .before .matrix-within .ensures) (c .before .if1 .taken)) k) (isZero (det (matrixOf (c .before .before .before .args .a)))))
+returns c =
+    let m = matrixOf (c .before .before .before .args .a) in
+    promised m (c .refuse .ensures ∙ ap written (λ k. by m (sym (no (c .before .before .matrix-within .ensures) (c .before .if1 .taken)) k) (isZero (det m))))
 
 det-i-requires : tie.Need-det-i-requires
 det-i-requires c κs = sized-det (matrixOf (c .before .before .args .a)) (matrix-sizes 1000000 (matrixOf (c .before .before .args .a)) (holds (yes (c .before .matrix-within .ensures) (c .if1 .left))))
@@ -43,7 +46,7 @@ returns-2 c =
     let f = d .before .before in
     let m = matrixOf (f .before .args .a) in
     let z = ap isZero (sym (d .det-i .ensures)) ∙ is-zero (d .det-i .result) (search needs) (c .before .if2 .taken) in
-    c .refuse2 .ensures ∙ ap written (λ k. by m (sym (yes (f .matrix-within .ensures) (d .before .if1 .left)) k) (sym z k))
+    promised m (c .refuse2 .ensures ∙ ap written (λ k. by m (sym (yes (f .matrix-within .ensures) (d .before .if1 .left)) k) (sym z k)))
 
 flat-requires : tie.Need-flat-requires
 flat-requires c κs = search needs
@@ -58,8 +61,9 @@ returns-3 c =
     let f = d .before .before in
     let m = matrixOf (f .before .args .a) in
     let z = ap isZero (sym (d .det-i .ensures)) ∙ not-zero (d .det-i .result) (c .before .before .if2 .left) in
-    c .rounds .ensures ∙ ap (λ l. written (rounds 100 0 (record { a = matrixAt l 0; p = identity; q = identity }))) (c .before .flat .ensures)
-    ∙ ap written (λ k. by m (sym (yes (f .matrix-within .ensures) (d .before .if1 .left)) k) (sym z k))
+    promised m
+    (c .rounds .ensures ∙ ap (λ l. written (rounds 100 0 (record { a = matrixAt l 0; p = identity; q = identity }))) (c .before .flat .ensures)
+    ∙ ap written (λ k. by m (sym (yes (f .matrix-within .ensures) (d .before .if1 .left)) k) (sym z k)))
 
 pub snf3x3-spec : {M : Type 1} → statement M
 snf3x3-spec =

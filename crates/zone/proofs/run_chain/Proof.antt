@@ -41,7 +41,7 @@ returns-2 : tie.Need-returns-2
 returns-2 c =
     let s = c .before .before .before .before .before .before .before .before .before .before in
     let agree = yes (c .before .before .before .before .before .before .before .before .rooms-agree .ensures) (c .before .before .before .before .before .before .before .if1 .left) in
-    (diagonal-refused (jobAt s) (roomsAt s) agree (c .before .before .before .before .before .before .snf3x3 .ensures) (c .before .before .t .given .1) (c .refused2 .ensures), λ e. absurd (not-accepted (sym (ap (λ f. f .tested) (c .refused2 .ensures)) ∙ e)))
+    (diagonal-refused (jobAt s) (roomsAt s) agree (c .before .before .before .before .before .before .snf3x3 .ensures .0) (c .before .before .t .given .1) (c .refused2 .ensures), λ e. absurd (not-accepted (sym (ap (λ f. f .tested) (c .refused2 .ensures)) ∙ e)))
 
 enum-told : tie.Need-enum-told
 enum-told c = search needs
@@ -101,7 +101,7 @@ returns-3 c =
     let s = c .before .before .before .before .before .before .before .before .before .before .before .before .before .before .before .before .before .before .before .before .before .before .before .before .before .before .before .before .before .before .before in
     let agree = yes (c .before .before .before .before .before .before .before .before .before .before .before .before .before .before .before .before .before .before .before .before .before .before .before .before .before .before .before .before .before .rooms-agree .ensures) (c .before .before .before .before .before .before .before .before .before .before .before .before .before .before .before .before .before .before .before .before .before .before .before .before .before .before .before .before .if1 .left) in
     let l = c .before .before .before .before .before .before .before .before .before .before .before .before .before .list-in-basis .ensures in
-    let es = c .before .before .before .before .before .before .before .before .before .before .before .before .before .before .before .before .before .before .before .before .before .before .before .before .before .before .before .snf3x3 .ensures in
+    let es = c .before .before .before .before .before .before .before .before .before .before .before .before .before .before .before .before .before .before .before .before .before .before .before .before .before .before .before .snf3x3 .ensures .0 in
     let f = c .before .before .before .before .before .before .before .before .before .before .before .before .before .before .before .before .before .before .before .before .before .before .before .enum-told .given .1 in
     let q = c .before .before .before .before .before .before .before .before .before .before .before .before .before .before .before .before .before .before .before .before .before .before .nested .ensures in
     let eu = toZ-ofZ (s .fits .bz-grid-type) in
@@ -140,7 +140,7 @@ returns-4 c =
     let s = c .before .before .before .before .before .before .before .before .before .before .before .before .before .before .before .before .before .before .before .before .before .before .before .before .before .before .before .before .before .before .before in
     let agree = yes (c .before .before .before .before .before .before .before .before .before .before .before .before .before .before .before .before .before .before .before .before .before .before .before .before .before .before .before .before .before .rooms-agree .ensures) (c .before .before .before .before .before .before .before .before .before .before .before .before .before .before .before .before .before .before .before .before .before .before .before .before .before .before .before .before .if1 .left) in
     let l = c .before .before .before .before .before .before .before .before .before .before .before .before .before .list-in-basis .ensures in
-    let es = c .before .before .before .before .before .before .before .before .before .before .before .before .before .before .before .before .before .before .before .before .before .before .before .before .before .before .before .snf3x3 .ensures in
+    let es = c .before .before .before .before .before .before .before .before .before .before .before .before .before .before .before .before .before .before .before .before .before .before .before .before .before .before .before .snf3x3 .ensures .0 in
     let f = c .before .before .before .before .before .before .before .before .before .before .before .before .before .before .before .before .before .before .before .before .before .before .before .enum-told .given .1 in
     let q = c .before .before .before .before .before .before .before .before .before .before .before .before .before .before .before .before .before .before .before .before .before .before .nested .ensures in
     let eu = toZ-ofZ (s .fits .bz-grid-type) in

@@ -2,7 +2,7 @@ use mathlib.Core.Path.{_≡_, sym, _∙_, ap}
 use mathlib.Core.List.{[], _∷_}
 use lib.ListN.{length}
 use Rattle.integer.proofs.Fits.{held, held-is}
-use Rattle.answers.proofs.Stored.{stored}
+use Rattle.common.proofs.Stored.{stored}
 use borrow.Author.Needs.{needs}
 use Rattle.answers.proofs.diagonal.tell_diagonal.Statement.{statement}
 use Rattle.answers.proofs.diagonal.tell_diagonal.Tie as tie

@@ -1,7 +1,7 @@
 use mathlib.Core.Path.{sym, _∙_, ap}
 use Rattle.integer.proofs.Fits.{held-is}
 use Rattle.answers.specs.Diagonals.{sameNumber, sameTold}
-use Rattle.answers.proofs.Stored.{stored}
+use Rattle.common.proofs.Stored.{stored}
 use borrow.Author.Needs.{needs}
 use Rattle.answers.proofs.diagonal.tell_same.Statement.{statement}
 use Rattle.answers.proofs.diagonal.tell_same.Tie as tie

@@ -3,7 +3,7 @@ use mathlib.Core.List.{[], _∷_}
 use mir.Facts.{toZ-ofZ}
 use Rattle.integer.proofs.Fits.{held-is}
 use Rattle.answers.specs.Grids.{classesNumber, classesTold}
-use Rattle.answers.proofs.Stored.{stored}
+use Rattle.common.proofs.Stored.{stored}
 use borrow.Author.Needs.{needs}
 use Rattle.answers.proofs.grid.tell_classes.Statement.{statement}
 use Rattle.answers.proofs.grid.tell_classes.Tie as tie

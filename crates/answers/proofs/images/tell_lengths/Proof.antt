@@ -3,7 +3,8 @@ use lib.IntN.{negsuc}
 use lib.ListN.{replicate}
 use Rattle.integer.proofs.Fits.{held-is}
 use Rattle.answers.specs.Images.{imagesNumber, imagesTold}
-use Rattle.answers.proofs.ImageTables.{stored-three, held-lengths}
+use Rattle.common.proofs.Stored.{stored-three}
+use Rattle.answers.proofs.ImageTables.{held-lengths}
 use borrow.Author.Needs.{needs}
 use Rattle.answers.proofs.images.tell_lengths.Statement.{statement}
 use Rattle.answers.proofs.images.tell_lengths.Tie as tie

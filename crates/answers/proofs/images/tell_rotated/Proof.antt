@@ -5,7 +5,7 @@ use lib.ListN.{replicate}
 use mir.Facts.{toZ-ofZ}
 use Rattle.integer.proofs.Fits.{held-is}
 use Rattle.answers.specs.Images.{rotatedNumber, rotatedTold}
-use Rattle.answers.proofs.ImageTables.{stored-two}
+use Rattle.common.proofs.Stored.{stored-two}
 use borrow.Author.Needs.{needs}
 use Rattle.answers.proofs.images.tell_rotated.Statement.{statement}
 use Rattle.answers.proofs.images.tell_rotated.Tie as tie

@@ -63,7 +63,7 @@ returns-2 c =
     let s = c .before .before .before .before .before .before .before .before .before .before .before .before .before in
     let t = c .before .before .before .before .tell-diagonal .ensures in
     diagonal-passed (s .args .a .now) (length (s .args .d .now)) (length (s .args .p .now)) (length (s .args .q .now)) (length (s .args .told .now)) (yes (c .before .before .before .before .before .before .before .before .before .before .before .before .diagonal-lengths .ensures) (c .before .before .before .before .before .before .before .before .before .before .before .if1 .left))
-    (c .before .before .before .before .before .before .before .before .before .before .matrix-at .ensures) (c .before .before .before .before .before .before .before .before .before .snf3x3 .ensures) (held-is (c .before .before .before .before .tell-diagonal .result) (c .before .before .before .before .tell-diagonal .ok) ∙ t .0) (t .1 .0) (t .1 .1 .0) (t .1 .1 .1 .0) (t .1 .1 .1 .1)
+    (c .before .before .before .before .before .before .before .before .before .before .matrix-at .ensures) (c .before .before .before .before .before .before .before .before .before .snf3x3 .ensures .0) (held-is (c .before .before .before .before .tell-diagonal .result) (c .before .before .before .before .tell-diagonal .ok) ∙ t .0) (t .1 .0) (t .1 .1 .0) (t .1 .1 .1 .0) (t .1 .1 .1 .1)
 
 pub zone-snf3x3-spec : {M : Type 1} → statement M
 zone-snf3x3-spec =

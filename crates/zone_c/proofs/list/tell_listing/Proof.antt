@@ -4,7 +4,7 @@ use mir.Syntax.{w64}
 use mir.Facts.{toZ-pos}
 use Rattle.integer.proofs.Fits.{held-is}
 use Rattle.zone_c.specs.Lists.{listingNumber, listingTold}
-use Rattle.answers.proofs.Stored.{stored}
+use Rattle.common.proofs.Stored.{stored}
 use borrow.Author.Needs.{needs}
 use Rattle.zone_c.proofs.list.tell_listing.Statement.{statement}
 use Rattle.zone_c.proofs.list.tell_listing.Tie as tie

@@ -25,7 +25,7 @@ struct Version {
     edits: &'static [[&'static str; 2]],
 }
 
-const VERSIONS: [Version; 5] = [
+const VERSIONS: [Version; 6] = [
     Version {
         name: "snf3x3_counted",
         module: "snf3x3",
@@ -38,7 +38,28 @@ const VERSIONS: [Version; 5] = [
                 "for _ in 0..100 {",
                 "for _ in 0..100 {\n        *rounds += 1;",
             ],
+            [
+                "fn extended_gcd(a: i64, b: i64)",
+                "pub fn extended_gcd(a: i64, b: i64, divisions: &mut i64)",
+            ],
+            [
+                "extended_gcd(a[0][0], a[j][0])",
+                "extended_gcd(a[0][0], a[j][0], &mut 0)",
+            ],
+            [
+                "extended_gcd(a[1][1], a[2][1])",
+                "extended_gcd(a[1][1], a[2][1], &mut 0)",
+            ],
+            [
+                "let q = r[0].div_euclid(r[1]);",
+                "*divisions += 1;\n        let q = r[0].div_euclid(r[1]);",
+            ],
         ],
+    },
+    Version {
+        name: "snf3x3_opened",
+        module: "snf3x3",
+        edits: &[["fn extended_gcd(", "pub fn extended_gcd("]],
     },
     Version {
         name: "snf3x3_measured",

@@ -1,9 +1,10 @@
-// Replays the Rust's answers of the checked operations and of the functions on f64: reads the vectors of
-// each function, data/FUNCTION, calls the port's export, and prints how many cases there were, how many
-// differ, and how many differ once the last number of the line is another one, which must be all. One
-// number of data/control is wrong, so that one case of it must differ.
+// Replays the Rust's answers of the checked operations, of the functions on f64 and of the extended gcd:
+// reads the vectors of each function, data/FUNCTION, calls the port's export, and prints how many cases
+// there were, how many differ, and how many differ once the last number of the line is another one, which
+// must be all. One number of data/control is wrong, so that one case of it must differ.
 mod checked;
 mod floats;
+mod gcd;
 
 use vectors::Verdict;
 use vectors::tally::Tally;
@@ -17,6 +18,9 @@ fn judge(function: usize, altered: bool, line: &[u8]) -> Verdict {
     }
     if function <= checked::REM {
         return checked::judge(function, &n[..count]);
+    }
+    if function == gcd::EXTENDED_GCD {
+        return gcd::judge(&n[..count]);
     }
     floats::judge(function, &n[..count])
 }
@@ -57,5 +61,6 @@ fn main() {
     replay_file(floats::NINT, b"nint");
     replay_file(floats::IS_FINITE, b"is_finite");
     replay_file(floats::TO_F64, b"to_f64");
+    replay_file(gcd::EXTENDED_GCD, b"extended_gcd");
     replay_file(checked::DIV, b"control");
 }

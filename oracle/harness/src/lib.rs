@@ -9,6 +9,7 @@ pub mod bz_triplets_at_q;
 pub mod chain;
 pub mod compare;
 pub mod demand;
+pub mod extended_gcd;
 pub mod floats;
 pub mod function;
 pub mod grgrid;

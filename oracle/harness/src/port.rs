@@ -25,6 +25,7 @@ extern "C" {
     fn zone_nint(x: f64) -> i64;
     fn zone_is_finite(x: f64) -> bool;
     fn zone_to_f64(n: i64) -> f64;
+    fn zone_extended_gcd(a: i64, b: i64, told: *mut i64, told_len: usize) -> i64;
     fn zone_reciprocal_point_group(
         rotations: *const i64,
         rotations_len: usize,
@@ -214,6 +215,10 @@ pub fn is_finite(x: f64) -> bool {
 
 pub fn to_f64(n: i64) -> f64 {
     unsafe { zone_to_f64(n) }
+}
+
+pub fn extended_gcd(a: i64, b: i64, told: &mut [i64]) -> i64 {
+    unsafe { zone_extended_gcd(a, b, told.as_mut_ptr(), told.len()) }
 }
 
 pub fn reciprocal_point_group(

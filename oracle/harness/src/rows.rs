@@ -4,6 +4,7 @@ use crate::bench::{self, Timed, Times};
 use crate::bz_grid_addresses::*;
 use crate::bz_triplets_at_q::*;
 use crate::chain::*;
+use crate::extended_gcd::*;
 use crate::floats::*;
 use crate::function::Function;
 use crate::grgrid::*;
@@ -47,7 +48,7 @@ pub struct Bench {
 pub enum Part {
     /// The eleven calls that document 01 names. They have a mean.
     Call,
-    /// Checked operations and floats. They have a mean of their own.
+    /// Checked operations, floats and the extended gcd. They have a mean of their own.
     Helper,
     /// A call that the Rust lacks, or one on other inputs. These have none.
     Apart,
@@ -104,6 +105,7 @@ pub static ROWS: &[Row] = &[
     Row::helper::<Nint>("nint"),
     Row::helper::<IsFinite>("is_finite"),
     Row::helper::<ToF64>("to_f64"),
+    Row::helper::<ExtendedGcd>("extended_gcd"),
     Row::call::<ReciprocalPointGroup>("reciprocal_point_group"),
     Row::call::<ReciprocalRotations>("reciprocal_rotations"),
     Row::apart::<ReciprocalGroup>("reciprocal_group"),

@@ -71,7 +71,7 @@ pub fn number(random: &mut Random) -> i64 {
     }
 }
 
-fn sign(random: &mut Random) -> i64 {
+pub fn sign(random: &mut Random) -> i64 {
     random.pick(&[1, -1])
 }
 

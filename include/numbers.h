@@ -1,5 +1,6 @@
 /* numbers.h: libnumbers_c.a (`rt staticlib numbers_c`), the whole numbers and floats that the port has in the place of
- * Rust's own. The oracle compares them with Rust's; a program that folds crystals needs zone.h alone. */
+ * Rust's own, and the extended gcd inside of zone_snf3x3. The oracle compares them with the Rust; a program that folds
+ * crystals needs zone.h alone. */
 #ifndef NUMBERS_H
 #define NUMBERS_H
 
@@ -34,6 +35,11 @@ int64_t zone_to_i64(double x);
 int64_t zone_nint(double x);
 bool zone_is_finite(double x);
 double zone_to_f64(int64_t n);
+
+/* The extended gcd by which zone_snf3x3 clears an entry: r = s·a + t·b, which divides a and b. It may be negative, and
+ * is 0 only for a = b = 0. Answers 0, and told[4] is r, s, t and the number of divisions, at most 127. 13: told has
+ * another length. 4: a number on the way leaves 64 bits. After either every place of told holds -1. */
+int64_t zone_extended_gcd(int64_t a, int64_t b, int64_t *told, size_t told_len);
 
 #ifdef __cplusplus
 }

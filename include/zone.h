@@ -124,7 +124,7 @@ extern "C" {
 enum zone_refusal {
     ZONE_ACCEPTED = 0,
     ZONE_SINGULAR = 1,                     /* the determinant of A is 0 */
-    ZONE_NOT_CONVERGED = 2,                /* 100 rounds end without a diagonal (more than 5 were never seen) */
+    ZONE_NOT_CONVERGED = 2,                /* 100 rounds end without a diagonal: never given, since 82 are enough */
     ZONE_OUTSIDE_LIMITS = 3,               /* a number is outside its limits, above */
     ZONE_OVERFLOW = 4,                     /* a number that zone_snf3x3 works out, in its order, leaves 64 bits */
     ZONE_SINGULAR_Q = 5,                   /* the determinant of Q is 0 */
@@ -154,7 +154,7 @@ enum zone_refusal {
 #define ZONE_TEXT_LENGTH 6940                /* no listing is longer, in bytes */
 
 /* A made diagonal: P·A·Q = diag(d), det P = 1, det Q = 1 or -1. The diagonal is not always the Smith form:
- * diag(2,2,3) gives 2 1 6. In: a[9]. Out: d[3], p[9], q[9], told[1]: the rounds. Refusals: 13, 3, 1, then 4 or 2; of
+ * diag(2,2,3) gives 2 1 6. In: a[9]. Out: d[3], p[9], q[9], told[1]: the rounds, at most 82. Refusals: 13, 3, 1, 4; of
  * random matrices 4 meets 1 of 10,000 with entries up to 100, and 7 of 100 with entries up to 1,000. */
 int64_t zone_snf3x3(const int64_t *a, size_t a_len, int64_t *d, size_t d_len, int64_t *p, size_t p_len, int64_t *q,
                     size_t q_len, int64_t *told, size_t told_len);

@@ -7,3 +7,4 @@ pub mod Transforms
 pub mod ImageTables
 pub mod TripletClasses
 pub mod ImageTriplets
+pub mod WorstPairs

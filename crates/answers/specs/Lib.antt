@@ -4,3 +4,4 @@ pub mod Diagonals
 pub mod Transforms
 pub mod Images
 pub mod Triplets
+pub mod WorstPairs

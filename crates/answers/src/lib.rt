@@ -2,6 +2,7 @@
 mod diagonal;
 mod grid;
 mod images;
+mod pair;
 mod recip;
 mod transform;
 mod triplets;
@@ -17,6 +18,7 @@ pub use images::lattice_at;
 pub use images::rotate_lengths;
 pub use images::tell_lengths;
 pub use images::tell_rotated;
+pub use pair::tell_pair;
 pub use recip::tell_group;
 pub use transform::transform_lengths;
 pub use triplets::refuse_classes;

@@ -1,4 +1,5 @@
-// Runs the points of document 01 that it leaves to programs, and the triplets of its listing.
+// Runs the points of document 01 that it leaves to programs, the triplets of its listing, and the worst pairs of small limits.
+mod pairs;
 
 fn print_number(n: i64) {
     if n < 0 {
@@ -110,6 +111,12 @@ fn triplets() {
     round(b"the length left over", left_length[1]);
 }
 
+fn worst_pair(name: &[u8], limit: i64) {
+    let mut told = [0i64; 3];
+    let answer = zone_c::zone_worst_pair(limit, &mut told);
+    print_list(name, &[answer, told[0], told[1], told[2]]);
+}
+
 fn main() {
     round(b"2.5", 2.5);
     round(b"-2.5", -2.5);
@@ -124,4 +131,11 @@ fn main() {
     reciprocal(b"25 rotations, time reversal", &mut list, true);
     images();
     triplets();
+    worst_pair(b"worst pair up to 1000000:", 1000000);
+    worst_pair(b"up to 0:", 0);
+    worst_pair(b"up to 1000001:", 1000001);
+    print_list(
+        b"limits to 300 whose worst pair the trial of all pairs finds:",
+        &[pairs::agreeing()],
+    );
 }

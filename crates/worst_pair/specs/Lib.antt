@@ -1,0 +1,2 @@
+pub mod Worst
+pub mod WorstPair

@@ -104,6 +104,7 @@
  *   lattice      finite, of size at most 1,000,000
  *   offsets      of size at most 1,000
  *   q0           0 to N - 1 (an image index in zone_bz_triplets_at_q of type 2: there 14)
+ *   limit        1 to 1,000,000
  *
  * A list of matrices has a multiple of 9 places, one of addresses a multiple of 3. Tables that are read may have any
  * length and hold anything.
@@ -163,6 +164,11 @@ int64_t zone_snf3x3(const int64_t *a, size_t a_len, int64_t *d, size_t d_len, in
  * a, then for b. */
 int64_t zone_same_grid(const int64_t *a, size_t a_len, const int64_t *b, size_t b_len, int64_t *told,
                        size_t told_len);
+
+/* For burn-in: the pair of numbers from 1 to `limit` on which the extended gcd inside of zone_snf3x3 divides most often;
+ * among such pairs the least sum, then the least first number. Out: told[3]: the first number, the second, how often
+ * it divides. 1 gives 1 1 1, 2 gives 1 2 2, and 1,000,000 gives 514229 832040 29. Refusals: 13, 3. */
+int64_t zone_worst_pair(int64_t limit, int64_t *told, size_t told_len);
 
 /* The reciprocal list of a direct-space list: each rotation once, in the order of its first place, transposed; then,
  * under time reversal, their negatives in the same order, unless the inversion is among them. Out:

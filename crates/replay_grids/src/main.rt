@@ -1,9 +1,10 @@
-// Replays the Rust's answers of the calls on grids and rotations: reads the vectors of each function,
-// data/FUNCTION, calls the port's export, and prints how many cases there were, how many differ, and how
-// many differ once the last number of the line is another one, which must be all. One number of
-// data/control is wrong, so that one case of it must differ.
+// Replays the Rust's answers of the calls on grids and rotations, and of the worst pair: reads the vectors
+// of each function, data/FUNCTION, calls the port's export, and prints how many cases there were, how many
+// differ, and how many differ once the last number of the line is another one, which must be all. One
+// number of data/control is wrong, so that one case of it must differ.
 mod matrices;
 mod outputs;
+mod pairs;
 
 use vectors::Verdict;
 use vectors::tally::Tally;
@@ -17,6 +18,9 @@ fn judge(function: usize, altered: bool, line: &[u8]) -> Verdict {
     }
     if function <= matrices::SAME_GRID {
         return matrices::judge(function, &n[..count]);
+    }
+    if function == pairs::WORST_PAIR {
+        return pairs::judge(&n[..count]);
     }
     outputs::judge(function, &n[..count])
 }
@@ -47,6 +51,7 @@ fn main() {
     replay_file(outputs::ALL_GRID_ADDRESSES, b"all_grid_addresses");
     replay_file(matrices::SNF3X3, b"snf3x3");
     replay_file(matrices::SAME_GRID, b"same_grid");
+    replay_file(pairs::WORST_PAIR, b"worst_pair");
     replay_file(outputs::TRANSFORM_ROTATIONS, b"transform_rotations");
     replay_file(outputs::IR_GRID_MAP, b"control");
 }

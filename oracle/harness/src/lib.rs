@@ -32,4 +32,5 @@ pub mod snf3x3;
 pub mod tests;
 pub mod transform_rotations;
 pub mod vectors;
+pub mod worst_pair;
 pub mod zone_list;

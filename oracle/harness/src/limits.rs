@@ -3,6 +3,8 @@
 
 /// Entries of the matrix A.
 pub const MATRIX_ENTRY: i64 = 1_000_000;
+/// The limit of the worst pair; the least is 1.
+pub const WORST_LIMIT: i64 = 1_000_000;
 /// Entries of Q.
 pub const Q_ENTRY: i64 = 1_000;
 /// Entries of the rotations that `transform_rotations` takes.

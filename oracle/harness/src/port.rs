@@ -87,6 +87,7 @@ extern "C" {
         told: *mut i64,
         told_len: usize,
     ) -> i64;
+    fn zone_worst_pair(limit: i64, told: *mut i64, told_len: usize) -> i64;
     fn zone_transform_rotations(
         rotations: *const i64,
         rotations_len: usize,
@@ -335,6 +336,10 @@ pub fn same_grid(a: &[i64], b: &[i64], told: &mut [i64]) -> i64 {
             told.len(),
         )
     }
+}
+
+pub fn worst_pair(limit: i64, told: &mut [i64]) -> i64 {
+    unsafe { zone_worst_pair(limit, told.as_mut_ptr(), told.len()) }
 }
 
 pub fn transform_rotations(rotations: &[i64], d: &[i64], q: &[i64], out: &mut [i64]) -> i64 {

@@ -22,6 +22,7 @@ use crate::rotate_bz_grid_index::*;
 use crate::same_grid::*;
 use crate::snf3x3::*;
 use crate::transform_rotations::*;
+use crate::worst_pair::*;
 use crate::zone_list::*;
 use crate::{compare, vectors, zone_list};
 
@@ -70,8 +71,15 @@ impl Row {
     const fn timed<F: Timed>(name: &'static str, part: Part) -> Row {
         let run = bench::run::<F>;
         Row {
-            vectors: Some(vectors::lines::<F>),
             bench: Some(Bench { part, run }),
+            ..Row::replayed::<F>(name)
+        }
+    }
+
+    /// A call that the Rust lacks, and that is not timed.
+    const fn replayed<F: Function>(name: &'static str) -> Row {
+        Row {
+            vectors: Some(vectors::lines::<F>),
             ..Row::compared::<F>(name)
         }
     }
@@ -113,6 +121,7 @@ pub static ROWS: &[Row] = &[
     Row::call::<AllGridAddresses>("all_grid_addresses"),
     Row::call::<Snf3x3>("snf3x3"),
     Row::apart::<SameGrid>("same_grid"),
+    Row::replayed::<WorstPair>("worst_pair"),
     Row::call::<TransformRotations>("transform_rotations"),
     Row::call::<BzGridAddresses>("bz_grid_addresses"),
     Row::call::<RotateBzGridIndex>("rotate_bz_grid_index"),

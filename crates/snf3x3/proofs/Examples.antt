@@ -13,8 +13,8 @@ use Rattle.snf_steps.specs.Columns.{multiply, makeZero, firstColumn, secondColu
 use Rattle.snf_steps.specs.Pivot.{pivot}
 use Rattle.snf_steps.specs.Stages.{Triple, oneLoop, first, second, again}
 use Rattle.snf_steps.specs.Finalize.{makeDiagPositive, finalizeSort, finalizeDisturb, flipPQ, putInOrder, finalize}
-use Rattle.snf3x3.specs.Snf3x3.{Answer, refused, diagonalised, round, rounds, snf3x3}
-use Rattle.snf3x3.specs.FewRounds.{begun, Reached, from, on}
+use Rattle.snf3x3.specs.Snf3x3.{Answer, refused, diagonalised, round, rounds, begun, snf3x3}
+use Rattle.snf3x3.specs.FewRounds.{Reached, from, on}
 
 pub record Row : Type 0 where
   pub computed : List ℤ

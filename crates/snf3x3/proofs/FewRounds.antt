@@ -1,6 +1,7 @@
 -- No answer takes more than 82 rounds, and refusal 2 is never given.
 use mathlib.Core.Path.{_≡_, refl, sym, _∙_, ap, subst}
 use mathlib.Core.Bool.{not}
+use mathlib.Core.Logic.{⊎-elim, inl, inr}
 use Prim.Native.Nat.{ℕ, zero, suc, _+_, _^_, _≤_, _<_}
 use native.Mathlib.Nat.{le-trans, lt-of-le-of-lt}
 use native.Mathlib.Omega.{arith}
@@ -26,29 +27,34 @@ use Rattle.snf_steps.specs.Result.{Result, ok, overflow}
 use Rattle.snf_steps.specs.Stages.{Triple, Outcome}
 use Rattle.snf_steps.specs.Finalize.{finalize}
 use Rattle.snf_steps.proofs.Accepted.{Accepted, accepted, overflowed, accepted-both}
+use Rattle.snf_steps.proofs.FittingEntries.{given-fits}
 use Rattle.snf_steps.proofs.Halving.{halved}
 use Rattle.snf_steps.proofs.Clearing.{first-not-zero}
 use Rattle.snf_steps.proofs.Divisions.{few-steps}
 use Rattle.snf_steps.proofs.Keeping.{Sound, kept-regular, second-pivot-divides}
 use Rattle.snf_steps.proofs.Falling.{FirstFalls, first-proper, second-proper, proper-half}
 use Rattle.snf3x3.specs.declared.Snf.{Snf}
-use Rattle.snf3x3.specs.Snf3x3.{Answer, refused, diagonalised, answer, round, after, rounds, snf3x3}
+use Rattle.snf3x3.specs.Snf3x3.{Answer, refused, diagonalised, answer, round, after, rounds, begun, diagonalise, snf3x3}
 use Rattle.snf3x3.specs.Written.{written}
-use Rattle.snf3x3.specs.FewRounds.{RoundsWithin, begun, FewRounds}
+use Rattle.snf3x3.specs.FewRounds.{RoundsWithin, Given, FewRounds}
 use Rattle.snf3x3.proofs.Diagonal.{begun-sound}
 use Rattle.snf3x3.proofs.FailedRound.{by-test, FirstFailed, SecondFailed, Left, by-stage, round-left, round-falls, block-falls, pivot-falls}
 
--- ---- an answer of at most N rounds, or a refusal other than 2
+-- ---- an answer of at most N rounds, or refusal 1, 3 or 4
 abbrev pub Within : ℕ → Answer → Type 0
-Within N (refused r) = r ≡ NotConverged → ⊥
+Within N (refused r) = Given r
 Within N (diagonalised d p q n) = n ≤ N
 
--- refusals other than 2
-apart : {r : Refusal} → (numberOf r ≡ 2 → ⊥) → r ≡ NotConverged → ⊥
-apart f e = f (ap numberOf e)
+by-overflow : Given Overflow
+by-overflow = inr (inr refl)
 
-never-two : Overflow ≡ NotConverged → ⊥
-never-two = apart (λ (e : _≡_ {A = ℕ} 4 2). omega arith)
+-- none of these is 2
+never-two : {r : Refusal} → Given r → r ≡ NotConverged → ⊥
+never-two {r} g e =
+    ⊎-elim (λ s. apart 1 (ap numberOf s) (λ f. omega arith)) (λ h. ⊎-elim (λ s. apart 3 (ap numberOf s) (λ f. omega arith)) (λ s. apart 4 (ap numberOf s) (λ f. omega arith)) h) g
+  where
+    apart : (n : ℕ) → numberOf r ≡ n → (2 ≡ n → ⊥) → ⊥
+    apart n s f = f (sym (ap numberOf e) ∙ s)
 
 -- 1 and -1 divide everything
 unit-divides : (d z : ℤ) → natAbs d < 2 → zero < natAbs d → Divides d z
@@ -57,7 +63,7 @@ unit-divides d z h l = let e : natAbs d ≡ 1 = omega arith in record { times = 
 -- ---- rounds without an answer
 answer-within : (n N : ℕ) (m : Result Triple) → n ≤ N → Within N (answer n m)
 answer-within n N (ok s) h = h
-answer-within n N overflow h = never-two
+answer-within n N overflow h = by-overflow
 
 within-more : {M N : ℕ} (a : Answer) → M ≤ N → Within M a → Within N a
 within-more (refused x) h w = w
@@ -65,7 +71,7 @@ within-more (diagonalised d p q n) h w = le-trans w h
 
 after-within : {P : Outcome → Type 0} (n N : ℕ) (more : Triple → Answer) {m : Result Outcome} → n ≤ N → Accepted P m
     → ((o : Outcome) → T (not (o .done)) → P o → Within N (more (o .left))) → Within N (after n more m)
-after-within n N more l overflowed f = never-two
+after-within n N more l overflowed f = by-overflow
 after-within n N more l (accepted {x = o} p) f =
     pick-cases (o .done) (answer n (finalize (o .left))) (more (o .left)) (Within N) (λ _. answer-within n N (finalize (o .left)) l) (λ u. f o u p)
 
@@ -132,24 +138,23 @@ module _ (A : Mat ℤ) (r : Regular A) (D : natAbs (det A) < 2 ^ 63) where
 pub rounds-within : (A : Mat ℤ) → Within 82 (snf3x3 A)
 unfolding snf3x3
 rounds-within A =
-    let walked = rounds 100 0 (begun A) in
-    pick-cases (matrixWithin 1000000 A) (pick (isZero (det A)) (refused Singular) walked) (refused OutsideLimits) (Within 82)
-    (λ t. pick-cases (isZero (det A)) (refused Singular) walked (Within 82)
-    (λ _. apart (λ (e : _≡_ {A = ℕ} 1 2). omega arith))
-    (λ u. walk-within A (record { nonzero = nonzero-test (det A) u }) (lt-of-le-of-lt (det-size A (matrix-sizes 1000000 A t)) (lit< tt)) (begun A) (begun-sound A t) (matrix-sizes 1000000 A t)))
-    (λ _. apart (λ (e : _≡_ {A = ℕ} 3 2). omega arith))
+    pick-cases (matrixWithin 1000000 A) (diagonalise A) (refused OutsideLimits) (Within 82)
+    (λ t. pick-cases (isZero (det A)) (refused Singular) (rounds 100 0 (begun A)) (Within 82)
+    (λ _. inl refl)
+    (λ u. walk-within A (record { nonzero = nonzero-test (det A) u }) (lt-of-le-of-lt (det-size A (matrix-sizes 1000000 A t)) (lit< tt)) (begun A) (begun-sound A (given-fits A t)) (matrix-sizes 1000000 A t)))
+    (λ _. inr (inl refl))
 
 pub few-rounds : FewRounds
 few-rounds = record {
   at-most-82 = λ A d P Q n e. subst (Within 82) e (rounds-within A);
-  never-two = λ A e. subst (Within 82) e (rounds-within A) refl;
+  never-two = λ A e. never-two (subst (Within 82) e (rounds-within A)) refl;
   at-most-127 = λ a b f g. let l = few-steps a b (fits-size b g) in omega arith;
   pivot-falls = pivot-falls;
 }
 
 -- ---- of what the call returns
 written-within : (w : Answer) → Within 82 w → RoundsWithin 82 (written w)
-written-within (refused x) h = record { rounds = tt; converges = λ e. h cc }
+written-within (refused x) h = record { rounds = tt; converges = λ e. never-two h cc }
 written-within (diagonalised d P Q n) h = record { rounds = le→leb n 82 h; converges = λ e. absurd (not-accepted (sym e)) }
 
 -- both promises of the call

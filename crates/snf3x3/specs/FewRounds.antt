@@ -1,30 +1,32 @@
 -- What a matrix can cost: the rounds, the divisions of the extended gcd, and the pivot, which falls from round to round.
 use mathlib.Core.Path.{_≡_}
+use mathlib.Core.Logic.{_⊎_}
 use Prim.Native.Nat.{ℕ, zero, _≤_, _<_}
 use lib.Dec.{T}
 use lib.Signed.{leZ}
 use lib.IntN.{ℤ, pos, natAbs}
 use Rattle.integer.specs.Checked.{fits64}
 use Rattle.integer.specs.Divides.{Divides}
-use Rattle.common.specs.declared.Refusal.the-variants.{NotConverged}
+use Rattle.common.specs.declared.Refusal.{Refusal}
+use Rattle.common.specs.declared.Refusal.the-variants.{Singular, NotConverged, OutsideLimits, Overflow}
 use Rattle.common.specs.declared.Tested.the-variants.{Refused}
 use Rattle.common.specs.Limits.{matrixWithin}
-use Rattle.common.specs.Matrix.{Vec, Mat, det, identity}
+use Rattle.common.specs.Matrix.{Vec, Mat, det}
 use Rattle.snf_steps.specs.Result.{ok}
 use Rattle.snf_steps.specs.Gcd.{steps}
 use Rattle.snf_steps.specs.Pivot.{cleared, entryAt, pivot, ProperDivisor}
 use Rattle.snf_steps.specs.Stages.{Triple, Outcome, again}
 use Rattle.snf3x3.specs.declared.Snf.{Snf}
-use Rattle.snf3x3.specs.Snf3x3.{refused, diagonalised, round, snf3x3}
+use Rattle.snf3x3.specs.Snf3x3.{refused, diagonalised, round, begun, snf3x3}
 
 -- of what the call returns: at most n rounds (-1 with a refusal), and never refusal 2
 pub record RoundsWithin (n : ℕ) (r : Snf) : Type 0 where
   pub rounds : T (leZ (r .rounds) (pos n))
   pub converges : r .tested ≡ Refused NotConverged → ⊥
 
--- where the walk starts
-abbrev pub begun : Mat ℤ → Triple
-begun A = record { a = A; p = identity; q = identity }
+-- the refusals that are left: 1, 3 and 4
+abbrev pub Given : Refusal → Type 0
+Given r = (r ≡ Singular) ⊎ (r ≡ OutsideLimits) ⊎ (r ≡ Overflow)
 
 -- the states that the walk from an accepted matrix meets
 pub data Reached (A : Mat ℤ) : Triple → Type 0 where

@@ -5,6 +5,7 @@ use Rattle.integer.specs.Checked.{isZero, pick}
 use Rattle.common.specs.declared.Refusal.{Refusal}
 use Rattle.common.specs.declared.Refusal.the-variants.{Singular, NotConverged, OutsideLimits, Overflow}
 use Rattle.common.specs.Limits.{matrixWithin}
+use Rattle.common.specs.IntegerMatrix.{detFits}
 use Rattle.common.specs.Matrix.{Vec, Mat, transpose, det, identity}
 use Rattle.snf_steps.specs.Result.{Result, ok, overflow, _then_}
 use Rattle.snf_steps.specs.Stages.{Triple, Outcome, first, second}
@@ -32,8 +33,17 @@ unfoldable pub rounds : (m n : ℕ) → Triple → Answer
 rounds zero n s = refused NotConverged
 rounds (suc m) n s = after (suc n) (rounds m (suc n)) (round s)
 
+-- where the walk starts
+abbrev pub begun : Mat ℤ → Triple
+begun m = record { a = m; p = identity; q = identity }
+
+-- the walk, on a matrix whose determinant fits
+abbrev pub diagonalise : Mat ℤ → Answer
+diagonalise m = pick (isZero (det m)) (refused Singular) (rounds 100 0 (begun m))
+
 unfoldable pub snf3x3 : Mat ℤ → Answer
-snf3x3 m =
-    pick (matrixWithin 1000000 m)
-    (pick (isZero (det m)) (refused Singular) (rounds 100 0 (record { a = m; p = identity; q = identity })))
-    (refused OutsideLimits)
+snf3x3 m = pick (matrixWithin 1000000 m) (diagonalise m) (refused OutsideLimits)
+
+-- the same without the limit of the entries
+unfoldable pub snf3x3Unlimited : Mat ℤ → Answer
+snf3x3Unlimited m = pick (detFits m) (diagonalise m) (refused Overflow)

@@ -8,8 +8,10 @@ use snf_steps::stages::Triple;
 ghost use mathlib.Core.Path.{_≡_};
 ghost use mathlib.Core.Bool.{true};
 ghost use Prim.Native.Nat.{_≤_};
+ghost use lib.Dec.{T};
 ghost use Rattle.common.specs.Array.{vectorOf, matrixOf};
 ghost use Rattle.common.specs.Matrix.{sameVector};
+ghost use Rattle.common.specs.IntegerMatrix.{detFits};
 ghost use Rattle.snf_steps.specs.Result.{_then_, fitting};
 ghost use Rattle.snf_steps.specs.StagesView.{threeOf, tripleOf, outcomeOf};
 ghost use Rattle.snf3x3.specs.Snf3x3 as walk;
@@ -93,13 +95,11 @@ fn rounds(s: Triple) -> Snf
     refuse(Refusal::NotConverged)
 }
 
-pub fn snf3x3(a: [[i64; 3]; 3]) -> Snf
-    ensures { λ r. ⌜ r ≡ written (walk.snf3x3 (matrixOf a)) ⌝ }
-    ensures { λ r. ⌜ RoundsWithin 82 r ⌝ }
+// The walk, on a matrix whose determinant fits.
+fn diagonalise(a: [[i64; 3]; 3]) -> Snf
+    requires { ⌜ T (detFits (matrixOf a)) ⌝ }
+    ensures { λ r. ⌜ r ≡ written (walk.diagonalise (matrixOf a)) ⌝ }
 {
-    if !common::matrix_within(a, 1000000) {
-        return refuse(Refusal::OutsideLimits);
-    }
     if integer_matrix::det_i(a) == 0 {
         return refuse(Refusal::Singular);
     }
@@ -110,6 +110,26 @@ pub fn snf3x3(a: [[i64; 3]; 3]) -> Snf
         q: [1, 0, 0, 0, 1, 0, 0, 0, 1],
         fits: 1,
     })
+}
+
+pub fn snf3x3(a: [[i64; 3]; 3]) -> Snf
+    ensures { λ r. ⌜ r ≡ written (walk.snf3x3 (matrixOf a)) ⌝ }
+    ensures { λ r. ⌜ RoundsWithin 82 r ⌝ }
+{
+    if !common::matrix_within(a, 1000000) {
+        return refuse(Refusal::OutsideLimits);
+    }
+    diagonalise(a)
+}
+
+// The same without the limit of the entries.
+pub fn snf3x3_unlimited(a: [[i64; 3]; 3]) -> Snf
+    ensures { λ r. ⌜ r ≡ written (walk.snf3x3Unlimited (matrixOf a)) ⌝ }
+{
+    if !integer_matrix::det_fits(a) {
+        return refuse(Refusal::Overflow);
+    }
+    diagonalise(a)
 }
 
 // Whether two matrices make the same grid.

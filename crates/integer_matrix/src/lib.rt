@@ -162,7 +162,7 @@ fn row_fits(a: [i64; 3], p: [i64; 3], q: [i64; 3], r: [i64; 3]) -> bool
 }
 
 // One after the other.
-fn rows_fit(a: [[i64; 3]; 3], b: [[i64; 3]; 3]) -> bool
+pub fn rows_fit(a: [[i64; 3]; 3], b: [[i64; 3]; 3]) -> bool
     ensures { λ r. ⌜ r ≡ productFits (matrixOf a) (matrixOf b) ⌝ }
 {
     let x = a[0];

@@ -22,6 +22,11 @@ pub accepted-bind : {X Y : Type 0} {P : X → Type 0} {Q : Y → Type 0} {m : Re
 accepted-bind f (accepted {x} p) k = k x p
 accepted-bind f overflowed k = overflowed
 
+-- two steps after a result
+pub accepted-two : {X : Type 0} {P Q : X → Type 0} {m : Result X} (f g : X → Result X) → Accepted P m → ((x : X) → P x → Accepted Q (f x then g)) → Accepted Q (m then f then g)
+accepted-two f g (accepted {x} p) k = k x p
+accepted-two f g overflowed k = overflowed
+
 module _ {X : Type 0} {P : X → Type 0} where
   pub accepted-map : {Q : X → Type 0} {m : Result X} → Accepted P m → ((x : X) → P x → Q x) → Accepted Q m
   accepted-map (accepted {x} p) k = accepted (k x p)

@@ -9,9 +9,10 @@ use lib.IntN.{ℤ, pos, negℤ, natAbs, _+ℤ_, _*ℤ_, zero-*ℤ}
 use Rattle.integer.specs.Checked.{isZero, pick}
 use Rattle.integer.specs.Divides.{Divides}
 use Rattle.integer.proofs.Reify.{ring, reify}
-use Rattle.integer.proofs.Size.{test-nonzero}
+use Rattle.integer.proofs.Test.{and-l}
+use Rattle.integer.proofs.Size.{zero-test, test-nonzero}
 use Rattle.integer.proofs.Divides.{divides-zero}
-use Rattle.common.specs.Matrix.{X, Y, Z, Mat, transpose, _·_}
+use Rattle.common.specs.Matrix.{X, Y, Z, Vec, Mat, transpose, _·_, diagonal}
 use Rattle.common.specs.Array.{matrixOf}
 use Rattle.common.proofs.Unimodular.{Regular}
 use Rattle.snf_steps.specs.Result.{ok, _then_}
@@ -21,10 +22,11 @@ use Rattle.snf_steps.specs.Stages.{Triple, rowsOf, withRows, onRows, onC
 use Rattle.snf_steps.proofs.Accepted.{Accepted, accepted, accepted-bind, accepted-map, accepted-both, accepted-pick}
 use Rattle.snf_steps.proofs.FittingEntries.{Fits, entry-size, transpose-fits}
 use Rattle.snf_steps.proofs.Bezout.{Bezout, gcd-on-top, zero-below}
-use Rattle.snf_steps.proofs.RowOperations.{combine-01, combine-12, below-first}
+use Rattle.snf_steps.proofs.GcdSign.{GcdSign}
+use Rattle.snf_steps.proofs.RowOperations.{combine-01, combine-12, below-first, below-second}
 use Rattle.snf_steps.proofs.Zeroing.{multiply-does, make-zero-does}
 use Rattle.snf_steps.proofs.Clearing.{Block}
-use Rattle.snf_steps.proofs.Keeping.{is-multiple-does, test-divides, test-refutes, neg-quotient-does, IsDiagonal, diagonal-by, still-zero, Sound, first-leaves, second-leaves}
+use Rattle.snf_steps.proofs.Keeping.{is-multiple-does, test-divides, test-refutes, neg-quotient-does, cleared, stays, IsDiagonal, Sound, first-leaves, second-leaves}
 
 -- one entry below the diagonal
 abbrev pub firstDisturbed : (x y z w : ℤ) → Mat ℤ
@@ -61,6 +63,7 @@ record FirstSwept (x y z w : ℤ) (t : Pair) : Type 0 where
   by : Bezout x y
   is : transpose (t .a) ≡ firstDisturbed (by .gcd) (by .t *ℤ z) (by .u *ℤ z) w
   still : y ≡ pos 0 → by .t ≡ pos 0
+  sign : GcdSign x y (by .gcd)
   fits : Fits (t .a)
 
 first-sweeps : (x y z w : ℤ) (p : Mat ℤ) → Fits (firstDisturbed x y z w) → zero < natAbs x → Accepted (FirstSwept x y z w) (firstColumn (record { a = firstDisturbed x y z w; p = p }))
@@ -76,6 +79,7 @@ first-sweeps x y z w p f h =
     (accepted (record {
       by = b;
       still = c .still;
+      sign = c .sign;
       fits = c .fits;
       is = ap transpose rows ∙ (λ j. record {
         a = gcd-on-top b j;
@@ -94,6 +98,7 @@ record SecondSwept (x y z w : ℤ) (t : Pair) : Type 0 where
   by : Bezout y z
   is : transpose (t .a) ≡ secondDisturbed x (by .gcd) (by .t *ℤ w) (by .u *ℤ w)
   still : z ≡ pos 0 → by .t ≡ pos 0
+  sign : GcdSign y z (by .gcd)
   fits : Fits (t .a)
 
 second-sweeps : (x y z w : ℤ) (p : Mat ℤ) → Fits (secondDisturbed x y z w) → zero < natAbs y → Accepted (SecondSwept x y z w) (secondColumn (record { a = secondDisturbed x y z w; p = p }))
@@ -108,6 +113,7 @@ second-sweeps x y z w p f h =
     record {
       by = b;
       still = c .still;
+      sign = c .sign;
       fits = c .fits;
       is = ap transpose rows ∙ (λ j. record {
         a = x;
@@ -137,15 +143,30 @@ twice x y z q r d still still' =
     law : (g g' t u u' v z : ℤ) → z ≡ v *ℤ g → g ≡ u' *ℤ g' → t *ℤ (u *ℤ z) ≡ (t *ℤ u *ℤ v *ℤ u') *ℤ g'
     law g g' t u u' v z p q = ap (λ x. t *ℤ (u *ℤ x)) (p ∙ ap (λ x. v *ℤ x) q) ∙ ring (g' ∷ t ∷ u ∷ u' ∷ v ∷ []) (search reify depth 60 fits 100000) tt
 
-record FirstMultiple (m : Mat ℤ) : Type 0 where
-  multiple : Divides (m .a) (m .d)
-  g0 : m .g ≡ pos 0
-  c0 : m .c ≡ pos 0
-  b0 : m .b ≡ pos 0
-  f0 : m .f ≡ pos 0
-  h0 : m .h ≡ pos 0
+-- the gcd of x and y, and the gcd of that and what it leaves beside it; z stands below on the diagonal
+pub record Twice (x y z : ℤ) : Type 0 where
+  pub q : Bezout x y
+  pub r : Bezout (q .gcd) (q .t *ℤ z)
+  pub sign-q : GcdSign x y (q .gcd)
+  pub sign-r : GcdSign (q .gcd) (q .t *ℤ z) (r .gcd)
+  pub multiple : Divides (r .gcd) (r .t *ℤ (q .u *ℤ z))
 
-first-loop-disturbed : (s : Triple) (x y z w : ℤ) → s .a ≡ firstDisturbed x y z w → zero < natAbs x → Disturbance y z → Fits (s .a) → Accepted (λ t. FirstMultiple (t .a)) (oneLoop firstColumn s)
+-- what comes to stand below
+abbrev pub lower : {x y z : ℤ} → Twice x y z → ℤ
+lower {z = z} k = k .r .u *ℤ (k .q .u *ℤ z)
+
+record FirstTwice (x y z w : ℤ) (m : Mat ℤ) : Type 0 where
+  by : Twice x y z
+  is : m ≡ firstDisturbed (by .r .gcd) (by .r .t *ℤ (by .q .u *ℤ z)) (lower by) w
+  fits : Fits m
+
+record SecondTwice (x y z w : ℤ) (m : Mat ℤ) : Type 0 where
+  by : Twice y z w
+  is : m ≡ secondDisturbed x (by .r .gcd) (by .r .t *ℤ (by .q .u *ℤ w)) (lower by)
+  fits : Fits m
+
+first-loop-disturbed : (s : Triple) (x y z w : ℤ) → s .a ≡ firstDisturbed x y z w → zero < natAbs x → Disturbance y z → Fits (s .a)
+    → Accepted (λ t. FirstTwice x y z w (t .a)) (oneLoop firstColumn s)
 unfolding oneLoop
 first-loop-disturbed s x y z w e h d f =
     accepted-bind {P = λ t. FirstSwept x y z w (rowsOf t)} (onColumns firstColumn)
@@ -155,9 +176,14 @@ first-loop-disturbed s x y z w e h d f =
     accepted-bind _ (subst (λ m. Accepted (FirstSwept (a .gcd) (a .t *ℤ z) (a .u *ℤ z) w) (firstColumn (record { a = m; p = t .q }))) (sym (p .is))
     (first-sweeps (a .gcd) (a .t *ℤ z) (a .u *ℤ z) w (t .q) (subst Fits (p .is) (transpose-fits (p .fits))) (a .nonzero))) (λ u q.
     let b = q .by in
-    accepted (subst FirstMultiple (sym (q .is)) (record { multiple = twice x y z a b d (p .still) (q .still); g0 = refl; c0 = refl; b0 = refl; f0 = refl; h0 = refl }))))
+    accepted (record {
+      by = record { q = a; r = b; sign-q = p .sign; sign-r = q .sign; multiple = twice x y z a b d (p .still) (q .still) };
+      is = q .is;
+      fits = transpose-fits (q .fits);
+    })))
 
-second-loop-disturbed : (s : Triple) (x y z w : ℤ) → s .a ≡ secondDisturbed x y z w → zero < natAbs y → Disturbance z w → Fits (s .a) → Accepted (λ t. Divides (t .a .e) (t .a .h)) (oneLoop secondColumn s)
+second-loop-disturbed : (s : Triple) (x y z w : ℤ) → s .a ≡ secondDisturbed x y z w → zero < natAbs y → Disturbance z w → Fits (s .a)
+    → Accepted (λ t. SecondTwice x y z w (t .a)) (oneLoop secondColumn s)
 unfolding oneLoop
 second-loop-disturbed s x y z w e h d f =
     accepted-bind {P = λ t. SecondSwept x y z w (rowsOf t)} (onColumns secondColumn)
@@ -166,43 +192,106 @@ second-loop-disturbed s x y z w e h d f =
     let a = p .by in
     accepted-bind _ (subst (λ m. Accepted (SecondSwept x (a .gcd) (a .t *ℤ w) (a .u *ℤ w)) (secondColumn (record { a = m; p = t .q }))) (sym (p .is))
     (second-sweeps x (a .gcd) (a .t *ℤ w) (a .u *ℤ w) (t .q) (subst Fits (p .is) (transpose-fits (p .fits))) (a .nonzero))) (λ u q.
-    accepted (subst (λ (m : Mat ℤ). Divides (m .e) (m .h)) (sym (q .is)) (twice y z w a (q .by) d (p .still) (q .still)))))
+    let b = q .by in
+    accepted (record {
+      by = record { q = a; r = b; sign-q = p .sign; sign-r = q .sign; multiple = twice y z w a b d (p .still) (q .still) };
+      is = q .is;
+      fits = transpose-fits (q .fits);
+    })))
 
--- ---- so both are through
-rows-are : (l : Mat ℤ) (s : Triple) → Accepted (λ (n : Triple). n .a ≡ l · s .a) (onRows (multiply l) s)
-rows-are l s = accepted-bind (λ u. ok (withRows s u)) (multiply-does l (rowsOf s)) (λ n r. accepted (ap (λ (v : Pair). v .a) (r .is)))
+-- ---- so both are through, and leave the diagonal
+pub record RowsBy (l : Mat ℤ) (s t : Triple) : Type 0 where
+  pub is : t .a ≡ l · s .a
+  pub fits : Fits (t .a)
 
-record FirstThrough (o : Outcome) : Type 0 where
-  done : T (o .done)
-  f0 : o .left .a .f ≡ pos 0
-  h0 : o .left .a .h ≡ pos 0
+pub rows-are : (l : Mat ℤ) (s : Triple) → Accepted (RowsBy l s) (onRows (multiply l) s)
+rows-are l s = accepted-bind (λ u. ok (withRows s u)) (multiply-does l (rowsOf s)) (λ n r. accepted (record { is = ap (λ (v : Pair). v .a) (r .is); fits = r .fits }))
 
-first-end-through : (s : Triple) → FirstMultiple (s .a) → Accepted FirstThrough (firstEnd s)
-first-end-through s k =
+pub record ThroughTo (v : Vec ℤ) (o : Outcome) : Type 0 where
+  pub done : T (o .done)
+  pub is : o .left .a ≡ diagonal v
+  pub fits : Fits (o .left .a)
+
+first-end-through : (s : Triple) (x y z w : ℤ) → s .a ≡ firstDisturbed x y z w → Divides x y → Fits (s .a) → Accepted (ThroughTo (record { x = x; y = z; z = w })) (firstEnd s)
+first-end-through s x y z w at k fits =
     let m = s .a in
+    let on : (g : Mat ℤ → ℤ) → g m ≡ g (firstDisturbed x y z w) = λ g. ap g at in
+    let below : Divides (m .a) (m .d) = subst (λ (n : Mat ℤ). Divides (n .a) (n .d)) (sym at) k in
     accepted-pick (isZero (m .d) && isZero (m .g)) (through s) _
-    (λ t. accepted (record { done = tt; f0 = k .f0; h0 = k .h0 }))
+    (λ t. accepted (record {
+      done = tt;
+      fits = fits;
+      is = at ∙ (λ j. firstDisturbed x ((sym (on (λ n. n .d)) ∙ zero-test (m .d) (and-l (isZero (m .d)) (isZero (m .g)) t)) j) z w);
+    }))
     (λ _. accepted-bind _ (is-multiple-does (m .d) (m .a)) (λ b e. accepted-pick b _ (again s)
     (λ t. accepted-bind _ (is-multiple-does (m .g) (m .a)) (λ c f. accepted-pick c _ (again s)
-    (λ u. accepted-bind _ (neg-quotient-does (e .nonzero) (test-divides e t)) (λ x p. accepted-bind _ (neg-quotient-does (f .nonzero) (test-divides f u)) (λ w q.
-    accepted-bind _ (rows-are (matrixOf (belowFirst x w)) s) (λ n r.
-    let rows = r ∙ below-first x w m in
-    accepted (record {
+    (λ u. accepted-bind _ (neg-quotient-does (e .nonzero) (test-divides e t)) (λ y p. accepted-bind _ (neg-quotient-does (f .nonzero) (test-divides f u)) (λ v q.
+    accepted-bind _ (rows-are (matrixOf (belowFirst y v)) s) (λ n r. accepted (record {
       done = tt;
-      f0 = ap (λ (a : Mat ℤ). a .f) rows ∙ still-zero x (k .c0) (k .f0);
-      h0 = ap (λ (a : Mat ℤ). a .h) rows ∙ still-zero w (k .b0) (k .h0);
+      fits = r .fits;
+      is = r .is ∙ below-first y v m ∙ (λ j. record {
+        a = on (λ n. n .a) j;
+        b = on (λ n. n .b) j;
+        c = on (λ n. n .c) j;
+        d = cleared (test-divides e t) p j;
+        e = stays y (on (λ n. n .b)) (on (λ n. n .e)) j;
+        f = stays y (on (λ n. n .c)) (on (λ n. n .f)) j;
+        g = cleared (test-divides f u) q j;
+        h = stays v (on (λ n. n .b)) (on (λ n. n .h)) j;
+        i = stays v (on (λ n. n .c)) (on (λ n. n .i)) j;
+      });
     })))))
-    (λ n. absurd (test-refutes f n (subst (Divides (m .a)) (sym (k .g0)) (divides-zero (m .a)))))))
-    (λ n. absurd (test-refutes e n (k .multiple)))))
+    (λ n. absurd (test-refutes f n (subst (Divides (m .a)) (sym (on (λ n. n .g))) (divides-zero (m .a)))))))
+    (λ n. absurd (test-refutes e n below))))
 
-second-end-through : (s : Triple) → Divides (s .a .e) (s .a .h) → Accepted (λ o. T (o .done)) (secondEnd s)
-second-end-through s d =
+second-end-through : (s : Triple) (x y z w : ℤ) → s .a ≡ secondDisturbed x y z w → Divides y z → Fits (s .a) → Accepted (ThroughTo (record { x = x; y = y; z = w })) (secondEnd s)
+second-end-through s x y z w at k fits =
     let m = s .a in
+    let on : (g : Mat ℤ → ℤ) → g m ≡ g (secondDisturbed x y z w) = λ g. ap g at in
     accepted-pick (isZero (m .h)) (through s) _
-    (λ t. accepted tt)
+    (λ t. accepted (record { done = tt; fits = fits; is = at ∙ (λ j. secondDisturbed x y ((sym (on (λ n. n .h)) ∙ zero-test (m .h) t) j) w) }))
     (λ _. accepted-bind _ (is-multiple-does (m .h) (m .e)) (λ b e. accepted-pick b _ (again s)
-    (λ t. accepted-bind _ (neg-quotient-does (e .nonzero) (test-divides e t)) (λ x p. accepted-bind _ (rows-are (matrixOf (belowSecond x)) s) (λ n r. accepted tt)))
-    (λ n. absurd (test-refutes e n d))))
+    (λ t. accepted-bind _ (neg-quotient-does (e .nonzero) (test-divides e t)) (λ v p. accepted-bind _ (rows-are (matrixOf (belowSecond v)) s) (λ n r. accepted (record {
+      done = tt;
+      fits = r .fits;
+      is = r .is ∙ below-second v m ∙ (λ j. record {
+        a = on (λ n. n .a) j;
+        b = on (λ n. n .b) j;
+        c = on (λ n. n .c) j;
+        d = on (λ n. n .d) j;
+        e = on (λ n. n .e) j;
+        f = on (λ n. n .f) j;
+        g = stays v (on (λ n. n .d)) (on (λ n. n .g)) j;
+        h = cleared (test-divides e t) p j;
+        i = stays v (on (λ n. n .f)) (on (λ n. n .i)) j;
+      });
+    }))))
+    (λ n. absurd (test-refutes e n (subst (λ (n : Mat ℤ). Divides (n .e) (n .h)) (sym at) k)))))
+
+-- the two numbers stand where f says
+pub record SplitTo (f : ℤ → ℤ → Vec ℤ) (x y z : ℤ) (o : Outcome) : Type 0 where
+  pub by : Twice x y z
+  pub to : ThroughTo (f (by .r .gcd) (lower by)) o
+
+abbrev pub atFirst : ℤ → ℤ → ℤ → Vec ℤ
+atFirst w g l = record { x = g; y = l; z = w }
+
+abbrev pub atLast : ℤ → ℤ → ℤ → Vec ℤ
+atLast w g l = record { x = w; y = g; z = l }
+
+pub first-splits : (s : Triple) (x y z w : ℤ) → s .a ≡ firstDisturbed x y z w → zero < natAbs x → Disturbance y z → Fits (s .a) → Accepted (SplitTo (atFirst w) x y z) (first s)
+unfolding first
+first-splits s x y z w e h d f =
+    accepted-bind firstEnd (first-loop-disturbed s x y z w e h d f) (λ t p.
+    let k = p .by in
+    accepted-map (first-end-through t (k .r .gcd) (k .r .t *ℤ (k .q .u *ℤ z)) (lower k) w (p .is) (k .multiple) (p .fits)) (λ o q. record { by = k; to = q }))
+
+pub second-splits : (s : Triple) (x y z w : ℤ) → s .a ≡ secondDisturbed x y z w → zero < natAbs y → Disturbance z w → Fits (s .a) → Accepted (SplitTo (atLast x) y z w) (second s)
+unfolding second
+second-splits s x y z w e h d f =
+    accepted-bind secondEnd (second-loop-disturbed s x y z w e h d f) (λ t p.
+    let k = p .by in
+    accepted-map (second-end-through t x (k .r .gcd) (k .r .t *ℤ (k .q .u *ℤ w)) (lower k) (p .is) (k .multiple) (p .fits)) (λ o q. record { by = k; to = q }))
 
 module _ (A : Mat ℤ) where
   pub record SoundDiagonal (s : Triple) : Type 0 where
@@ -232,17 +321,14 @@ module _ (A : Mat ℤ) where
 
   module _ (r : Regular A) where
     pub first-through : (s : Triple) → FirstDisturbed s → Accepted (λ o. SoundDiagonal (o .left)) (first s)
-    unfolding first
     first-through s v =
         accepted-map
-        (accepted-both (first-leaves A r s (v .sound))
-        (accepted-bind firstEnd (first-loop-disturbed s (v .x) (v .y) (v .z) (v .w) (v .is) (v .nonzero) (v .disturbance) (v .sound .fits)) first-end-through))
-        (λ o p. record { sound = p .0 .pivot .sound; diagonal = diagonal-by (o .left .a) (p .0 .block (p .1 .done)) (p .1 .f0) (p .1 .h0) })
+        (accepted-both (first-leaves A r s (v .sound)) (first-splits s (v .x) (v .y) (v .z) (v .w) (v .is) (v .nonzero) (v .disturbance) (v .sound .fits)))
+        (λ o p. record { sound = p .0 .pivot .sound; diagonal = record { numbers = _; is = p .1 .to .is } })
 
     pub second-through : (s : Triple) → SecondDisturbed s → Accepted (λ o. SoundDiagonal (o .left)) (second s)
-    unfolding second
     second-through s v =
         accepted-map
         (accepted-both (second-leaves A r s (v .sound) (subst Block (sym (v .is)) (record { b0 = refl; c0 = refl; d0 = refl; g0 = refl })))
-        (accepted-bind secondEnd (second-loop-disturbed s (v .x) (v .y) (v .z) (v .w) (v .is) (v .nonzero) (v .disturbance) (v .sound .fits)) second-end-through))
-        (λ o p. record { sound = p .0 .pivot .sound; diagonal = p .0 .diagonal (p .1) })
+        (second-splits s (v .x) (v .y) (v .z) (v .w) (v .is) (v .nonzero) (v .disturbance) (v .sound .fits)))
+        (λ o p. record { sound = p .0 .pivot .sound; diagonal = record { numbers = _; is = p .1 .to .is } })

@@ -30,32 +30,32 @@ abbrev D : Mat Expr
 D = diagonalE (column 0)
 
 module _ (v : Vec ℤ) where
-  flip-0 : matrixOf (elementaryFlipSignRow 0) · diagonal v ≡ diagonal (record { x = negℤ (v .x); y = v .y; z = v .z })
+  pub flip-0 : matrixOf (elementaryFlipSignRow 0) · diagonal v ≡ diagonal (record { x = negℤ (v .x); y = v .y; z = v .z })
   flip-0 = solveMat (sides v []) (constant (matrixOf (elementaryFlipSignRow 0)) ⊡ D) (diagonalE (record { x = neg (var 0); y = var 1; z = var 2 })) tt
 
-  flip-1 : matrixOf (elementaryFlipSignRow 1) · diagonal v ≡ diagonal (record { x = v .x; y = negℤ (v .y); z = v .z })
+  pub flip-1 : matrixOf (elementaryFlipSignRow 1) · diagonal v ≡ diagonal (record { x = v .x; y = negℤ (v .y); z = v .z })
   flip-1 = solveMat (sides v []) (constant (matrixOf (elementaryFlipSignRow 1)) ⊡ D) (diagonalE (record { x = var 0; y = neg (var 1); z = var 2 })) tt
 
-  flip-2 : matrixOf (elementaryFlipSignRow 2) · diagonal v ≡ diagonal (record { x = v .x; y = v .y; z = negℤ (v .z) })
+  pub flip-2 : matrixOf (elementaryFlipSignRow 2) · diagonal v ≡ diagonal (record { x = v .x; y = v .y; z = negℤ (v .z) })
   flip-2 = solveMat (sides v []) (constant (matrixOf (elementaryFlipSignRow 2)) ⊡ D) (diagonalE (record { x = var 0; y = var 1; z = neg (var 2) })) tt
 
-  exchange-01 : transpose (matrixOf (elementarySwapRows 0 1) · transpose (matrixOf (elementarySwapRows 0 1) · diagonal v)) ≡ diagonal (record { x = v .y; y = v .x; z = v .z })
+  pub exchange-01 : transpose (matrixOf (elementarySwapRows 0 1) · transpose (matrixOf (elementarySwapRows 0 1) · diagonal v)) ≡ diagonal (record { x = v .y; y = v .x; z = v .z })
   exchange-01 =
       let S = constant (matrixOf (elementarySwapRows 0 1)) in
       solveMat (sides v []) (transpose (S ⊡ transpose (S ⊡ D))) (diagonalE (record { x = var 1; y = var 0; z = var 2 })) tt
 
-  exchange-12 : transpose (matrixOf (elementarySwapRows 1 2) · transpose (matrixOf (elementarySwapRows 1 2) · diagonal v)) ≡ diagonal (record { x = v .x; y = v .z; z = v .y })
+  pub exchange-12 : transpose (matrixOf (elementarySwapRows 1 2) · transpose (matrixOf (elementarySwapRows 1 2) · diagonal v)) ≡ diagonal (record { x = v .x; y = v .z; z = v .y })
   exchange-12 =
       let S = constant (matrixOf (elementarySwapRows 1 2)) in
       solveMat (sides v []) (transpose (S ⊡ transpose (S ⊡ D))) (diagonalE (record { x = var 0; y = var 2; z = var 1 })) tt
 
-  disturb-01 : transpose (matrixOf (elementaryDisturbRows 0 1) · transpose (diagonal v)) ≡ firstDisturbed (v .x) (v .y) (v .y) (v .z)
+  pub disturb-01 : transpose (matrixOf (elementaryDisturbRows 0 1) · transpose (diagonal v)) ≡ firstDisturbed (v .x) (v .y) (v .y) (v .z)
   disturb-01 =
       let o = con (pos 0) in
       solveMat (sides v []) (transpose (constant (matrixOf (elementaryDisturbRows 0 1)) ⊡ transpose D))
       (record { a = var 0; b = o; c = o; d = var 1; e = var 1; f = o; g = o; h = o; i = var 2 }) tt
 
-  disturb-12 : transpose (matrixOf (elementaryDisturbRows 1 2) · transpose (diagonal v)) ≡ secondDisturbed (v .x) (v .y) (v .z) (v .z)
+  pub disturb-12 : transpose (matrixOf (elementaryDisturbRows 1 2) · transpose (diagonal v)) ≡ secondDisturbed (v .x) (v .y) (v .z) (v .z)
   disturb-12 =
       let o = con (pos 0) in
       solveMat (sides v []) (transpose (constant (matrixOf (elementaryDisturbRows 1 2)) ⊡ transpose D))

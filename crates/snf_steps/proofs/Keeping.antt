@@ -49,19 +49,19 @@ neg-quotient-does {z} {d} h p =
     (λ _. divides-quot h (record { times = negℤ (p .times); is = ap negℤ (p .is) ∙ sym (neg-*ℤ (p .times) d) }))
 
 -- u times the pivot, added to its multiple z
-cleared : {u z d : ℤ} (p : Divides d z) → u ≡ negℤ (p .times) → u *ℤ d +ℤ z ≡ pos 0
+pub cleared : {u z d : ℤ} (p : Divides d z) → u ≡ negℤ (p .times) → u *ℤ d +ℤ z ≡ pos 0
 cleared {d = d} p e = ap₂ (λ u z. u *ℤ d +ℤ z) e (p .is) ∙ ring (p .times ∷ d ∷ []) (search reify depth 40) tt
 
--- u times 0, added to 0
-pub still-zero : (u : ℤ) {y z : ℤ} → y ≡ pos 0 → z ≡ pos 0 → u *ℤ y +ℤ z ≡ pos 0
-still-zero u e f = ap₂ (λ y z. u *ℤ y +ℤ z) e f ∙ ring (u ∷ []) (search reify depth 40) tt
+-- u times 0, added to z
+pub stays : (u : ℤ) {y z w : ℤ} → y ≡ pos 0 → z ≡ w → u *ℤ y +ℤ z ≡ w
+stays u {w = w} e f = ap₂ (λ y z. u *ℤ y +ℤ z) e f ∙ ring (u ∷ w ∷ []) (search reify depth 40) tt
 
 -- ---- diagonal matrices
 pub record IsDiagonal (m : Mat ℤ) : Type 0 where
   pub numbers : Vec ℤ
   pub is : m ≡ diagonal numbers
 
-pub diagonal-by : (m : Mat ℤ) → Block m → m .f ≡ pos 0 → m .h ≡ pos 0 → IsDiagonal m
+diagonal-by : (m : Mat ℤ) → Block m → m .f ≡ pos 0 → m .h ≡ pos 0 → IsDiagonal m
 diagonal-by m k f0 h0 = record {
   numbers = record { x = m .a; y = m .e; z = m .i };
   is = λ j. record { a = m .a; b = k .b0 j; c = k .c0 j; d = k .d0 j; e = m .e; f = f0 j; g = k .g0 j; h = h0 j; i = m .i };
@@ -276,7 +276,7 @@ module _ (A : Mat ℤ) where
           b0 = ap (λ (a : Mat ℤ). a .b) rows ∙ k .block .b0;
           c0 = ap (λ (a : Mat ℤ). a .c) rows ∙ k .block .c0;
           d0 = ap (λ (a : Mat ℤ). a .d) rows ∙ k .block .d0;
-          g0 = ap (λ (a : Mat ℤ). a .g) rows ∙ still-zero w (k .block .d0) (k .block .g0);
+          g0 = ap (λ (a : Mat ℤ). a .g) rows ∙ stays w (k .block .d0) (k .block .g0);
         } in
         let f0 = ap (λ (a : Mat ℤ). a .f) rows ∙ k .f0 in
         accepted (record {

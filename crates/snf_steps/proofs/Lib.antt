@@ -4,6 +4,7 @@ pub mod Binding
 pub mod Settled
 pub mod Accepted
 pub mod Halving
+pub mod GcdSign
 pub mod Bezout
 pub mod Divisions
 pub mod FittingEntries
@@ -14,4 +15,8 @@ pub mod Clearing
 pub mod Keeping
 pub mod Falling
 pub mod Disturbance
+pub mod Splitting
 pub mod Ending
+pub mod Ordering
+pub mod Dividing
+pub mod FinalNumbers

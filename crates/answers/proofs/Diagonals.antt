@@ -1,6 +1,6 @@
--- What the exports of snf3x3 answer and leave, by their branches.
+-- What the exports of snf3x3 and smith3x3 answer and leave, by their branches.
 use mathlib.Core.Path.{_≡_, _∙_, ap, ap₂}
-use mathlib.Core.Bool.{true, false, _&&_}
+use mathlib.Core.Bool.{Bool, true, false, _&&_}
 use mathlib.Core.List.{List, [], _∷_}
 use Prim.Native.Nat.{ℕ}
 use lib.Dec.{eqb}
@@ -16,7 +16,11 @@ use Rattle.snf3x3.specs.declared.SameGrid.{SameGrid}
 use Rattle.snf3x3.specs.Snf3x3.{snf3x3}
 use Rattle.snf3x3.specs.Written.{written}
 use Rattle.snf3x3.specs.SameGrid.{sameGrid}
-use Rattle.answers.specs.Diagonals.{resultLengths, diagonalLengths, diagonalisation, Snf3x3Told, sameLengths, sameNumber, sameTold, comparison, SameGridTold}
+use Rattle.smith3x3.specs.declared.Smith.{Smith}
+use Rattle.smith3x3.specs.Smith3x3.{smith3x3}
+use Rattle.smith3x3.specs.Written as smith
+use Rattle.answers.specs.Diagonals.{Diagonalised, DiagonalTold, resultLengths, diagonalLengths, diagonalisation, ofSnf, Snf3x3Told}
+use Rattle.answers.specs.Diagonals.{smithLengths, smithForm, ofSmith, Smith3x3Told, sameLengths, sameNumber, sameTold, comparison, SameGridTold}
 use Rattle.answers.proofs.Lengths.{taken, left, both, three-lengths}
 
 module _ (a d p q told : ℕ) (e : diagonalLengths a d p q told ≡ true) where
@@ -32,19 +36,40 @@ module _ (a d p q told : ℕ) (e : diagonalLengths a d p q told ≡ true) where
       let g = three-lengths d 3 p 9 q 9 (f .0) in
       (g .0, g .1, g .2, eqb-true told 1 (f .1))
 
+module _ (a d p q : ℕ) (e : smithLengths a d p q ≡ true) where
+  pub smith-matrix-length : a ≡ 9
+  smith-matrix-length = eqb-true a 9 (both (eqb a 9) (resultLengths d p q) e .0)
+
+  pub smith-result-lengths : (d ≡ 3) × (p ≡ 9) × (q ≡ 9)
+  smith-result-lengths = three-lengths d 3 p 9 q 9 (both (eqb a 9) (resultLengths d p q) e .1)
+
 abbrev unwritten : ℕ → List ℤ
 unwritten n = replicate n (negsuc 0)
+
+-- d, P and Q by the test of the lengths
+module _ {fit : Bool} (s : Diagonalised) (nd np nq : ℕ) {r : ℤ} {d p q : List ℤ} where
+  pub told-unsized : fit ≡ false → r ≡ pos (numberOf WrongLength) → d ≡ unwritten nd → p ≡ unwritten np → q ≡ unwritten nq → DiagonalTold fit s nd np nq r d p q
+  told-unsized e er ed ep eq = record {
+    answer = er ∙ left (answerOf (s .tested)) (pos (numberOf WrongLength)) e;
+    diagonal = ed ∙ left (s .diagonal) (unwritten nd) e;
+    left = ep ∙ left (s .left) (unwritten np) e;
+    right = eq ∙ left (s .right) (unwritten nq) e;
+  }
+
+  pub told-passed : fit ≡ true → {t : Diagonalised} → t ≡ s → r ≡ answerOf (t .tested) → d ≡ t .diagonal → p ≡ t .left → q ≡ t .right → DiagonalTold fit s nd np nq r d p q
+  told-passed e same er ed ep eq = record {
+    answer = er ∙ ap (λ t. answerOf (t .tested)) same ∙ taken (answerOf (s .tested)) (pos (numberOf WrongLength)) e;
+    diagonal = ed ∙ ap (λ t. t .diagonal) same ∙ taken (s .diagonal) (unwritten nd) e;
+    left = ep ∙ ap (λ t. t .left) same ∙ taken (s .left) (unwritten np) e;
+    right = eq ∙ ap (λ t. t .right) same ∙ taken (s .right) (unwritten nq) e;
+  }
 
 module _ (a : List ℤ) (nd np nq nt : ℕ) {r : ℤ} {d p q told : List ℤ} where
   pub diagonal-unsized : diagonalLengths (length a) nd np nq nt ≡ false → r ≡ pos (numberOf WrongLength)
       → d ≡ unwritten nd → p ≡ unwritten np → q ≡ unwritten nq → told ≡ unwritten nt → Snf3x3Told a nd np nq nt r d p q told
-  diagonal-unsized e er ed ep eq et = let s = diagonalisation a in record {
-    answer = er ∙ left (answerOf (s .tested)) (pos (numberOf WrongLength)) e;
-    diagonal = ed ∙ left (s .«d_diag») (unwritten nd) e;
-    left = ep ∙ left (s .p) (unwritten np) e;
-    right = eq ∙ left (s .q) (unwritten nq) e;
-    rounds = et ∙ left (s .rounds ∷ []) (unwritten nt) e;
-  }
+  diagonal-unsized e er ed ep eq et =
+      let s = diagonalisation a in
+      record { result = told-unsized (ofSnf s) nd np nq e er ed ep eq; rounds = et ∙ left (s .rounds ∷ []) (unwritten nt) e }
 
   -- the library's call has the rows of the matrix
   pub diagonal-passed : diagonalLengths (length a) nd np nq nt ≡ true → {m : List (List ℤ)} {t : Snf} → m ≡ rows (matrixAt a 0) → t ≡ written (snf3x3 (matrixOf m))
@@ -52,12 +77,14 @@ module _ (a : List ℤ) (nd np nq nt : ℕ) {r : ℤ} {d p q told : List ℤ} wh
   diagonal-passed e em es er ed ep eq et =
       let s = diagonalisation a in
       let same : _ ≡ s = es ∙ ap (λ m. written (snf3x3 (matrixOf m))) em in record {
-        answer = er ∙ ap (λ t. answerOf (t .tested)) same ∙ taken (answerOf (s .tested)) (pos (numberOf WrongLength)) e;
-        diagonal = ed ∙ ap (λ t. t .«d_diag») same ∙ taken (s .«d_diag») (unwritten nd) e;
-        left = ep ∙ ap (λ t. t .p) same ∙ taken (s .p) (unwritten np) e;
-        right = eq ∙ ap (λ t. t .q) same ∙ taken (s .q) (unwritten nq) e;
+        result = told-passed (ofSnf s) nd np nq e (ap ofSnf same) er ed ep eq;
         rounds = et ∙ ap (λ t. t .rounds ∷ []) same ∙ taken (s .rounds ∷ []) (unwritten nt) e;
       }
+
+-- the library's call has the rows of the matrix
+pub smith-passed : (a : List ℤ) (nd np nq : ℕ) {r : ℤ} {d p q : List ℤ} → smithLengths (length a) nd np nq ≡ true → {m : List (List ℤ)} {t : Smith} → m ≡ rows (matrixAt a 0)
+    → t ≡ smith.written (smith3x3 (matrixOf m)) → r ≡ answerOf (t .tested) → d ≡ t .«d_diag» → p ≡ t .p → q ≡ t .q → Smith3x3Told a nd np nq r d p q
+smith-passed a nd np nq e em es = told-passed (ofSmith (smithForm a)) nd np nq e (ap ofSmith (es ∙ ap (λ m. smith.written (smith3x3 (matrixOf m))) em))
 
 module _ (a b : List ℤ) (n : ℕ) {r : ℤ} {told : List ℤ} where
   pub same-unsized : sameLengths (length a) (length b) n ≡ false → r ≡ pos (numberOf WrongLength) → told ≡ unwritten n → SameGridTold a b n r told

@@ -33,18 +33,6 @@ pub fn tell_triplet_classes(answer: IrTriplets, told: &mut [i64]) -> i64
     }
 }
 
-pub fn refuse_classes(map_triplets: &mut [i64], map_q: &mut [i64], told: &mut [i64]) -> i64
-    ensures { λ r. ⌜ r ≡ pos (numberOf WrongLength) ⌝ }
-    ensures { λ _. ⌜ now («map_triplets» .exit) ≡ replicate (length (now («map_triplets» .entry))) (negsuc 0) ⌝ }
-    ensures { λ _. ⌜ now («map_q» .exit) ≡ replicate (length (now («map_q» .entry))) (negsuc 0) ⌝ }
-    ensures { λ _. ⌜ now (told .exit) ≡ replicate (length (now (told .entry))) (negsuc 0) ⌝ }
-{
-    common::fill(map_triplets, -1);
-    common::fill(map_q, -1);
-    common::fill(told, -1);
-    Refusal::WrongLength.answer()
-}
-
 pub fn triplet_lengths(d: usize, q: usize, lattice: usize) -> bool
     ensures { λ r. ⌜ r ≡ tripletLengths d q lattice ⌝ }
 {

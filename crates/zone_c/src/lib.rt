@@ -9,6 +9,7 @@ mod transform;
 mod triplets;
 
 pub use diagonal::zone_same_grid;
+pub use diagonal::zone_smith3x3;
 pub use diagonal::zone_snf3x3;
 pub use grid::zone_all_grid_addresses;
 pub use grid::zone_ir_grid_map;

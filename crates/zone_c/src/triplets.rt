@@ -16,7 +16,7 @@ pub extern "C" fn zone_ir_triplets_at_q(
     ensures { λ r. ⌜ IrTripletsTold q0 (now (d .entry)) (now (rotations .entry)) «time_reversal» swappable (length (now («map_triplets» .entry))) (length (now («map_q» .entry))) (length (now (told .entry))) r (now («map_triplets» .exit)) (now («map_q» .exit)) (now (told .exit)) ⌝ }
 {
     if !answers::triplet_class_lengths(d.len(), told.len()) {
-        return answers::refuse_classes(map_triplets, map_q, told);
+        return answers::refuse_three(map_triplets, map_q, told);
     }
     answers::tell_triplet_classes(
         triplet_grid::ir_triplets_at_q(

@@ -7,17 +7,8 @@ use Rattle.answers.proofs.refuse_four.Tie as tie
 fill-requires : tie.Need-fill-requires
 fill-requires c κs = search needs
 
-fill-requires-2 : tie.Need-fill-requires-2
-fill-requires-2 c κs = search needs
-
-fill-requires-3 : tie.Need-fill-requires-3
-fill-requires-3 c κs = search needs
-
-fill-requires-4 : tie.Need-fill-requires-4
-fill-requires-4 c κs = search needs
-
-answer-requires : tie.Need-answer-requires
-answer-requires c κs = search needs
+refuse-three-requires : tie.Need-refuse-three-requires
+refuse-three-requires c κs = search needs
 
 same-length : tie.Need-same-length
 same-length c = search needs
@@ -33,17 +24,16 @@ same-length-4 c = search needs
 
 returns : tie.Need-returns
 returns c =
-    (held-is (c .answer .result) (c .answer .ok) ∙ c .answer .ensures, (c .before .before .before .before .before .before .before .before .before .before .before .fill .ensures, (c .before .before .before .before .before .before .before .before .fill2 .ensures, (c .before .before .before .before .before .fill3 .ensures, c .before .before .fill4 .ensures))))
+    let t = c .before .before .before .refuse-three in
+    let e = t .ensures in
+    (held-is (t .result) (t .ok) ∙ e .0, (c .before .before .before .before .before .before .before .before .fill .ensures, (e .1 .0, (e .1 .1 .0, e .1 .1 .1))))
 
 pub refuse-four-spec : {M : Type 1} → statement M
 refuse-four-spec =
     tie.close
     (tie.spec
     fill-requires
-    fill-requires-2
-    fill-requires-3
-    fill-requires-4
-    answer-requires
+    refuse-three-requires
     same-length
     same-length-2
     same-length-3

@@ -5,14 +5,14 @@ use borrow.Author.Needs.{needs}
 use Rattle.answers.proofs.diagonal.diagonal_lengths.Statement.{statement}
 use Rattle.answers.proofs.diagonal.diagonal_lengths.Tie as tie
 
+result-lengths-requires : tie.Need-result-lengths-requires
+result-lengths-requires c κs = search needs
+
 all-three-requires : tie.Need-all-three-requires
 all-three-requires c κs = search needs
 
-all-three-requires-2 : tie.Need-all-three-requires-2
-all-three-requires-2 c κs = search needs
-
 returns : tie.Need-returns
-returns c = let a = c .before .before .args in c .all-three2 .ensures ∙ ap (λ t. eqb (a .a) 9 && (t && eqb (a .told) 1)) (c .before .all-three .ensures)
+returns c = let a = c .before .before .args in c .all-three .ensures ∙ ap (λ t. eqb (a .a) 9 && (t && eqb (a .told) 1)) (c .before .result-lengths .ensures)
 
 pub diagonal-lengths-spec : {M : Type 1} → statement M
-diagonal-lengths-spec = tie.close (tie.spec all-three-requires all-three-requires-2 returns)
+diagonal-lengths-spec = tie.close (tie.spec result-lengths-requires all-three-requires returns)

@@ -11,8 +11,8 @@ use Rattle.zone_c.proofs.triplets.zone_ir_triplets_at_q.Tie as tie
 triplet-class-lengths-requires : tie.Need-triplet-class-lengths-requires
 triplet-class-lengths-requires c κs = search needs
 
-refuse-classes-requires : tie.Need-refuse-classes-requires
-refuse-classes-requires c κs = search needs
+refuse-three-requires : tie.Need-refuse-three-requires
+refuse-three-requires c κs = search needs
 
 same-length : tie.Need-same-length
 same-length c = search needs
@@ -26,9 +26,9 @@ same-length-3 c = search needs
 returns : tie.Need-returns
 returns c =
     let s = c .before .before .before .before .before .before .before .before .before in
-    let t = c .before .before .before .refuse-classes .ensures in
+    let t = c .before .before .before .refuse-three .ensures in
     classes-unsized (s .args .q0) (s .args .d .now) (s .args .rotations .now) (s .args .time-reversal) (s .args .swappable) (length (s .args .map-triplets .now)) (length (s .args .map-q .now)) (length (s .args .told .now)) (no (c .before .before .before .before .before .before .before .before .triplet-class-lengths .ensures) (c .before .before .before .before .before .before .before .if1 .taken))
-    (held-is (c .before .before .before .refuse-classes .result) (c .before .before .before .refuse-classes .ok) ∙ t .0) (t .1 .0) (t .1 .1 .0) (t .1 .1 .1)
+    (held-is (c .before .before .before .refuse-three .result) (c .before .before .before .refuse-three .ok) ∙ t .0) (t .1 .0) (t .1 .1 .0) (t .1 .1 .1)
 
 row-at-requires : tie.Need-row-at-requires
 row-at-requires c κs =
@@ -65,7 +65,7 @@ zone-ir-triplets-at-q-spec =
     tie.close
     (tie.spec
     triplet-class-lengths-requires
-    refuse-classes-requires
+    refuse-three-requires
     same-length
     same-length-2
     same-length-3

@@ -1,8 +1,8 @@
 use mathlib.Core.Path.{_∙_}
 use Rattle.integer.proofs.Fits.{held-is}
 use borrow.Author.Needs.{needs}
-use Rattle.answers.proofs.triplets.refuse_classes.Statement.{statement}
-use Rattle.answers.proofs.triplets.refuse_classes.Tie as tie
+use Rattle.answers.proofs.refuse_three.Statement.{statement}
+use Rattle.answers.proofs.refuse_three.Tie as tie
 
 fill-requires : tie.Need-fill-requires
 fill-requires c κs = search needs
@@ -29,8 +29,8 @@ returns : tie.Need-returns
 returns c =
     (held-is (c .answer .result) (c .answer .ok) ∙ c .answer .ensures, (c .before .before .before .before .before .before .before .before .fill .ensures, (c .before .before .before .before .before .fill2 .ensures, c .before .before .fill3 .ensures)))
 
-pub refuse-classes-spec : {M : Type 1} → statement M
-refuse-classes-spec =
+pub refuse-three-spec : {M : Type 1} → statement M
+refuse-three-spec =
     tie.close
     (tie.spec
     fill-requires

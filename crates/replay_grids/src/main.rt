@@ -16,7 +16,7 @@ fn judge(function: usize, altered: bool, line: &[u8]) -> Verdict {
     if count < 1 {
         return Verdict::Unread;
     }
-    if function <= matrices::SAME_GRID {
+    if function >= matrices::SNF3X3 {
         return matrices::judge(function, &n[..count]);
     }
     if function == pairs::WORST_PAIR {
@@ -50,6 +50,7 @@ fn main() {
     replay_file(outputs::IR_GRID_MAP, b"ir_grid_map");
     replay_file(outputs::ALL_GRID_ADDRESSES, b"all_grid_addresses");
     replay_file(matrices::SNF3X3, b"snf3x3");
+    replay_file(matrices::SMITH3X3, b"smith3x3");
     replay_file(matrices::SAME_GRID, b"same_grid");
     replay_file(pairs::WORST_PAIR, b"worst_pair");
     replay_file(outputs::TRANSFORM_ROTATIONS, b"transform_rotations");

@@ -4,11 +4,23 @@ use vectors::Verdict;
 use vectors::compared::Compared;
 use vectors::slices;
 
-pub const SNF3X3: usize = 0;
+// The functions of this file have the numbers from 20 on, those of the other files lower ones.
+pub const SNF3X3: usize = 20;
 
-pub const SAME_GRID: usize = 1;
+pub const SMITH3X3: usize = 21;
 
-// The matrix, the answer, three outputs and the number of rounds.
+pub const SAME_GRID: usize = 22;
+
+// After the matrix: the answer and three outputs.
+fn compared(answer: i64, d: &[i64], p: &[i64], q: &[i64], n: &[i64]) -> Compared {
+    Compared::To(slices::after_slices(n, 1))
+        .number(answer, n)
+        .output(d, n)
+        .output(p, n)
+        .output(q, n)
+}
+
+// The number of rounds stands last.
 fn snf3x3(n: &[i64]) -> Verdict {
     let a = slices::slice_after(n, 0);
     let mut d = [UNWRITTEN; 3];
@@ -16,13 +28,16 @@ fn snf3x3(n: &[i64]) -> Verdict {
     let mut q = [UNWRITTEN; 9];
     let mut told = [UNWRITTEN; 1];
     let answer = zone_c::zone_snf3x3(a, &mut d, &mut p, &mut q, &mut told);
-    Compared::To(slices::after_slices(n, 1))
-        .number(answer, n)
-        .output(&d, n)
-        .output(&p, n)
-        .output(&q, n)
-        .numbers(&told, n)
-        .verdict(n)
+    compared(answer, &d, &p, &q, n).numbers(&told, n).verdict(n)
+}
+
+fn smith3x3(n: &[i64]) -> Verdict {
+    let a = slices::slice_after(n, 0);
+    let mut d = [UNWRITTEN; 3];
+    let mut p = [UNWRITTEN; 9];
+    let mut q = [UNWRITTEN; 9];
+    let answer = zone_c::zone_smith3x3(a, &mut d, &mut p, &mut q);
+    compared(answer, &d, &p, &q, n).verdict(n)
 }
 
 // Two matrices, the answer and what was told.
@@ -38,8 +53,9 @@ fn same_grid(n: &[i64]) -> Verdict {
 }
 
 pub fn judge(function: usize, n: &[i64]) -> Verdict {
-    if function == SNF3X3 {
-        return snf3x3(n);
+    match function {
+        SNF3X3 => snf3x3(n),
+        SMITH3X3 => smith3x3(n),
+        _ => same_grid(n),
     }
-    same_grid(n)
 }

@@ -28,6 +28,7 @@ pub mod refusals;
 pub mod rotate_bz_grid_index;
 pub mod rows;
 pub mod same_grid;
+pub mod smith3x3;
 pub mod snf3x3;
 pub mod tests;
 pub mod transform_rotations;

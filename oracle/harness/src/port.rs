@@ -3,8 +3,10 @@
 //! to both: that is proved there, so the wrappers ask nothing of their callers.
 #![allow(clippy::too_many_arguments)]
 
+mod matrices;
 mod triplets;
 
+pub use matrices::*;
 pub use triplets::*;
 
 extern "C" {
@@ -67,26 +69,6 @@ extern "C" {
         told_len: usize,
     ) -> i64;
     fn zone_all_grid_addresses(d: *const i64, d_len: usize, out: *mut i64, out_len: usize) -> i64;
-    fn zone_snf3x3(
-        a: *const i64,
-        a_len: usize,
-        d: *mut i64,
-        d_len: usize,
-        p: *mut i64,
-        p_len: usize,
-        q: *mut i64,
-        q_len: usize,
-        told: *mut i64,
-        told_len: usize,
-    ) -> i64;
-    fn zone_same_grid(
-        a: *const i64,
-        a_len: usize,
-        b: *const i64,
-        b_len: usize,
-        told: *mut i64,
-        told_len: usize,
-    ) -> i64;
     fn zone_worst_pair(limit: i64, told: *mut i64, told_len: usize) -> i64;
     fn zone_transform_rotations(
         rotations: *const i64,
@@ -306,36 +288,6 @@ pub fn ir_grid_map(
 
 pub fn all_grid_addresses(d: &[i64], out: &mut [i64]) -> i64 {
     unsafe { zone_all_grid_addresses(d.as_ptr(), d.len(), out.as_mut_ptr(), out.len()) }
-}
-
-pub fn snf3x3(a: &[i64], d: &mut [i64], p: &mut [i64], q: &mut [i64], told: &mut [i64]) -> i64 {
-    unsafe {
-        zone_snf3x3(
-            a.as_ptr(),
-            a.len(),
-            d.as_mut_ptr(),
-            d.len(),
-            p.as_mut_ptr(),
-            p.len(),
-            q.as_mut_ptr(),
-            q.len(),
-            told.as_mut_ptr(),
-            told.len(),
-        )
-    }
-}
-
-pub fn same_grid(a: &[i64], b: &[i64], told: &mut [i64]) -> i64 {
-    unsafe {
-        zone_same_grid(
-            a.as_ptr(),
-            a.len(),
-            b.as_ptr(),
-            b.len(),
-            told.as_mut_ptr(),
-            told.len(),
-        )
-    }
 }
 
 pub fn worst_pair(limit: i64, told: &mut [i64]) -> i64 {

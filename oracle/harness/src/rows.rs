@@ -20,6 +20,7 @@ use crate::recip_rotations::*;
 use crate::reciprocal_group::*;
 use crate::rotate_bz_grid_index::*;
 use crate::same_grid::*;
+use crate::smith3x3::*;
 use crate::snf3x3::*;
 use crate::transform_rotations::*;
 use crate::worst_pair::*;
@@ -120,6 +121,7 @@ pub static ROWS: &[Row] = &[
     Row::call::<IrGridMap>("ir_grid_map"),
     Row::call::<AllGridAddresses>("all_grid_addresses"),
     Row::call::<Snf3x3>("snf3x3"),
+    Row::apart::<Smith3x3>("smith3x3"),
     Row::apart::<SameGrid>("same_grid"),
     Row::replayed::<WorstPair>("worst_pair"),
     Row::call::<TransformRotations>("transform_rotations"),
@@ -141,6 +143,13 @@ pub type Variant = (&'static str, fn() -> Times);
 pub static VARIANTS: &[Variant] = &[
     ("snf3x3:to_10", || {
         bench::run_on::<Snf3x3>(MatrixInput::small)
+    }),
+    ("smith3x3:to_10", || {
+        bench::run_on::<Smith3x3>(SmithInput::small)
+    }),
+    ("smith3x3:over_snf3x3", bench::run::<OverSnf3x3>),
+    ("smith3x3:over_snf3x3_to_10", || {
+        bench::run_on::<OverSnf3x3>(SmithInput::small)
     }),
     ("bz_grid_addresses:type_1", || {
         bench::run_on::<BzGridAddresses>(ImagesInput::sparse)

@@ -11,7 +11,7 @@ use crate::inputs::walks::{INSIDE, OUTSIDE, SMALLEST};
 use crate::limits::MATRIX_ENTRY;
 use crate::port;
 use crate::random::Random;
-use crate::snf3x3::{diagonalised, flat, lent, typical};
+use crate::snf3x3::{diagonalised, flat, is_diagonalised, lent, typical};
 use crate::tests::{length, matrix};
 
 #[derive(Debug)]
@@ -79,8 +79,8 @@ impl Input for PairInput {
 
     fn typical(random: &mut Random) -> PairInput {
         PairInput {
-            a: typical(random, &matrices::SIZES),
-            b: typical(random, &matrices::SIZES),
+            a: typical(random, &matrices::SIZES, is_diagonalised),
+            b: typical(random, &matrices::SIZES, is_diagonalised),
         }
     }
 

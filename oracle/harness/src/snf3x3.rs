@@ -18,10 +18,15 @@ use crate::tests::{length, limit, matrix};
 /// The Rust's own answer.
 pub fn diagonalised(a: MatI) -> Result<Diagonalised, i64> {
     limit(matrices::is_within(&a, MATRIX_ENTRY))?;
-    counted(|| snf3x3(a))?.map_err(|error| match error {
+    counted(|| snf3x3(a))?.map_err(number)
+}
+
+/// The refusal of an error.
+pub fn number(error: Snf3x3Error) -> i64 {
+    match error {
         Snf3x3Error::Singular => SINGULAR,
         Snf3x3Error::NotConverged => NOT_CONVERGED,
-    })
+    }
 }
 
 /// The rounds of a matrix that the Rust diagonalises: its walk again, from its own
@@ -39,7 +44,7 @@ fn rounds(a: MatI, answer: &Diagonalised) -> i64 {
 
 /// Whether the Rust diagonalises a matrix, told in every build: where overflow is
 /// not checked, it answers wrong numbers.
-fn is_diagonalised(a: MatI) -> bool {
+pub fn is_diagonalised(a: MatI) -> bool {
     matches!(counted(|| snf3x3_measured::snf3x3(a)), Ok(Ok(_)))
 }
 
@@ -55,12 +60,12 @@ pub fn lent(random: &mut Random, mut a: MatI) -> Vec<i64> {
     lent::fixed(random, a.as_flattened())
 }
 
-/// A diagonalised matrix of any kind, with entries of one of these sizes.
-pub fn typical(random: &mut Random, sizes: &[i64]) -> Vec<i64> {
+/// A matrix of any kind that a call accepts, with entries of one of these sizes.
+pub fn typical(random: &mut Random, sizes: &[i64], accepts: fn(MatI) -> bool) -> Vec<i64> {
     let size = random.pick(sizes);
     loop {
         let a = matrices::of_size(random, size);
-        if is_diagonalised(a) {
+        if accepts(a) {
             return flat(a);
         }
     }
@@ -75,7 +80,7 @@ impl MatrixInput {
     /// Diagonalised, with entries of size at most 10.
     pub fn small(random: &mut Random) -> MatrixInput {
         MatrixInput {
-            a: typical(random, &[10]),
+            a: typical(random, &[10], is_diagonalised),
         }
     }
 }
@@ -116,7 +121,7 @@ impl Input for MatrixInput {
 
     fn typical(random: &mut Random) -> MatrixInput {
         MatrixInput {
-            a: typical(random, &matrices::SIZES),
+            a: typical(random, &matrices::SIZES, is_diagonalised),
         }
     }
 

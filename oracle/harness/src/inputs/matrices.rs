@@ -126,6 +126,34 @@ fn diagonal(random: &mut Random, size: i64) -> MatI {
     diag([(); 3].map(|()| number(random, size)))
 }
 
+/// Numbers with common divisors on the diagonal, half of them folded: often the Rust's
+/// diagonal is not the Smith form.
+pub fn common(random: &mut Random) -> MatI {
+    let size = random.pick(&SIZES);
+    let a = diag([(); 3].map(|()| smooth_number(random, size)));
+    if random.coin() {
+        folded(random, a, size)
+    } else {
+        a
+    }
+}
+
+/// The matrix with one entry changed a little: its sign, a factor, or by 1.
+pub fn beside(random: &mut Random, mut a: MatI) -> MatI {
+    let entry = &mut a[random.below(3)][random.below(3)];
+    let factor = random.pick(&[2, 3, 5, 7, 11, 13, 17]);
+    let changed = match random.below(4) {
+        0 => -*entry,
+        1 => *entry * factor,
+        2 => *entry / factor,
+        _ => *entry + random.pick(&[-1, 1]),
+    };
+    if changed.abs() <= MATRIX_ENTRY {
+        *entry = changed;
+    }
+    a
+}
+
 pub fn diag([x, y, z]: Vec3I) -> MatI {
     [[x, 0, 0], [0, y, 0], [0, 0, z]]
 }

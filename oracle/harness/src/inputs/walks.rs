@@ -101,6 +101,32 @@ pub const OUTSIDE: [MatI; 13] = [
     ],
 ];
 
+/// Diagonalised, as the diagonal matrix of their numbers is, while the product of the
+/// two Q leaves 64 bits; that of the two P does not.
+pub const JOIN_Q: [MatI; 3] = [
+    [[0, -11616, 3400], [0, -9555, 0], [14280, 10374, 0]],
+    [[0, 9555, 0], [71400, -41496, 0], [0, -151008, -88400]],
+    [[0, 0, 7917], [0, 743886, -13464], [102102, 0, 334180]],
+];
+
+/// The same of both products. No matrix is known where that of the two P leaves them
+/// alone.
+pub const JOIN_BOTH: [MatI; 3] = [
+    [[0, 0, 134589], [0, 879138, -991848], [-102102, 0, 334180]],
+    [[0, -294840, -521703], [714714, -852720, 0], [0, -34034, 0]],
+    [[939250, 0, 644800], [0, -157794, 891072], [0, 0, 167475]],
+];
+
+/// Diagonalised to numbers of which the first does not divide the second.
+pub const UNDIVIDED: [MatI; 6] = [
+    [[6, 0, 0], [0, 10, 0], [0, 0, 15]],
+    [[4, 0, 0], [0, 0, 4], [0, -6, 0]],
+    [[-12, 0, 0], [0, 30, 0], [0, 0, -20]],
+    [[-6, -3, 4], [3, 0, 2], [-3, -6, 6]],
+    [[831600, 0, 0], [0, 831600, 0], [0, 0, 997920]],
+    [[999999, 0, 0], [0, 999999, 0], [0, 0, 1000000]],
+];
+
 /// The known matrices, and beside those next to 2^63 some that differ by 1 in an
 /// entry.
 pub fn at_limits() -> Vec<MatI> {
@@ -122,11 +148,13 @@ fn moved(mut a: MatI, place: usize, step: i64) -> MatI {
 
 #[cfg(test)]
 mod tests {
+    use phonors::common::matmul_i;
     use phonors::measured::largest;
+    use phonors::snf3x3::snf3x3;
     use phonors::{snf3x3_counted, snf3x3_measured};
 
     use super::*;
-    use crate::inputs::matrices::is_within;
+    use crate::inputs::matrices::{diag, is_within};
     use crate::limits::MATRIX_ENTRY;
     use crate::panics::counted;
 
@@ -152,6 +180,27 @@ mod tests {
     fn overflows_of_small_entries() {
         assert!(SMALLEST.iter().all(|&a| !walk(a).0));
         assert!(is_within(&SMALLEST[0], 28));
+    }
+
+    #[test]
+    fn joins() {
+        for (joins, p_leaves) in [(JOIN_Q, false), (JOIN_BOTH, true)] {
+            for a in joins {
+                let first = snf3x3(a).expect("a diagonal");
+                let second = snf3x3(diag(first.d_diag)).expect("a diagonal");
+                let p = counted(|| matmul_i(&second.p, &first.p));
+                let q = counted(|| matmul_i(&first.q, &second.q));
+                assert_eq!((p.is_err(), q.is_err()), (p_leaves, true), "{a:?}");
+            }
+        }
+    }
+
+    #[test]
+    fn diagonals_that_do_not_divide() {
+        for a in UNDIVIDED {
+            let [x, y, _] = snf3x3(a).expect("a diagonal").d_diag;
+            assert_ne!(y % x, 0, "{a:?}");
+        }
     }
 
     #[test]

@@ -127,7 +127,8 @@ enum zone_refusal {
     ZONE_SINGULAR = 1,                     /* the determinant of A is 0 */
     ZONE_NOT_CONVERGED = 2,                /* 100 rounds end without a diagonal: never given, since 82 are enough */
     ZONE_OUTSIDE_LIMITS = 3,               /* a number is outside its limits, above */
-    ZONE_OVERFLOW = 4,                     /* a number that zone_snf3x3 works out, in its order, leaves 64 bits */
+    ZONE_OVERFLOW = 4,                     /* a number that zone_snf3x3, or zone_smith3x3, works out, in its order,
+                                              leaves 64 bits */
     ZONE_SINGULAR_Q = 5,                   /* the determinant of Q is 0 */
     ZONE_SYMMETRY_BROKEN = 6,              /* a transformed entry is over 1e-5 from whole: R does not keep the grid */
     ZONE_TOO_MANY_ROTATIONS = 7,           /* a 49th distinct rotation */
@@ -154,11 +155,20 @@ enum zone_refusal {
 #define ZONE_JOB_LENGTH 8192                 /* of the longest job file, in bytes */
 #define ZONE_TEXT_LENGTH 6940                /* no listing is longer, in bytes */
 
-/* A made diagonal: P·A·Q = diag(d), det P = 1, det Q = 1 or -1. The diagonal is not always the Smith form:
- * diag(2,2,3) gives 2 1 6. In: a[9]. Out: d[3], p[9], q[9], told[1]: the rounds, at most 82. Refusals: 13, 3, 1, 4; of
- * random matrices 4 meets 1 of 10,000 with entries up to 100, and 7 of 100 with entries up to 1,000. */
+/* A made diagonal: P·A·Q = diag(d), det P = 1, det Q = 1 or -1. The diagonal is not always the Smith form
+ * (zone_smith3x3): diag(2,2,3) gives 2 1 6. In: a[9]. Out: d[3], p[9], q[9], told[1]: the rounds, at most 82.
+ * Refusals: 13, 3, 1, 4; of random matrices 4 meets 1 of 10,000 with entries up to 100, and 7 of 100 with entries up to
+ * 1,000. */
 int64_t zone_snf3x3(const int64_t *a, size_t a_len, int64_t *d, size_t d_len, int64_t *p, size_t p_len, int64_t *q,
                     size_t q_len, int64_t *told, size_t told_len);
+
+/* The Smith form of A, for tables of invariant factors: P·A·Q = diag(d), d0 divides d1 and d1 divides d2, all three
+ * positive; det P = 1, det Q = 1 or -1 as det A is positive or negative. No other such diagonal can be made of A.
+ * diag(2,2,3) gives 1 2 6. P and Q are not the only ones: they are those of zone_snf3x3 on A and on the diagonal that
+ * it gives, multiplied. In: a[9]. Out: d[3], p[9], q[9]. Refusals: 13, 3, 1, 4: that of either walk, or a number of
+ * one of the two products that leaves 64 bits. */
+int64_t zone_smith3x3(const int64_t *a, size_t a_len, int64_t *d, size_t d_len, int64_t *p, size_t p_len, int64_t *q,
+                      size_t q_len);
 
 /* Whether zone_snf3x3 gives a[9] and b[9] the same d: told[1] is 1 or 0. Refusals: 13, then those of zone_snf3x3 for
  * a, then for b. */

@@ -61,7 +61,7 @@ returns-2 c =
     let l = r .before .before .loop in
     let o = r .round .result in
     let e = flag-on (o .left .fits) (c .before .before .before .if1 .left) in
-    let told : c .answer .result ≡ written (answer (l .n + 1) (tripleOf (c .before .finalize .result))) = search needs in
+    let told : c .answer .result ≡ written (answer (l .n + 1) (tripleOf (c .before .finalize .result))) = c .answer .ensures ∙ ap (λ (k : ℕ). written (answer k (tripleOf (c .before .finalize .result)))) (omega arith) in
     told ∙ (λ i. written (answer (add-one (l .n) i) ((c .before .finalize .ensures ∙ ap (λ (b : Bool). provided b (threeOf (o .left)) then finalize) e) i)))
     ∙ sym (ap written (l .inv .2 ∙ through (99 - l .n) (l .n) (left r) (threeOf (l .t)) (fitting (o .left .fits)) (o .done) (threeOf (o .left)) (made r) e (c .before .before .if2 .taken)))
 

@@ -8,6 +8,7 @@ ghost use lib.Dec.{T, leb};
 ghost use lib.IntN.{negℤ, _+ℤ_, _-ℤ_};
 ghost use Rattle.integer.specs.Checked.{fits64};
 ghost use Rattle.common.specs.Matrix.{allAxes, entries, transpose, negate, _·_, det, cross, expand, minors, vector, integers};
+ghost use Rattle.common.specs.Limits.{matrixWithin};
 ghost use Rattle.common.specs.Array.{along, items, matrixOf, rows, rowAt, columnAt, matrixAt, dotOf};
 ghost use Rattle.common.specs.IntegerMatrix.{productsFit, dotFits, productFits, crossFits, expandFits, minorsFit, detFits, negationFits, larger, largestOf, largest};
 
@@ -162,7 +163,7 @@ fn row_fits(a: [i64; 3], p: [i64; 3], q: [i64; 3], r: [i64; 3]) -> bool
 }
 
 // One after the other.
-pub fn rows_fit(a: [[i64; 3]; 3], b: [[i64; 3]; 3]) -> bool
+fn rows_fit(a: [[i64; 3]; 3], b: [[i64; 3]; 3]) -> bool
     ensures { λ r. ⌜ r ≡ productFits (matrixOf a) (matrixOf b) ⌝ }
 {
     let x = a[0];
@@ -176,6 +177,29 @@ pub fn rows_fit(a: [[i64; 3]; 3], b: [[i64; 3]; 3]) -> bool
         row_fits(y, p, q, r),
         row_fits(z, p, q, r),
     )
+}
+
+fn sizes_within(a: [[i64; 3]; 3], x: u64, b: [[i64; 3]; 3], y: u64) -> bool
+    ensures { λ r. ⌜ r ≡ matrixWithin x (matrixOf a) && matrixWithin y (matrixOf b) ⌝ }
+{
+    if !common::matrix_within(a, x) {
+        return false;
+    }
+    common::matrix_within(b, y)
+}
+
+// Three products of numbers of such sizes add up to less than 2^63; only where the sizes leave it open is each number tested.
+// The second pair is that of a step on entries up to 2·10^12 by multiples up to 10^6.
+pub fn product_fits(a: [[i64; 3]; 3], b: [[i64; 3]; 3]) -> bool
+    ensures { λ r. ⌜ r ≡ productFits (matrixOf a) (matrixOf b) ⌝ }
+{
+    if sizes_within(a, 0x3fff_ffff, b, 0x3fff_ffff) {
+        return true;
+    }
+    if sizes_within(a, 0xf_ffff, b, 0x1ff_ffff_ffff) {
+        return true;
+    }
+    rows_fit(a, b)
 }
 
 // Two products from the left. Only where the sizes leave it open is each number tested.

@@ -38,7 +38,7 @@ fn product(l: [i64; 9], r: [i64; 9]) -> Joined
 {
     let a = integer_matrix::nested(l);
     let b = integer_matrix::nested(r);
-    if !integer_matrix::rows_fit(a, b) {
+    if !integer_matrix::product_fits(a, b) {
         return Joined {
             fits: false,
             m: [-1; 9],

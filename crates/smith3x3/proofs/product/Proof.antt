@@ -18,8 +18,8 @@ use Rattle.smith3x3.proofs.product.Tie as tie
 abbrev by : (l m : Mat ℤ) (t : Bool) → Joined
 by l m t = record { fits = t; m = pick t (entries (l · m) []) (replicate 9 (negsuc 0)) }
 
-tested : (c : tie.After-rows-fit) → let z = c .before .before .before in c .rows-fit .result ≡ productFits (matrixAt (z .args .l) 0) (matrixAt (z .args .r) 0)
-tested c = c .rows-fit .ensures ∙ (λ i. productFits (matrixOf (c .before .before .nested .ensures i)) (matrixOf (c .before .nested2 .ensures i)))
+tested : (c : tie.After-product-fits) → let z = c .before .before .before in c .product-fits .result ≡ productFits (matrixAt (z .args .l) 0) (matrixAt (z .args .r) 0)
+tested c = c .product-fits .ensures ∙ (λ i. productFits (matrixOf (c .before .before .nested .ensures i)) (matrixOf (c .before .nested2 .ensures i)))
 
 nested-requires : tie.Need-nested-requires
 nested-requires c κs = search needs
@@ -27,8 +27,8 @@ nested-requires c κs = search needs
 nested-requires-2 : tie.Need-nested-requires-2
 nested-requires-2 c κs = search needs
 
-rows-fit-requires : tie.Need-rows-fit-requires
-rows-fit-requires c κs = search needs
+product-fits-requires : tie.Need-product-fits-requires
+product-fits-requires c κs = search needs
 
 returns : tie.Need-returns
 returns c =
@@ -37,7 +37,7 @@ returns c =
     ap (by (matrixAt (z .args .l) 0) (matrixAt (z .args .r) 0)) (sym (no (tested t) (c .if1 .taken)))
 
 matmul-i-requires : tie.Need-matmul-i-requires
-matmul-i-requires c κs = holds (yes (c .before .rows-fit .ensures) (c .if1 .left))
+matmul-i-requires c κs = holds (yes (c .before .product-fits .ensures) (c .if1 .left))
 
 flat-requires : tie.Need-flat-requires
 flat-requires c κs = search needs
@@ -56,7 +56,7 @@ product-spec =
     (tie.spec
     nested-requires
     nested-requires-2
-    rows-fit-requires
+    product-fits-requires
     returns
     matmul-i-requires
     flat-requires

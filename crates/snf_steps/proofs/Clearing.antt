@@ -188,7 +188,7 @@ pub record SecondCleared (s t : Pair) : Type 0 where
   pub nonzero : zero < natAbs (t .a .e)
   pub h0 : t .a .h ≡ pos 0
 
-of-zeros : (x y : ℤ) {p q : ℤ} → p ≡ pos 0 → q ≡ pos 0 → x *ℤ p +ℤ y *ℤ q ≡ pos 0
+pub of-zeros : (x y : ℤ) {p q : ℤ} → p ≡ pos 0 → q ≡ pos 0 → x *ℤ p +ℤ y *ℤ q ≡ pos 0
 of-zeros x y e f = ap₂ (λ p q. x *ℤ p +ℤ y *ℤ q) e f ∙ ring (x ∷ y ∷ []) (search reify depth 40) tt
 
 zero-below-second : (s t : Pair) → SecondPivoted s t → Accepted (SecondCleared s) (zeroSecondColumn t)

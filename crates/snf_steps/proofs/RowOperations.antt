@@ -3,14 +3,14 @@ use mathlib.Core.Path.{_≡_, _∙_, ap}
 use mathlib.Core.List.{[], _∷_}
 use Prim.Native.Nat.{ℕ}
 use lib.IntN.{ℤ, pos, negℤ, natAbs, _+ℤ_, _*ℤ_}
-use Rattle.integer.proofs.Polynomial.{Expr, var, con}
+use Rattle.integer.proofs.Polynomial.{Expr, var, con, neg}
 use Rattle.integer.proofs.Reify.{ring, reify}
 use Rattle.common.specs.Matrix.{Axis, X, Y, Z, Mat, entry, entries, mapMat, Ops, integers, _·_, det}
 use Rattle.common.specs.Array.{matrixOf}
 use Rattle.common.proofs.Matrix.{expressions, atoms, 𝔸, _⊡_, solveMat}
 use Rattle.common.proofs.Unimodular.{Unimodular}
 use Rattle.snf_steps.specs.Elementary as elementary
-use Rattle.snf_steps.specs.Elementary.{elementarySwapRows, belowFirst, belowSecond}
+use Rattle.snf_steps.specs.Elementary.{elementarySwapRows, elementaryFlipSignRow, elementaryAddRows, belowFirst, belowSecond}
 use Rattle.snf_steps.proofs.Bezout.{Bezout}
 
 -- rows i and j become s·i + t·j and u·j - v·i
@@ -76,6 +76,34 @@ module _ (m : Mat ℤ) where
   pub swap-12 : matrixOf (elementarySwapRows 1 2) · m ≡ stack (entry m X) (entry m Z) (entry m Y)
   swap-12 = solveMat (entries m []) (constant (matrixOf (elementarySwapRows 1 2)) ⊡ 𝔸) (stack (entry 𝔸 X) (entry 𝔸 Z) (entry 𝔸 Y)) tt
 
+  pub flip-0 : matrixOf (elementaryFlipSignRow 0) · m ≡ stack (λ k. negℤ (entry m X k)) (entry m Y) (entry m Z)
+  flip-0 = solveMat (entries m []) (constant (matrixOf (elementaryFlipSignRow 0)) ⊡ 𝔸) (stack (λ k. neg (entry 𝔸 X k)) (entry 𝔸 Y) (entry 𝔸 Z)) tt
+
+  pub flip-1 : matrixOf (elementaryFlipSignRow 1) · m ≡ stack (entry m X) (λ k. negℤ (entry m Y k)) (entry m Z)
+  flip-1 = solveMat (entries m []) (constant (matrixOf (elementaryFlipSignRow 1)) ⊡ 𝔸) (stack (entry 𝔸 X) (λ k. neg (entry 𝔸 Y k)) (entry 𝔸 Z)) tt
+
+  pub flip-2 : matrixOf (elementaryFlipSignRow 2) · m ≡ stack (entry m X) (entry m Y) (λ k. negℤ (entry m Z k))
+  flip-2 = solveMat (entries m []) (constant (matrixOf (elementaryFlipSignRow 2)) ⊡ 𝔸) (stack (entry 𝔸 X) (entry 𝔸 Y) (λ k. neg (entry 𝔸 Z k))) tt
+
+module _ (x : ℤ) (m : Mat ℤ) where
+  pub add-01 : matrixOf (elementaryAddRows 0 1 x) · m ≡ stack (plusTimes integers x (entry m Y) (entry m X)) (entry m Y) (entry m Z)
+  add-01 =
+      let M = atoms 1 in
+      solveMat (x ∷ entries m []) (record { a = oneE; b = var 0; c = zeroE; d = zeroE; e = oneE; f = zeroE; g = zeroE; h = zeroE; i = oneE } ⊡ M)
+      (stack (plusTimes expressions (var 0) (entry M Y) (entry M X)) (entry M Y) (entry M Z)) tt
+
+  pub add-02 : matrixOf (elementaryAddRows 0 2 x) · m ≡ stack (plusTimes integers x (entry m Z) (entry m X)) (entry m Y) (entry m Z)
+  add-02 =
+      let M = atoms 1 in
+      solveMat (x ∷ entries m []) (record { a = oneE; b = zeroE; c = var 0; d = zeroE; e = oneE; f = zeroE; g = zeroE; h = zeroE; i = oneE } ⊡ M)
+      (stack (plusTimes expressions (var 0) (entry M Z) (entry M X)) (entry M Y) (entry M Z)) tt
+
+  pub add-12 : matrixOf (elementaryAddRows 1 2 x) · m ≡ stack (entry m X) (plusTimes integers x (entry m Z) (entry m Y)) (entry m Z)
+  add-12 =
+      let M = atoms 1 in
+      solveMat (x ∷ entries m []) (record { a = oneE; b = zeroE; c = zeroE; d = zeroE; e = oneE; f = var 0; g = zeroE; h = zeroE; i = oneE } ⊡ M)
+      (stack (entry M X) (plusTimes expressions (var 0) (entry M Z) (entry M Y)) (entry M Z)) tt
+
 pub below-first : (u v : ℤ) (m : Mat ℤ) → matrixOf (belowFirst u v) · m ≡ stack (entry m X) (plusTimes integers u (entry m X) (entry m Y)) (plusTimes integers v (entry m X) (entry m Z))
 below-first u v m =
     let M = atoms 2 in
@@ -108,6 +136,25 @@ module _ {a b : ℤ} (z : Bezout a b) where
 
   pub unimodular-12 : Unimodular (combiningBy 1 2 z)
   unimodular-12 = record { unit = ap natAbs (det-12 (z .s) (z .t) (z .u) (z .v) ∙ z .one) }
+
+module _ (x : ℤ) where
+  det-add-01 : det (matrixOf (elementaryAddRows 0 1 x)) ≡ pos 1
+  det-add-01 = ring (x ∷ []) (search reify depth 60 fits 100000) tt
+
+  det-add-02 : det (matrixOf (elementaryAddRows 0 2 x)) ≡ pos 1
+  det-add-02 = ring (x ∷ []) (search reify depth 60 fits 100000) tt
+
+  det-add-12 : det (matrixOf (elementaryAddRows 1 2 x)) ≡ pos 1
+  det-add-12 = ring (x ∷ []) (search reify depth 60 fits 100000) tt
+
+  pub unimodular-add-01 : Unimodular (matrixOf (elementaryAddRows 0 1 x))
+  unimodular-add-01 = record { unit = ap natAbs det-add-01 }
+
+  pub unimodular-add-02 : Unimodular (matrixOf (elementaryAddRows 0 2 x))
+  unimodular-add-02 = record { unit = ap natAbs det-add-02 }
+
+  pub unimodular-add-12 : Unimodular (matrixOf (elementaryAddRows 1 2 x))
+  unimodular-add-12 = record { unit = ap natAbs det-add-12 }
 
 pub unimodular-below-first : (u v : ℤ) → Unimodular (matrixOf (belowFirst u v))
 unimodular-below-first u v = record { unit = ap natAbs (law u v) }

@@ -61,12 +61,12 @@ moves-then {s} m n = record {
 }
 
 -- ---- the matrix that makes b 0 is that of the gcd and the exact quotients
-record Combines (i j : ℕ) (a b : ℤ) (c : Combination) : Type 0 where
-  by : Bezout a b
-  is : combinationMatrix i j c ≡ combiningBy i j by
-  sign : (by .gcd ≡ b) ⊎ NonNeg (by .gcd)
+pub record Combines (i j : ℕ) (a b : ℤ) (c : Combination) : Type 0 where
+  pub by : Bezout a b
+  pub is : combinationMatrix i j c ≡ combiningBy i j by
+  pub sign : (by .gcd ≡ b) ⊎ NonNeg (by .gcd)
 
-combination-does : (i j : ℕ) (a b : ℤ) → zero < natAbs b → natAbs b ≤ 2 ^ 63 → Accepted (Combines i j a b) (extendedGcd a b then combination a b)
+pub combination-does : (i j : ℕ) (a b : ℤ) → zero < natAbs b → natAbs b ≤ 2 ^ 63 → Accepted (Combines i j a b) (extendedGcd a b then combination a b)
 unfolding bezout
 combination-does i j a b h hb =
     accepted-bind _ (accepted-both (extended-gcd a b hb) (gcd-sign a b h)) (λ e both.

@@ -29,6 +29,10 @@ elementaryFlipSignRow i = put i i (negsuc 0) unit
 abbrev pub elementaryDisturbRows : ℕ → ℕ → List (List ℤ)
 elementaryDisturbRows i j = put i j (pos 1) unit
 
+-- x times row j, added to row i
+abbrev pub elementaryAddRows : ℕ → ℕ → ℤ → List (List ℤ)
+elementaryAddRows i j x = put i j x unit
+
 -- what `first_finalize` and `second_finalize` add of the pivot's row to the rows below
 abbrev pub belowFirst : ℤ → ℤ → List (List ℤ)
 belowFirst u v = put 2 0 v (put 1 0 u unit)

@@ -78,7 +78,7 @@ fn no_combination() -> Combination
 }
 
 // So that b becomes 0 by a, and a their gcd.
-fn combined(a: i64, b: i64) -> Combination
+pub fn combined(a: i64, b: i64) -> Combination
     ensures { λ r. ⌜ combinationOf r ≡ (extendedGcd a b then columns.combination a b) ⌝ }
 {
     let Division::Done(g) = gcd::extended_gcd(a, b) else {

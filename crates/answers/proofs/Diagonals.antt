@@ -1,5 +1,5 @@
 -- What the exports of snf3x3 and smith3x3 answer and leave, by their branches.
-use mathlib.Core.Path.{_≡_, _∙_, ap, ap₂}
+use mathlib.Core.Path.{_≡_, _∙_, ap}
 use mathlib.Core.Bool.{Bool, true, false, _&&_}
 use mathlib.Core.List.{List, [], _∷_}
 use Prim.Native.Nat.{ℕ}
@@ -12,15 +12,13 @@ use Rattle.common.specs.Refusal.{numberOf}
 use Rattle.common.specs.Tested.{answerOf}
 use Rattle.common.specs.Array.{matrixOf, rows, matrixAt}
 use Rattle.snf3x3.specs.declared.Snf.{Snf}
-use Rattle.snf3x3.specs.declared.SameGrid.{SameGrid}
 use Rattle.snf3x3.specs.Snf3x3.{snf3x3}
 use Rattle.snf3x3.specs.Written.{written}
-use Rattle.snf3x3.specs.SameGrid.{sameGrid}
 use Rattle.smith3x3.specs.declared.Smith.{Smith}
 use Rattle.smith3x3.specs.Smith3x3.{smith3x3}
 use Rattle.smith3x3.specs.Written as smith
 use Rattle.answers.specs.Diagonals.{Diagonalised, DiagonalTold, resultLengths, diagonalLengths, diagonalisation, ofSnf, Snf3x3Told}
-use Rattle.answers.specs.Diagonals.{smithLengths, smithForm, ofSmith, Smith3x3Told, sameLengths, sameNumber, sameTold, comparison, SameGridTold}
+use Rattle.answers.specs.Diagonals.{smithLengths, smithForm, ofSmith, Smith3x3Told}
 use Rattle.answers.proofs.Lengths.{taken, left, both, three-lengths}
 
 module _ (a d p q told : ℕ) (e : diagonalLengths a d p q told ≡ true) where
@@ -85,18 +83,3 @@ module _ (a : List ℤ) (nd np nq nt : ℕ) {r : ℤ} {d p q told : List ℤ} wh
 pub smith-passed : (a : List ℤ) (nd np nq : ℕ) {r : ℤ} {d p q : List ℤ} → smithLengths (length a) nd np nq ≡ true → {m : List (List ℤ)} {t : Smith} → m ≡ rows (matrixAt a 0)
     → t ≡ smith.written (smith3x3 (matrixOf m)) → r ≡ answerOf (t .tested) → d ≡ t .«d_diag» → p ≡ t .p → q ≡ t .q → Smith3x3Told a nd np nq r d p q
 smith-passed a nd np nq e em es = told-passed (ofSmith (smithForm a)) nd np nq e (ap ofSmith (es ∙ ap (λ m. smith.written (smith3x3 (matrixOf m))) em))
-
-module _ (a b : List ℤ) (n : ℕ) {r : ℤ} {told : List ℤ} where
-  pub same-unsized : sameLengths (length a) (length b) n ≡ false → r ≡ pos (numberOf WrongLength) → told ≡ unwritten n → SameGridTold a b n r told
-  same-unsized e er et = record {
-    answer = er ∙ left (sameNumber (comparison a b)) (pos (numberOf WrongLength)) e;
-    value = et ∙ left (sameTold (comparison a b)) (unwritten n) e;
-  }
-
-  pub same-passed : sameLengths (length a) (length b) n ≡ true → {l m : List (List ℤ)} {t : SameGrid} → l ≡ rows (matrixAt a 0) → m ≡ rows (matrixAt b 0)
-      → t ≡ sameGrid (snf3x3 (matrixOf l)) (snf3x3 (matrixOf m)) → r ≡ sameNumber t → told ≡ sameTold t → SameGridTold a b n r told
-  same-passed e el em es er et =
-      let same : _ ≡ comparison a b = es ∙ ap₂ (λ l m. sameGrid (snf3x3 (matrixOf l)) (snf3x3 (matrixOf m))) el em in record {
-        answer = er ∙ ap sameNumber same ∙ taken (sameNumber (comparison a b)) (pos (numberOf WrongLength)) e;
-        value = et ∙ ap sameTold same ∙ taken (sameTold (comparison a b)) (unwritten n) e;
-      }

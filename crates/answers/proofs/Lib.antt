@@ -3,6 +3,7 @@ pub mod Copied
 pub mod Grids
 pub mod GroupAnswers
 pub mod Diagonals
+pub mod Forms
 pub mod Transforms
 pub mod ImageTables
 pub mod TripletClasses

@@ -13,11 +13,8 @@ use Rattle.common.specs.declared.Tested.{Tested}
 use Rattle.common.specs.Tested.{answerOf}
 use Rattle.common.specs.Array.{matrixAt}
 use Rattle.snf3x3.specs.declared.Snf.{Snf}
-use Rattle.snf3x3.specs.declared.SameGrid.{SameGrid}
-use Rattle.snf3x3.specs.declared.SameGrid.the-variants.{Same, Different, Refused}
 use Rattle.snf3x3.specs.Snf3x3.{snf3x3}
 use Rattle.snf3x3.specs.Written.{written}
-use Rattle.snf3x3.specs.SameGrid.{sameGrid}
 use Rattle.smith3x3.specs.declared.Smith.{Smith}
 use Rattle.smith3x3.specs.Smith3x3.{smith3x3}
 use Rattle.smith3x3.specs.Written as smith
@@ -70,28 +67,3 @@ ofSmith s = record { tested = s .tested; diagonal = s .«d_diag»; left = s .p; 
 
 abbrev pub Smith3x3Told : (a : List ℤ) (nd np nq : ℕ) (r : ℤ) (d p q : List ℤ) → Type 0
 Smith3x3Told a nd np nq r d p q = DiagonalTold (smithLengths (length a) nd np nq) (ofSmith (smithForm a)) nd np nq r d p q
-
--- ---- two matrices
-abbrev pub sameNumber : SameGrid → ℤ
-sameNumber Same = pos 0
-sameNumber Different = pos 0
-sameNumber (Refused r) = pos (numberOf r)
-
--- in the one place of `told`
-abbrev pub sameTold : SameGrid → List ℤ
-sameTold Same = pos 1 ∷ []
-sameTold Different = pos 0 ∷ []
-sameTold (Refused r) = negsuc 0 ∷ []
-
--- of the two matrices and `told`
-abbrev pub sameLengths : ℕ → ℕ → ℕ → Bool
-sameLengths a b told = eqb a 9 && (eqb b 9 && eqb told 1)
-
--- of the matrices that stand in two lists
-abbrev pub comparison : List ℤ → List ℤ → SameGrid
-comparison a b = sameGrid (snf3x3 (matrixAt a 0)) (snf3x3 (matrixAt b 0))
-
--- the answer r and `told`, which had n places
-pub record SameGridTold (a b : List ℤ) (n : ℕ) (r : ℤ) (told : List ℤ) : Type 0 where
-  pub answer : r ≡ pick (sameLengths (length a) (length b) n) (sameNumber (comparison a b)) (pos (numberOf WrongLength))
-  pub value : told ≡ pick (sameLengths (length a) (length b) n) (sameTold (comparison a b)) (replicate n (negsuc 0))

@@ -1,13 +1,12 @@
 // Of the diagonalising.
 use common::Tested;
 use smith3x3::Smith;
-use snf3x3::SameGrid;
 use snf3x3::Snf;
 ghost use mathlib.Core.Path.{_≡_};
 ghost use mathlib.Core.List.{[], _∷_};
 ghost use lib.ListN.{length};
 ghost use Rattle.common.specs.Tested.{answerOf};
-ghost use Rattle.answers.specs.Diagonals.{resultLengths, diagonalLengths, smithLengths, sameNumber, sameTold};
+ghost use Rattle.answers.specs.Diagonals.{resultLengths, diagonalLengths, smithLengths};
 
 fn result_lengths(d: usize, p: usize, q: usize) -> bool
     ensures { λ r. ⌜ r ≡ resultLengths d p q ⌝ }
@@ -27,7 +26,7 @@ pub fn smith_lengths(a: usize, d: usize, p: usize, q: usize) -> bool
     a == 9 && result_lengths(d, p, q)
 }
 
-fn outcome_number(t: Tested) -> i64
+pub fn outcome_number(t: Tested) -> i64
     ensures { λ r. ⌜ r ≡ answerOf t ⌝ }
 {
     match t {
@@ -36,7 +35,7 @@ fn outcome_number(t: Tested) -> i64
     }
 }
 
-fn copy(from: &[i64], out: &mut [i64])
+pub fn copy(from: &[i64], out: &mut [i64])
     requires { ⌜ length (now from) ≡ length (now out) ⌝ }
     ensures { λ _. ⌜ now (out .exit) ≡ now (from .entry) ⌝ }
 {
@@ -96,25 +95,4 @@ pub fn tell_smith(s: Smith, d: &mut [i64], p: &mut [i64], q: &mut [i64]) -> i64
     copy_three(diagonal, left, right, d, p, q);
     let t = s.tested;
     outcome_number(t)
-}
-
-pub fn tell_same(answer: SameGrid, told: &mut [i64]) -> i64
-    requires { ⌜ length (now told) ≡ 1 ⌝ }
-    ensures { λ r. ⌜ r ≡ sameNumber answer ⌝ }
-    ensures { λ _. ⌜ now (told .exit) ≡ sameTold answer ⌝ }
-{
-    match answer {
-        SameGrid::Same => {
-            told[0] = 1;
-            0
-        }
-        SameGrid::Different => {
-            told[0] = 0;
-            0
-        }
-        SameGrid::Refused(r) => {
-            told[0] = -1;
-            r.answer()
-        }
-    }
 }

@@ -1,5 +1,6 @@
 // How the answer of a call is told: a number, and what stands in the caller's slices.
 mod diagonal;
+mod form;
 mod grid;
 mod images;
 mod pair;
@@ -11,8 +12,11 @@ use common::Refusal;
 pub use diagonal::diagonal_lengths;
 pub use diagonal::smith_lengths;
 pub use diagonal::tell_diagonal;
-pub use diagonal::tell_same;
 pub use diagonal::tell_smith;
+pub use form::form_lengths;
+pub use form::tell_form;
+pub use form::tell_order;
+pub use form::tell_same;
 pub use grid::class_lengths;
 pub use grid::tell_classes;
 pub use images::image_lengths;

@@ -1,5 +1,4 @@
 pub mod Passes
-pub mod Comparing
 pub mod Diagonal
 pub mod FailedRound
 pub mod FewRounds

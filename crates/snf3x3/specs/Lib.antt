@@ -1,4 +1,3 @@
 pub mod Snf3x3
 pub mod Written
 pub mod FewRounds
-pub mod SameGrid

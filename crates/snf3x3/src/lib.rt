@@ -9,17 +9,13 @@ ghost use mathlib.Core.Path.{_≡_};
 ghost use mathlib.Core.Bool.{true};
 ghost use Prim.Native.Nat.{_≤_};
 ghost use lib.Dec.{T};
-ghost use Rattle.common.specs.Array.{vectorOf, matrixOf};
-ghost use Rattle.common.specs.Matrix.{sameVector};
+ghost use Rattle.common.specs.Array.{matrixOf};
 ghost use Rattle.common.specs.IntegerMatrix.{detFits};
 ghost use Rattle.snf_steps.specs.Result.{_then_, fitting};
 ghost use Rattle.snf_steps.specs.StagesView.{threeOf, tripleOf, outcomeOf};
 ghost use Rattle.snf3x3.specs.Snf3x3 as walk;
 ghost use Rattle.snf3x3.specs.Written.{written};
 ghost use Rattle.snf3x3.specs.FewRounds.{RoundsWithin};
-ghost use Rattle.snf3x3.specs.SameGrid.{sameAs, sameGrid};
-ghost use Rattle.snf3x3.specs.declared.SameGrid.the-variants as same;
-ghost use Rattle.integer.specs.Checked.{pick};
 
 // P·A·Q is the diagonal matrix of `d_diag`; `rounds` says how many passes it took.
 pub struct Snf {
@@ -130,46 +126,4 @@ pub fn snf3x3_unlimited(a: [[i64; 3]; 3]) -> Snf
         return refuse(Refusal::Overflow);
     }
     diagonalise(a)
-}
-
-// Whether two matrices make the same grid.
-pub enum SameGrid {
-    Same,
-    Different,
-    Refused(Refusal),
-}
-
-fn compared(d: [i64; 3], e: [i64; 3]) -> SameGrid
-    ensures { λ r. ⌜ r ≡ pick (sameVector (vectorOf d) (vectorOf e)) same.Same same.Different ⌝ }
-{
-    if common::same_row(d, e) {
-        SameGrid::Same
-    } else {
-        SameGrid::Different
-    }
-}
-
-// Of a matrix with the diagonal numbers d, and b.
-fn same_as(d: [i64; 3], b: [[i64; 3]; 3]) -> SameGrid
-    ensures { λ r. ⌜ r ≡ sameAs (vectorOf d) (walk.snf3x3 (matrixOf b)) ⌝ }
-{
-    let y = snf3x3(b);
-    let e = y.d_diag;
-    let t = y.tested;
-    match t {
-        Tested::Accepted => compared(d, e),
-        Tested::Refused(r) => SameGrid::Refused(r),
-    }
-}
-
-pub fn same_grid(a: [[i64; 3]; 3], b: [[i64; 3]; 3]) -> SameGrid
-    ensures { λ r. ⌜ r ≡ sameGrid (walk.snf3x3 (matrixOf a)) (walk.snf3x3 (matrixOf b)) ⌝ }
-{
-    let x = snf3x3(a);
-    let d = x.d_diag;
-    let t = x.tested;
-    match t {
-        Tested::Accepted => same_as(d, b),
-        Tested::Refused(r) => SameGrid::Refused(r),
-    }
 }

@@ -1,7 +1,6 @@
 // The exports of snf3x3 and smith3x3.
-use common::Refusal;
 ghost use lib.ListN.{length};
-ghost use Rattle.answers.specs.Diagonals.{Snf3x3Told, Smith3x3Told, SameGridTold};
+ghost use Rattle.answers.specs.Diagonals.{Snf3x3Told, Smith3x3Told};
 
 #[no_mangle]
 pub extern "C" fn zone_snf3x3(
@@ -29,18 +28,4 @@ pub extern "C" fn zone_smith3x3(a: &[i64], d: &mut [i64], p: &mut [i64], q: &mut
         return answers::refuse_three(d, p, q);
     }
     answers::tell_smith(smith3x3::smith3x3(common::matrix_at(a, 0)), d, p, q)
-}
-
-#[no_mangle]
-pub extern "C" fn zone_same_grid(a: &[i64], b: &[i64], told: &mut [i64]) -> i64
-    ensures { λ r. ⌜ SameGridTold (now (a .entry)) (now (b .entry)) (length (now (told .entry))) r (now (told .exit)) ⌝ }
-{
-    if !common::all_three(a.len() == 9, b.len() == 9, told.len() == 1) {
-        common::fill(told, -1);
-        return Refusal::WrongLength.answer();
-    }
-    answers::tell_same(
-        snf3x3::same_grid(common::matrix_at(a, 0), common::matrix_at(b, 0)),
-        told,
-    )
 }

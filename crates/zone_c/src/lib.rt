@@ -1,5 +1,6 @@
 // The exports for C and Rust. Each answers 0, or document 01's number of the refusal.
 mod diagonal;
+mod form;
 mod grid;
 mod images;
 mod list;
@@ -8,9 +9,11 @@ mod recip;
 mod transform;
 mod triplets;
 
-pub use diagonal::zone_same_grid;
 pub use diagonal::zone_smith3x3;
 pub use diagonal::zone_snf3x3;
+pub use form::zone_hermite3x3;
+pub use form::zone_order_forms;
+pub use form::zone_same_grid;
 pub use grid::zone_all_grid_addresses;
 pub use grid::zone_ir_grid_map;
 pub use images::zone_bz_grid_addresses;

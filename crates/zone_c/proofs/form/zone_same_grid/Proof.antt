@@ -4,10 +4,10 @@ use lib.ListN.{length}
 use Rattle.integer.proofs.Fits.{held-is}
 use Rattle.common.proofs.Tests.{yes, no}
 use Rattle.answers.proofs.Lengths.{three-lengths}
-use Rattle.answers.proofs.Diagonals.{same-unsized, same-passed}
+use Rattle.answers.proofs.Forms.{same-unsized, same-passed}
 use borrow.Author.Needs.{needs}
-use Rattle.zone_c.proofs.diagonal.zone_same_grid.Statement.{statement}
-use Rattle.zone_c.proofs.diagonal.zone_same_grid.Tie as tie
+use Rattle.zone_c.proofs.form.zone_same_grid.Statement.{statement}
+use Rattle.zone_c.proofs.form.zone_same_grid.Tie as tie
 
 all-three-requires : tie.Need-all-three-requires
 all-three-requires c κs = search needs
@@ -52,7 +52,7 @@ returns-2 c =
     let s = c .before .before .before .before .before .before .before .before in
     let t = c .before .tell-same .ensures in
     same-passed (s .args .a .now) (s .args .b .now) (length (s .args .told .now)) (yes (c .before .before .before .before .before .before .before .all-three .ensures) (c .before .before .before .before .before .before .if1 .left))
-    (c .before .before .before .before .before .matrix-at .ensures) (c .before .before .before .before .matrix-at2 .ensures) (c .before .before .before .same-grid .ensures) (held-is (c .before .tell-same .result) (c .before .tell-same .ok) ∙ t .0) (t .1)
+    (c .before .before .before .before .before .matrix-at .ensures) (c .before .before .before .before .matrix-at2 .ensures) (c .before .before .before .same-grid .ensures .0) (held-is (c .before .tell-same .result) (c .before .tell-same .ok) ∙ t .0) (t .1)
 
 pub zone-same-grid-spec : {M : Type 1} → statement M
 zone-same-grid-spec =

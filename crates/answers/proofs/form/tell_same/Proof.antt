@@ -1,10 +1,10 @@
 use mathlib.Core.Path.{sym, _∙_, ap}
 use Rattle.integer.proofs.Fits.{held-is}
-use Rattle.answers.specs.Diagonals.{sameNumber, sameTold}
+use Rattle.answers.specs.Forms.{sameNumber, sameTold}
 use Rattle.common.proofs.Stored.{stored}
 use borrow.Author.Needs.{needs}
-use Rattle.answers.proofs.diagonal.tell_same.Statement.{statement}
-use Rattle.answers.proofs.diagonal.tell_same.Tie as tie
+use Rattle.answers.proofs.form.tell_same.Statement.{statement}
+use Rattle.answers.proofs.form.tell_same.Tie as tie
 
 enum-told : tie.Need-enum-told
 enum-told c = search needs

@@ -51,6 +51,8 @@ fn main() {
     replay_file(outputs::ALL_GRID_ADDRESSES, b"all_grid_addresses");
     replay_file(matrices::SNF3X3, b"snf3x3");
     replay_file(matrices::SMITH3X3, b"smith3x3");
+    replay_file(matrices::HERMITE3X3, b"hermite3x3");
+    replay_file(matrices::ORDER_FORMS, b"order_forms");
     replay_file(matrices::SAME_GRID, b"same_grid");
     replay_file(pairs::WORST_PAIR, b"worst_pair");
     replay_file(outputs::TRANSFORM_ROTATIONS, b"transform_rotations");

@@ -8,6 +8,7 @@ use crate::extended_gcd::*;
 use crate::floats::*;
 use crate::function::Function;
 use crate::grgrid::*;
+use crate::hermite3x3::*;
 use crate::inputs::lent_classes::ClassesInput;
 use crate::inputs::lent_images::ImagesInput;
 use crate::inputs::lent_neighbours::NeighboursInput;
@@ -16,6 +17,7 @@ use crate::inputs::lent_triplets::TripletsInput;
 use crate::integers::*;
 use crate::ir_triplets_at_q::*;
 use crate::neighboring_grid_points::*;
+use crate::order_forms::*;
 use crate::recip_rotations::*;
 use crate::reciprocal_group::*;
 use crate::rotate_bz_grid_index::*;
@@ -122,6 +124,8 @@ pub static ROWS: &[Row] = &[
     Row::call::<AllGridAddresses>("all_grid_addresses"),
     Row::call::<Snf3x3>("snf3x3"),
     Row::apart::<Smith3x3>("smith3x3"),
+    Row::apart::<Hermite3x3>("hermite3x3"),
+    Row::apart::<OrderForms>("order_forms"),
     Row::apart::<SameGrid>("same_grid"),
     Row::replayed::<WorstPair>("worst_pair"),
     Row::call::<TransformRotations>("transform_rotations"),
@@ -150,6 +154,9 @@ pub static VARIANTS: &[Variant] = &[
     ("smith3x3:over_snf3x3", bench::run::<OverSnf3x3>),
     ("smith3x3:over_snf3x3_to_10", || {
         bench::run_on::<OverSnf3x3>(SmithInput::small)
+    }),
+    ("hermite3x3:to_10", || {
+        bench::run_on::<Hermite3x3>(HermiteInput::small)
     }),
     ("bz_grid_addresses:type_1", || {
         bench::run_on::<BzGridAddresses>(ImagesInput::sparse)

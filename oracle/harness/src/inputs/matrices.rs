@@ -187,6 +187,23 @@ pub fn folded(random: &mut Random, mut a: MatI, size: i64) -> MatI {
     a
 }
 
+/// The matrix with elementary ones multiplied to its left alone, as far as entries stay
+/// within the limit: it has the same points.
+pub fn left_multiple(random: &mut Random, mut a: MatI) -> MatI {
+    for _ in 0..random.below(STEPS + 1) {
+        let next = matmul_i(&elementary(random).matrix, &a);
+        if is_within(&next, MATRIX_ENTRY) {
+            a = next;
+        }
+    }
+    a
+}
+
+/// Likewise to its right.
+pub fn right_multiple(random: &mut Random, a: MatI) -> MatI {
+    transpose_i(&left_multiple(random, transpose_i(&a)))
+}
+
 /// An elementary matrix of determinant 1 or -1, and its inverse.
 pub struct Elementary {
     pub matrix: MatI,

@@ -2,6 +2,7 @@
 
 pub mod chains;
 pub mod floats;
+pub mod forms;
 pub mod gcds;
 pub mod grids;
 pub mod groups;

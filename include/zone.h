@@ -127,8 +127,8 @@ enum zone_refusal {
     ZONE_SINGULAR = 1,                     /* the determinant of A is 0 */
     ZONE_NOT_CONVERGED = 2,                /* 100 rounds end without a diagonal: never given, since 82 are enough */
     ZONE_OUTSIDE_LIMITS = 3,               /* a number is outside its limits, above */
-    ZONE_OVERFLOW = 4,                     /* a number that zone_snf3x3, or zone_smith3x3, works out, in its order,
-                                              leaves 64 bits */
+    ZONE_OVERFLOW = 4,                     /* a number that zone_snf3x3, zone_smith3x3 or zone_hermite3x3 works out, in
+                                              its order, leaves 64 bits */
     ZONE_SINGULAR_Q = 5,                   /* the determinant of Q is 0 */
     ZONE_SYMMETRY_BROKEN = 6,              /* a transformed entry is over 1e-5 from whole: R does not keep the grid */
     ZONE_TOO_MANY_ROTATIONS = 7,           /* a 49th distinct rotation */
@@ -170,8 +170,20 @@ int64_t zone_snf3x3(const int64_t *a, size_t a_len, int64_t *d, size_t d_len, in
 int64_t zone_smith3x3(const int64_t *a, size_t a_len, int64_t *d, size_t d_len, int64_t *p, size_t p_len, int64_t *q,
                       size_t q_len);
 
-/* Whether zone_snf3x3 gives a[9] and b[9] the same d: told[1] is 1 or 0. Refusals: 13, then those of zone_snf3x3 for
- * a, then for b. */
+/* The Hermite form of A: 0 below the diagonal, which is positive, and each entry above it from 0 to one less than the
+ * diagonal number of its column. It is U·A for a whole matrix U with det U = 1 or -1, and no other Hermite form is; so
+ * it makes the same points q whole as A does. In: a[9]. Out: h[9]. Refusals: 13, 3, 1, 4: a number of the row steps
+ * leaves 64 bits. */
+int64_t zone_hermite3x3(const int64_t *a, size_t a_len, int64_t *h, size_t h_len);
+
+/* The order of two forms g[9] and h[9], or of any nine numbers: the first place that differs decides. Out: told[1]: 0
+ * if g comes before h, 1 if they are equal, 2 if g comes after h. Refusals: 13. */
+int64_t zone_order_forms(const int64_t *g, size_t g_len, const int64_t *h, size_t h_len, int64_t *told,
+                         size_t told_len);
+
+/* Whether a[9] and b[9] make the same grid, that is, have the same points: told[1] is 1 or 0. It is so exactly if their
+ * Hermite forms are equal, and exactly if a whole matrix of determinant 1 or -1, on the left of a, makes b. Refusals: 13,
+ * then those of zone_hermite3x3 for a, then for b. */
 int64_t zone_same_grid(const int64_t *a, size_t a_len, const int64_t *b, size_t b_len, int64_t *told,
                        size_t told_len);
 

@@ -459,7 +459,7 @@ mod tests {
         let lines = vectors::lines::<Hermite3x3>(1);
         let refused = |line: &&String| line.ends_with(" 4 9 -1 -1 -1 -1 -1 -1 -1 -1 -1");
         assert_eq!(lines.len(), Hermite3x3::VECTORS);
-        assert!(8 * lines.iter().filter(refused).count() >= lines.len());
+        assert!(3 * lines.iter().filter(refused).count() >= lines.len());
     }
 
     /// What the bench takes is accepted.

@@ -1,6 +1,7 @@
 pub mod Lengths
 pub mod Copied
 pub mod Grids
+pub mod ClassWeights
 pub mod GroupAnswers
 pub mod Diagonals
 pub mod Forms

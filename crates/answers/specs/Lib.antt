@@ -1,4 +1,5 @@
 pub mod Grids
+pub mod ClassWeights
 pub mod PointGroupTold
 pub mod Diagonals
 pub mod Forms

@@ -7,6 +7,7 @@ mod pair;
 mod recip;
 mod transform;
 mod triplets;
+mod weights;
 
 use common::Refusal;
 pub use diagonal::diagonal_lengths;
@@ -32,6 +33,8 @@ pub use triplets::tell_triplet_classes;
 pub use triplets::triplet_class_lengths;
 pub use triplets::triplet_lengths;
 pub use triplets::triplets_number;
+pub use weights::tell_weights;
+pub use weights::weight_lengths;
 ghost use mathlib.Core.Path.{_≡_};
 ghost use lib.IntN.{pos, negsuc};
 ghost use lib.ListN.{length, replicate};

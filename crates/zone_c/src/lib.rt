@@ -8,6 +8,7 @@ mod pair;
 mod recip;
 mod transform;
 mod triplets;
+mod weights;
 
 pub use diagonal::zone_smith3x3;
 pub use diagonal::zone_snf3x3;
@@ -27,3 +28,4 @@ pub use recip::zone_reciprocal_rotations;
 pub use transform::zone_transform_rotations;
 pub use triplets::zone_bz_triplets_at_q;
 pub use triplets::zone_ir_triplets_at_q;
+pub use weights::zone_class_weights;

@@ -2,7 +2,8 @@
 use mathlib.Core.Path.{_≡_, refl, sym, _∙_, ap, ap₂, subst}
 use mathlib.Core.Logic.{⊎-elim}
 use mathlib.Core.List.{List, [], _∷_, _++_, append-nil, List·Memᴰ as Mem, List·Memᴰ·not-nil as not-nil, List·Memᴰ·cases-cons as cases}
-use Prim.Native.Nat.{ℕ, zero, suc, _+_, _*_, _/_, _≤_}
+use Prim.Native.Nat.{ℕ, zero, suc, _+_, _*_, _/_, _≤_, _<_}
+use native.Mathlib.Nat.{not-suc-le-zero, le-of-suc-le-suc}
 use native.Mathlib.Omega.{arith}
 use lib.Dec.{T}
 use lib.IntN.{ℤ, pos, natAbs}
@@ -39,6 +40,23 @@ pub matrices-flat : (l : List (Mat ℤ)) → matrices (flat l) ≡ l
 matrices-flat l =
     let count : length (flat l) / 9 ≡ length l = omega (arith, length-flat l) in
     ap₂ (λ s k. matricesFrom s 0 k) (sym (append-nil (flat l))) count ∙ read-flat l []
+
+-- as many as are read, and each by its place
+module _ (l : List ℤ) where
+  pub length-from : (n k : ℕ) → length (matricesFrom l n k) ≡ k
+  length-from n zero = refl
+  length-from n (suc k) = ap suc (length-from (suc n) k)
+
+  pub from-at : (n k i : ℕ) (z : Mat ℤ) → i < k → getD (matricesFrom l n k) i z ≡ matrixAt l (n + i)
+  from-at n zero i z h = absurd (not-suc-le-zero h)
+  from-at n (suc k) zero z h = ap (matrixAt l) (nought n)
+    where
+      nought : (n : ℕ) → n ≡ n + 0
+      nought n = omega arith
+  from-at n (suc k) (suc i) z h = from-at (suc n) k i z (le-of-suc-le-suc h) ∙ ap (matrixAt l) (later n i)
+    where
+      later : (n i : ℕ) → suc n + i ≡ n + suc i
+      later n i = omega arith
 
 -- entries within a limit
 pub read-small : (b : ℕ) (s : List ℤ) → T (allWithin b s) → (n k : ℕ) (m : Mat ℤ) → Mem m (matricesFrom s n k) → (i j : Axis) → natAbs (entry m i j) ≤ b

@@ -38,6 +38,11 @@ pub passed : (t : Bool) (r : Refusal) (rest : Tested) → require t r rest ≡ A
 passed true r rest e = (refl, e)
 passed false r rest e = absurd (not-accepted e)
 
+-- an answer that no refusal gives tells that the tests passed
+pub passed-by : {A : Type 0} (answer : Tested → A) {a : A} → ((r : Refusal) → ¬ (answer (Refused r) ≡ a)) → (t : Tested) → answer t ≡ a → t ≡ Accepted
+passed-by answer n Accepted e = refl
+passed-by answer n (Refused r) e = absurd (n r e)
+
 pub both-accepted : (s t : Tested) → after s t ≡ Accepted → (s ≡ Accepted) × (t ≡ Accepted)
 both-accepted Accepted t e = (refl, e)
 both-accepted (Refused r) t e = absurd (not-accepted e)

@@ -5,15 +5,12 @@ use Prim.Native.Nat.{ℕ, zero, _*_, _<_}
 use native.Mathlib.Nat.{le-of-eq, mul-pos}
 use Rattle.integer.proofs.Size.{abs-neg, abs-mul}
 use Rattle.integer.proofs.Divides.{mul-cancel, unit-abs, unit-square}
+pub use Rattle.common.specs.Matrix.{Unimodular}
 use Rattle.common.specs.Matrix.{Axis, Mat, entry, transpose, _·_, det, adjugate, scalar, identity, negate, inverse}
 use Rattle.common.proofs.Matrix.{same-matrix, at-entry, product-assoc, identity-product, product-identity, product-adjugate, adjugate-product, product-diagonal, scalar-product, scalar-commutes, negate-product, product-negate, det-product, det-transpose, det-negate}
 
 pub record Regular (A : Mat ℤ) : Type 0 where
   pub nonzero : zero < natAbs (det A)
-
--- a determinant of 1 or -1
-pub record Unimodular (A : Mat ℤ) : Type 0 where
-  pub unit : natAbs (det A) ≡ 1
 
 abs-product : (A B : Mat ℤ) → natAbs (det (A · B)) ≡ natAbs (det A) * natAbs (det B)
 abs-product A B = ap natAbs (det-product A B) ∙ abs-mul (det A) (det B)

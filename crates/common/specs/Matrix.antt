@@ -1,8 +1,9 @@
 -- Vectors and 3 by 3 matrices over anything that has sums, differences and products: at ℤ they are what contracts speak of, at the ring solver's expressions
 -- what it computes with. Determinants and products add up in the Rust's order.
+use mathlib.Core.Path.{_≡_}
 use mathlib.Core.Bool.{Bool, _&&_}
 use mathlib.Core.List.{List, _∷_}
-use lib.IntN.{ℤ, pos, negℤ, _+ℤ_, _*ℤ_, _-ℤ_}
+use lib.IntN.{ℤ, pos, natAbs, negℤ, _+ℤ_, _*ℤ_, _-ℤ_}
 use Rattle.integer.specs.Same.{same}
 
 pub data Axis : Type 0 where
@@ -154,6 +155,10 @@ infixr 8 _▹_
 abbrev pub _▹_ : Mat ℤ → Vec ℤ → Vec ℤ
 m ▹ v = applyOver integers m v
 
--- of a determinant of 1 or -1
+-- a determinant of 1 or -1
+pub record Unimodular (m : Mat ℤ) : Type 0 where
+  pub unit : natAbs (det m) ≡ 1
+
+-- of such a matrix
 abbrev pub inverse : Mat ℤ → Mat ℤ
 inverse m = scalar (det m) · adjugate m

@@ -1,5 +1,5 @@
 -- The classes of the finished list: an accepted chain leaves the class map of the operations that keep q0, whatever way the list went into transforming.
-use mathlib.Core.Path.{_≡_, refl, sym, _∙_, ap, ap₂, subst}
+use mathlib.Core.Path.{_≡_, sym, _∙_, ap, ap₂, subst}
 use mathlib.Core.Logic.{⊎-elim, _↔_}
 use mathlib.Core.Bool.{false}
 use mathlib.Core.List.{List, map, Memᴰ·append-right as append-right}
@@ -13,11 +13,11 @@ use Rattle.common.specs.Array.{items, rows, matrixOf, matrices}
 use Rattle.common.specs.Limits.{diagonalFits}
 use Rattle.common.specs.Tested.{outputOf}
 use Rattle.common.specs.declared.Refusal.{Refusal}
-use Rattle.common.specs.declared.Tested.{Tested}
 use Rattle.common.specs.declared.Tested.the-variants.{Accepted, Refused}
 use Rattle.common.proofs.Unimodular.{Unimodular}
-use Rattle.common.proofs.Tests.{both-accepted}
+use Rattle.common.proofs.Tests.{passed-by, both-accepted}
 use Rattle.grgrid.specs.ClassMap.{kept}
+use Rattle.grgrid.specs.Picked.{Rising}
 use Rattle.grgrid.specs.Own.{ownPoints}
 use Rattle.grgrid.proofs.Lists.{_∈_}
 use Rattle.grgrid.proofs.Pass.{Least}
@@ -27,10 +27,8 @@ use Rattle.grgrid.proofs.Acting.{Acts}
 use Rattle.grgrid.proofs.MatrixGroup.{MatrixGroup, joined-acts}
 use Rattle.recip_rotations.specs.PointGroup.{joined, pointGroup}
 use Rattle.snf3x3.proofs.Diagonal.{diagonalised-right}
-use Rattle.transform_rotations.specs.TransformRotations.{transformTests, transformAnswer}
-use Rattle.transform_rotations.specs.TransformRotations as transforming
-use Rattle.transform_rotations.specs.declared.Transformed.the-variants as transform
-use Rattle.transform_rotations.proofs.ExactCall.{sides-positive}
+use Rattle.transform_rotations.specs.TransformRotations.{transformTests}
+use Rattle.transform_rotations.proofs.ExactCall.{sides-positive, written-tests}
 use Rattle.transform_rotations.proofs.ExactTransform.{call-acts}
 use Rattle.triplet_grid.specs.IrTriplets.{tripletTests, mapTriplets, classesAt, irTripletsAnswer, mapTripletsWritten}
 use Rattle.triplet_grid.specs.IrTriplets as classing
@@ -39,26 +37,17 @@ use Rattle.triplet_grid.proofs.Joining.{Meets, joined-meets}
 use Rattle.triplet_grid.proofs.Stabilizer.{Operation, carries-equiv, carries-partner, swapped-classes, joined-operations}
 use Rattle.triplet_grid.proofs.Swapping.{length-triplets, classes-low, triplets-low}
 use Rattle.triplet_grid.proofs.Outcome as outcome
-use Rattle.bz_triplets.proofs.Rising.{Rising, own-rising, own-each}
+use Rattle.bz_triplets.proofs.Rising.{own-rising, own-each}
 use Rattle.demand3.specs.FinishedList.{Calls, grid, points, number, carries, partnerOf, Class, lowestPoints}
 use Rattle.demand3.proofs.JoinedList.{list-distinct, told-is, given-joined, transformed-joined}
 
 -- ---- accepted calls
--- an answer that no refusal gives
-passed-by : {A : Type 0} (answer : Tested → A) {a : A} → ((r : Refusal) → ¬ (answer (Refused r) ≡ a)) → (t : Tested) → answer t ≡ a → t ≡ Accepted
-passed-by answer n Accepted e = refl
-passed-by answer n (Refused r) e = absurd (n r e)
-
-not-written : (r : Refusal) → ¬ (transform.Refused r ≡ transform.Written)
-not-written r e = let z : _≡_ {A = ℕ} 0 1 = cc in omega arith
-
 not-classed : {k : ℤ} (r : Refusal) → ¬ (class.Refused r ≡ class.Classes k)
 not-classed r e = let z : _≡_ {A = ℕ} 0 1 = cc in omega arith
 
 module _ (c : Calls) where
   transform-passed : transformTests (c .rotations) (items (c .d)) (rows (c .q)) (c .room) ≡ Accepted
-  unfolding transformAnswer
-  transform-passed = passed-by transforming.answerFor not-written (transformTests (c .rotations) (items (c .d)) (rows (c .q)) (c .room)) (c .transforms)
+  transform-passed = written-tests (c .rotations) (items (c .d)) (rows (c .q)) (c .room) (c .transforms)
 
   -- the numbers that the class call leaves
   abbrev numbers : List ℕ

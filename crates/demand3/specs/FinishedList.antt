@@ -13,11 +13,12 @@ use Rattle.common.specs.Matrix.{Axis, Vec, Mat, side, mapVec, origin}
 use Rattle.common.specs.Array.{items, rows, sidesOf, matrixOf, matrices}
 use Rattle.common.specs.FloatMatrix.{floatMatrix}
 use Rattle.grgrid.specs.Grid.{size}
+use Rattle.grgrid.specs.Lists.{_∈_}
+use Rattle.grgrid.specs.MatrixGroup.{MatrixGroup}
+use Rattle.grgrid.specs.Picked.{Rising}
 use Rattle.grgrid.specs.Own.{ownPoints}
-use Rattle.grgrid.proofs.Lists.{_∈_}
 use Rattle.grgrid.proofs.Pass.{Least}
 use Rattle.grgrid.proofs.Count.{OneEach}
-use Rattle.grgrid.proofs.MatrixGroup.{MatrixGroup}
 use Rattle.recip_rotations.specs.PointGroup.{joined, pointGroupAnswer, pointGroupWritten}
 use Rattle.recip_rotations.specs.declared.PointGroup.the-variants.{Rotations}
 use Rattle.snf3x3.specs.Snf3x3.{snf3x3, diagonalised}
@@ -39,7 +40,6 @@ use Rattle.triplet_grid.proofs.Joining.{Joined, Meets}
 use Rattle.triplet_grid.proofs.Stabilizer.{Operation, Carries}
 use Rattle.bz_triplets.specs.BzTriplets.{lqdInv, squaredDistance, sumOf, bzTripletsAnswer, tripletsWritten}
 use Rattle.bz_triplets.specs.declared.BzTriplets.the-variants as triplet
-use Rattle.bz_triplets.proofs.Rising.{Rising}
 
 -- ---- the calls
 -- the list goes into transforming as it stands, or as the reciprocal call returned it: the told part

@@ -1,19 +1,19 @@
--- What accepted tests say of d, ps, the rotations and the length of the output.
+-- What accepted tests say of d, ps, a point, the rotations and the length of the output.
 use mathlib.Core.Path.{_≡_}
 use mathlib.Core.Bool.{_&&_}
 use mathlib.Core.List.{List}
 use Prim.Native.Nat.{ℕ, zero, suc, _*_, _<_, _≤_}
 use native.Mathlib.Nat.{le-trans}
 use native.Mathlib.Omega.{arith}
-use lib.Dec.{T, leb, eqb, leb→le, lit≤}
+use lib.Dec.{T, leb, eqb, leb→le, ltb→lt, lit≤}
 use lib.IntN.{ℤ, pos, negsuc, natAbs}
 use lib.ListN.{length, getD, List·getD-eq-default}
-use lib.Signed.{leZ}
+use lib.Signed.{nonNeg, leZ, ltZ}
 use borrow.Author.Tests.{eqb-true}
 use Rattle.integer.proofs.Test.{holds, and-l, and-r}
 use Rattle.common.specs.Matrix.{Axis, X, Y, Z, side}
 use Rattle.common.specs.Array.{sidesOf, Sized}
-use Rattle.common.specs.Limits.{allWithin, sideFits, diagonalFits, halfFits, shiftFits, rotationsFit, wholeMatrices}
+use Rattle.common.specs.Limits.{allWithin, sideFits, diagonalFits, halfFits, shiftFits, pointFits, rotationsFit, wholeMatrices}
 use Rattle.common.specs.declared.Tested.the-variants.{Accepted}
 use Rattle.common.specs.declared.Refusal.the-variants.{OutsideLimits, WrongLength}
 use Rattle.common.proofs.Bounds.{side-positive, side-size}
@@ -73,6 +73,11 @@ shift-sized ps e t = record { each = at }
     at (suc zero) = half-size (getD ps 1 (pos 0)) (and-l (halfFits (getD ps 1 (pos 0))) (halfFits (getD ps 2 (pos 0))) rest)
     at (suc (suc zero)) = half-size (getD ps 2 (pos 0)) (and-r (halfFits (getD ps 1 (pos 0))) (halfFits (getD ps 2 (pos 0))) rest)
     at (suc (suc (suc n))) = rw (List·getD-eq-default ps (pos 0) {n = suc (suc (suc n))} (omega arith)) (lit≤ tt)
+
+-- ---- a point
+pub point-inside : (q : ℤ) (n : ℕ) → T (pointFits q (pos n)) → T (nonNeg q) × (natAbs q < n)
+point-inside (pos p) n t = (tt, ltb→lt p n (and-r (leZ (pos 0) (pos p)) (ltZ (pos p) (pos n)) t))
+point-inside (negsuc p) n t = absurd t
 
 -- ---- the tests
 pub record MapAccepted (rotations d ps : List ℤ) (n : ℕ) : Type 0 where

@@ -12,6 +12,7 @@ use Rattle.integer.proofs.Congruence.{congruent-by, congruent-is, congruent-ref
 use Rattle.common.specs.Matrix.{Axis, X, Y, Z, Vec, Mat, side, vector, entry, mapVec, _·_, diagonal, identity, negate, _▹_, entries, origin}
 use Rattle.common.proofs.Matrix.{same-vector, at-entry, sides, column, solveVec, 𝔸, 𝔹, _⊡_, applyE, diagonal-product, product-diagonal, negate-product, product-negate, apply-product, apply-identity}
 use Rattle.grgrid.specs.Grid.{size, index, address, double, half, halve, rotate, carry}
+pub use Rattle.grgrid.specs.MatrixGroup.{Shifts}
 use Rattle.grgrid.proofs.Group.{Action}
 use Rattle.grgrid.proofs.Folding.{Sides, Agree, agree-by, index-lt, index-address, address-agree, same-index}
 
@@ -56,11 +57,6 @@ agree-moved {d} {u} {v} a t = agree-by (λ k. side u k +ℤ side t k) (λ k. sid
 
 moved-none : (a : Vec ℤ) → moved a origin ≡ a
 moved-none a = same-vector {g = side a} (λ k. +ℤ-idr (side a k))
-
--- M carries the shift to itself but for whole steps
-pub record Shifts (ps : Vec ℤ) (M : Mat ℤ) : Type 0 where
-  pub by : Vec ℤ
-  pub is : M ▹ ps ≡ double by ps
 
 abbrev movedE : Vec Expr → Vec Expr → Vec Expr
 movedE a t = vector (λ k. add (side a k) (side t k))

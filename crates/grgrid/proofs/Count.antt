@@ -1,68 +1,41 @@
 -- The count of points that keep their own number is the number of classes, however one point of each class is chosen.
-use mathlib.Core.Path.{_≡_, refl, sym, _∙_, ap, subst}
-use mathlib.Core.Logic.{_⊎_, inl, inr, ⊎-elim, _↔_}
+use mathlib.Core.Path.{_≡_, refl, sym, _∙_}
+use mathlib.Core.Logic.{_↔_}
 use mathlib.Core.Bool.{Bool, true, false}
-use mathlib.Core.List.{List, [], _∷_, map, List·Memᴰ·head as here, List·Memᴰ·tail as there, List·Memᴰ·not-nil as not-nil, List·Memᴰ·cases-cons as cases, Memᴰ·cast as cast, Memᴰ·map as map-in, Memᴰ·of-map as of-map}
-use Prim.Native.Nat.{ℕ, zero, suc, _<_}
-use native.Mathlib.Nat.{le-of-eq, le-antisymm, le-of-suc-le-suc, not-suc-le-zero, eq-or-lt-of-le}
+use mathlib.Core.List.{List, map, Memᴰ·cast as cast, Memᴰ·map as map-in, Memᴰ·of-map as of-map}
+use Prim.Native.Nat.{ℕ, zero, suc, _+_, _<_}
+use native.Mathlib.Nat.{le-antisymm}
 use native.Mathlib.Omega.{arith}
-use lib.Dec.{T, eqb, eqb→eq, eqb-refl}
+use lib.Dec.{eqb, eqb→eq, eqb-refl}
 use lib.ListN.{length, getD, length-map}
-use Rattle.integer.proofs.Test.{holds}
+use Rattle.grgrid.specs.Picked.{picked}
 use Rattle.grgrid.specs.ClassMap.{pass, kept, number}
 use Rattle.grgrid.proofs.Lists.{_∈_, _⊆_, Distinct, distinct-map, shorter}
+use Rattle.grgrid.proofs.Picked.{mark, in-picked, picked-distinct, picked-length}
 use Rattle.grgrid.proofs.Built.{length-build}
 use Rattle.grgrid.proofs.Pass.{Least, Equiv, Steps, one-number, below, again, pass-least}
 
 -- ---- the points below n that f keeps
 abbrev own : (ℕ → ℕ) → ℕ → List ℕ
-own f zero = []
-own f (suc n) = elim (eqb (f n) n) [ true ↦ n ∷ own f n | false ↦ own f n ]
+own f n = picked (λ p. eqb (f p) p) n
+
+pub in-own : (f : ℕ → ℕ) (n p : ℕ) → (p ∈ own f n) ↔ ((p < n) × (f p ≡ p))
+in-own f n p = let r = in-picked (λ p. eqb (f p) p) n p in (λ m. (r .0 m .0, eqb→eq (f p) p (r .0 m .1)), λ k. r .1 (k .0, rw (k .1) (eqb-refl p)))
+
+own-distinct : (f : ℕ → ℕ) (n : ℕ) → Distinct (own f n)
+own-distinct f n = picked-distinct (λ p. eqb (f p) p) n
 
 -- the number of p
 abbrev at : List ℕ → ℕ → ℕ
 at numbers p = getD numbers p 0
 
-kept-own : (numbers : List ℕ) (n : ℕ) → kept numbers n ≡ length (own (at numbers) n)
+pub kept-own : (numbers : List ℕ) (n : ℕ) → kept numbers n ≡ length (own (at numbers) n)
 kept-own numbers zero = refl
-kept-own numbers (suc n) = go (eqb (at numbers n) n) (kept numbers n) (own (at numbers) n) (kept-own numbers n)
+kept-own numbers (suc n) = go (eqb (at numbers n) n) (kept-own numbers n) ∙ sym (picked-length (λ p. eqb (at numbers p) p) n)
   where
-    go : (b : Bool) (k : ℕ) (l : List ℕ) → k ≡ length l → elim b as (λ _. ℕ) [ true ↦ suc k | false ↦ k ] ≡ length {A = ℕ} (elim b as (λ _. List ℕ) [ true ↦ n ∷ l | false ↦ l ])
-    go true k l e = ap suc e
-    go false k l e = e
-
-module _ (f : ℕ → ℕ) where
-  in-own : (n p : ℕ) → p < n → f p ≡ p → p ∈ own f n
-  in-own zero p h e = absurd (not-suc-le-zero h)
-  in-own (suc n) p h e = go (eqb (f n) n) refl (λ l. in-own n p l e) (eq-or-lt-of-le (le-of-suc-le-suc h))
-    where
-      go : (b : Bool) → eqb (f n) n ≡ b → (p < n → p ∈ own f n) → (p ≡ n) ⊎ (p < n) → p ∈ elim b as (λ _. List ℕ) [ true ↦ n ∷ own f n | false ↦ own f n ]
-      go true i rec (inl j) = here j
-      go true i rec (inr l) = there (rec l)
-      go false i rec (inl j) = let h : f n ≡ n = cc in absurd (subst T i (rw h (eqb-refl n)))
-      go false i rec (inr l) = rec l
-
-  of-own : (n p : ℕ) → p ∈ own f n → (p < n) × (f p ≡ p)
-  of-own zero p m = absurd (not-nil m)
-  of-own (suc n) p m = go (eqb (f n) n) refl (of-own n p) m
-    where
-      up : (p < n) × (f p ≡ p) → (p < suc n) × (f p ≡ p)
-      up k = (omega arith, k .1)
-
-      go : (b : Bool) → eqb (f n) n ≡ b → (p ∈ own f n → (p < n) × (f p ≡ p)) → p ∈ elim b as (λ _. List ℕ) [ true ↦ n ∷ own f n | false ↦ own f n ] → (p < suc n) × (f p ≡ p)
-      go true i rec m = ⊎-elim (λ j. (le-of-eq (ap suc j), rw j (eqb→eq (f n) n (holds i)))) (λ k. up (rec k)) (cases m)
-      go false i rec m = up (rec m)
-
-  own-distinct : (n : ℕ) → Distinct (own f n)
-  own-distinct zero = tt
-  own-distinct (suc n) = go (eqb (f n) n) (own-distinct n)
-    where
-      never : n ∈ own f n → ⊥
-      never m = let h = of-own n n m .0 in omega arith
-
-      go : (b : Bool) → Distinct (own f n) → Distinct {A = ℕ} (elim b as (λ _. List ℕ) [ true ↦ n ∷ own f n | false ↦ own f n ])
-      go true d = (never, d)
-      go false d = d
+    go : (b : Bool) → kept numbers n ≡ length (own (at numbers) n) → elim b [ true ↦ suc (kept numbers n) | false ↦ kept numbers n ] ≡ length (own (at numbers) n) + mark b
+    go true e = omega arith
+    go false e = omega arith
 
 -- ---- one point of each class
 pub record OneEach (N : ℕ) (E : ℕ → ℕ → Type 0) (l : List ℕ) : Type 0 where
@@ -74,10 +47,10 @@ pub record OneEach (N : ℕ) (E : ℕ → ℕ → Type 0) (l : List ℕ) : Type 
 module _ {N : ℕ} {E : ℕ → ℕ → Type 0} (e : Equiv N E) (f : ℕ → ℕ) (least : (p : ℕ) → p < N → Least (E p) (f p)) where
   own-each : OneEach N E (own f N)
   own-each = record {
-    inside = λ p m. of-own f N p m .0;
+    inside = λ p m. in-own f N p .0 m .0;
     distinct = own-distinct f N;
-    apart = λ p q m n k. let r = of-own f N p m in let s = of-own f N q n in sym (r .1) ∙ one-number e f least p q (r .0) (s .0) .1 k ∙ s .1;
-    covers = λ p h. (f p, in-own f N (f p) (below e f least p h) (again e f least p h), least p h .is-in);
+    apart = λ p q m n k. let r = in-own f N p .0 m in let s = in-own f N q .0 n in sym (r .1) ∙ one-number e f least p q (r .0) (s .0) .1 k ∙ s .1;
+    covers = λ p h. (f p, in-own f N (f p) .1 (below e f least p h, again e f least p h), least p h .is-in);
   }
 
   -- their numbers are the points that keep their own
@@ -88,10 +61,10 @@ module _ {N : ℕ} {E : ℕ → ℕ → Type 0} (e : Equiv N E) (f : ℕ → ℕ
       single p q m n i = o .apart p q m n (one-number e f least p q (o .inside p m) (o .inside q n) .0 i)
 
       into : map f l ⊆ own f N
-      into z m = let r = of-map f l m in let h = o .inside (r .0) (r .1) in cast (sym (r .2)) (in-own f N (f (r .0)) (below e f least (r .0) h) (again e f least (r .0) h))
+      into z m = let r = of-map f l m in let h = o .inside (r .0) (r .1) in cast (sym (r .2)) (in-own f N (f (r .0)) .1 (below e f least (r .0) h, again e f least (r .0) h))
 
       onto : own f N ⊆ map f l
-      onto z m = let h = of-own f N z m in let c = o .covers z (h .0) in cast (sym (h .1) ∙ one-number e f least z (c .0) (h .0) (o .inside (c .0) (c .1)) .1 (c .2)) (map-in f (c .1))
+      onto z m = let h = in-own f N z .0 m in let c = o .covers z (h .0) in cast (sym (h .1) ∙ one-number e f least z (c .0) (h .0) (o .inside (c .0) (c .1)) .1 (c .2)) (map-in f (c .1))
 
 -- ---- a class map and its count
 pub record Classified (N : ℕ) (E : ℕ → ℕ → Type 0) (numbers : List ℕ) (count : ℕ) : Type 0 where

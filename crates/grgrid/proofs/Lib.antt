@@ -1,4 +1,5 @@
 pub mod Lists
+pub mod Picked
 pub mod Built
 pub mod Pass
 pub mod Group

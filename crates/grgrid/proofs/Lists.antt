@@ -1,21 +1,13 @@
--- Membership, lists with no repeats, and the pigeonhole: a list with no repeats inside one that is no longer fills it.
+-- Laws of membership and of lists with no repeats, and the pigeonhole: a list with no repeats inside one that is no longer fills it.
 use mathlib.Core.Path.{_≡_, refl, sym, _∙_, ap}
 use mathlib.Core.Logic.{_⊎_, inl, inr, ⊎-elim}
-use mathlib.Core.List.{List, [], _∷_, _++_, map, List·Memᴰ as Mem, List·Memᴰ·head as here, List·Memᴰ·tail as there, List·Memᴰ·cases-cons as cases, List·Memᴰ·append-cases as append-cases, Memᴰ·cast as cast, Memᴰ·of-map as of-map}
+use mathlib.Core.List.{List, [], _∷_, _++_, map, List·Memᴰ·head as here, List·Memᴰ·tail as there, List·Memᴰ·cases-cons as cases, List·Memᴰ·append-cases as append-cases, Memᴰ·cast as cast, Memᴰ·of-map as of-map}
 use Prim.Native.Nat.{suc, _≤_, zero-le, suc-le-suc}
 use native.Mathlib.Nat.{le-of-eq, le-trans, le-of-suc-le-suc, not-suc-le-zero}
 use lib.ListN.{length, length-map}
-
-infix 4 _∈_
-abbrev pub _∈_ : {A : Type 0} → A → List A → Type 0
-x ∈ l = Mem x l
+pub use Rattle.grgrid.specs.Lists.{_∈_, Distinct}
 
 module _ {A : Type 0} where
-  -- no repeats
-  abbrev pub Distinct : List A → Type 0
-  Distinct [] = Unit {0}
-  Distinct (x ∷ l) = (¬ (x ∈ l)) × Distinct l
-
   infix 4 _⊆_
   abbrev pub _⊆_ : List A → List A → Type 0
   xs ⊆ ys = (z : A) → z ∈ xs → z ∈ ys

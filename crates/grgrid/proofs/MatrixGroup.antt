@@ -8,17 +8,11 @@ use native.Mathlib.Nat.{mul-pos}
 use Rattle.common.specs.Matrix.{X, Y, Z, Vec, Mat, side, transpose, _·_, identity, negate, inversion, inverse}
 use Rattle.common.proofs.Matrix.{det-diagonal, transpose-product, negate-twice, negate-product, product-negate}
 use Rattle.common.proofs.Unimodular.{Regular, Unimodular, regular-product, unimodular-regular, unimodular-transpose, unimodular-negate, unimodular-inverse, cancel-left, cancel-right, similar-identity, similar-product, similar-det, conjugate-similar}
-use Rattle.grgrid.proofs.Lists.{_∈_, Distinct, Injective, distinct-append, distinct-map}
+pub use Rattle.grgrid.specs.MatrixGroup.{MatrixGroup}
+use Rattle.grgrid.proofs.Lists.{_∈_, Injective, distinct-append, distinct-map}
 use Rattle.grgrid.proofs.Group.{Group, closed-group}
 use Rattle.grgrid.proofs.Folding.{Sides}
 use Rattle.grgrid.proofs.Acting.{Acts, grid, acts-negate}
-
--- what demand 3 asks of its list
-pub record MatrixGroup (l : List (Mat ℤ)) : Type 0 where
-  pub one : identity ∈ l
-  pub distinct : Distinct l
-  pub units : (A : Mat ℤ) → A ∈ l → Unimodular A
-  pub times : (A B : Mat ℤ) → A ∈ l → B ∈ l → A · B ∈ l
 
 pub grid-regular : {d : Vec ℕ} → Sides d → Regular (grid d)
 grid-regular {d} s = record { nonzero = subst (λ x. zero < natAbs x) (sym (det-diagonal (λ k. pos (side d k)))) (mul-pos (mul-pos (s .positive X) (s .positive Y)) (s .positive Z)) }

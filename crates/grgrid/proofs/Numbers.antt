@@ -1,13 +1,13 @@
--- The number of a point by where it is carried first; and the entries that equal their own place are the points that keep theirs.
+-- The number of a point by where it is carried first; a class map as a slice holds it; and the entries that equal their own place are the points that keep theirs.
 use mathlib.Core.Path.{_≡_, refl, sym, _∙_, ap, ap₂}
 use mathlib.Core.Bool.{Bool, true, false}
-use mathlib.Core.List.{List, [], _∷_, map}
+use mathlib.Core.List.{List, [], _∷_, map, map-map, map-id}
 use Prim.Native.Nat.{ℕ, zero, suc, _+_, _<_, _≤_}
 use native.Mathlib.Nat.{le-refl}
 use native.Mathlib.Omega.{arith}
 use native.Mathlib.Numerals.{add-one}
 use lib.Dec.{ltb, eqb}
-use lib.IntN.{ℤ, pos, negsuc}
+use lib.IntN.{ℤ, pos, negsuc, natAbs}
 use lib.ListN.{length, getD, set, length-map, List·getD-map}
 use lib.Signed.{mag}
 use mir.Syntax.{w64}
@@ -17,8 +17,9 @@ use borrow.Author.Tests.{lt-ltb, le-ltb, eq-eqb, ne-eqb}
 use Rattle.integer.proofs.Fits.{held-is}
 use Rattle.common.specs.Matrix.{Vec, Mat}
 use Rattle.grgrid.specs.Grid.{size, rotate}
-use Rattle.grgrid.specs.ClassMap.{firstLower, number, pass, kept, classMap, classes}
+use Rattle.grgrid.specs.ClassMap.{firstLower, number, pass, kept, classMap, classes, Numbered}
 use Rattle.grgrid.specs.Own.{isPlace, ownPlaces}
+use Rattle.grgrid.proofs.Pass.{pass-own}
 use Rattle.grgrid.proofs.Built.{length-build, written, written-more, written-read}
 
 -- the number of p, which is carried to q
@@ -54,6 +55,21 @@ module _ (gs : List (ℕ → ℕ)) (p : ℕ) {q : ℕ} (e : q ≡ firstLower gs 
 
   pub own-stored : p ≤ q → set out p (pos p) ≡ written (number gs) pos (p + 1) before
   own-stored l = store (ap pos (sym (number-own gs p (pass gs p) e l)))
+
+-- ---- a class map as a slice holds it
+pub numbers-of : (classes : List ℕ) {l : List ℤ} → l ≡ map pos classes → map natAbs l ≡ classes
+numbers-of classes e = ap (map natAbs) e ∙ map-map natAbs pos classes ∙ map-id classes
+
+-- of any list of operations
+pub numbered : (d : Vec ℕ) (ps : Vec ℤ) (ms : List (Mat ℤ)) {l : List ℤ} → l ≡ map pos (classMap d ps ms) → Numbered (size d) l
+unfolding classMap
+numbered d ps ms e =
+    let gs = map (rotate d ps) ms in
+    let back = numbers-of (classMap d ps ms) e in
+    record { natural = e ∙ ap (map pos) (sym back); low = λ p h. rw back (pass-own gs (size d) p h .0); own = λ p h. rw back (pass-own gs (size d) p h .1) }
+
+pub numbered-at : {n : ℕ} {l : List ℤ} → Numbered n l → (p : ℕ) → getD l p (pos 0) ≡ pos (getD (map natAbs l) p 0)
+numbered-at {n} {l} h p = ap (λ l. getD l p (pos 0)) (h .natural) ∙ List·getD-map pos (map natAbs l) p 0
 
 -- ---- the count
 pub own-kept : (numbers : List ℕ) (n : ℕ) → ownPlaces (map pos numbers) n ≡ kept numbers n

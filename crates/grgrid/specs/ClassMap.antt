@@ -1,9 +1,10 @@
 -- The class map: point by point upwards, the first map that lands lower gives that point's number; else the point keeps its own.
+use mathlib.Core.Path.{_≡_}
 use mathlib.Core.Bool.{true, false}
 use mathlib.Core.List.{List, [], _∷_, map}
-use Prim.Native.Nat.{ℕ, zero, suc}
+use Prim.Native.Nat.{ℕ, zero, suc, _≤_, _<_}
 use lib.Dec.{ltb, eqb}
-use lib.IntN.{ℤ}
+use lib.IntN.{ℤ, pos, natAbs}
 use lib.ListN.{getD}
 use Rattle.common.specs.Matrix.{Vec, Mat}
 use Rattle.grgrid.specs.Grid.{size, rotate}
@@ -35,3 +36,9 @@ classMap d ps rotations = pass (map (rotate d ps) rotations) (size d)
 unfoldable pub classes : Vec ℕ → Vec ℤ → List (Mat ℤ) → ℕ
 unfolding classMap
 classes d ps rotations = kept (classMap d ps rotations) (size d)
+
+-- a class map as a slice holds it: no number lies above its point, and each is that of a point with its own
+pub record Numbered (n : ℕ) (l : List ℤ) : Type 0 where
+  pub natural : l ≡ map pos (map natAbs l)
+  pub low : (p : ℕ) → p < n → getD (map natAbs l) p 0 ≤ p
+  pub own : (p : ℕ) → p < n → getD (map natAbs l) (getD (map natAbs l) p 0) 0 ≡ getD (map natAbs l) p 0

@@ -1,6 +1,9 @@
 pub mod Grid
 pub mod Sides
 pub mod Build
+pub mod Lists
+pub mod Picked
+pub mod MatrixGroup
 pub mod ClassMap
 pub mod Own
 pub mod IrGridMap

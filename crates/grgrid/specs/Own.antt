@@ -1,11 +1,11 @@
 -- The entries of a class map that equal their own place.
 use mathlib.Core.Bool.{Bool, true, false}
-use mathlib.Core.List.{List, [], _∷_, _++_}
+use mathlib.Core.List.{List}
 use Prim.Native.Nat.{ℕ, zero, suc}
 use lib.Dec.{eqb}
 use lib.IntN.{ℤ, pos, negsuc}
 use lib.ListN.{getD}
-use Rattle.integer.specs.Checked.{pick}
+use Rattle.grgrid.specs.Picked.{picked}
 
 abbrev pub isPlace : ℤ → ℕ → Bool
 isPlace (pos m) n = eqb m n
@@ -18,5 +18,4 @@ ownPlaces l (suc n) = let r = ownPlaces l n in elim (isPlace (getD l n (pos 0)) 
 
 -- which they are, from the lowest up
 abbrev pub ownPoints : List ℤ → ℕ → List ℕ
-ownPoints l zero = []
-ownPoints l (suc n) = ownPoints l n ++ pick (isPlace (getD l n (pos 0)) n) (n ∷ []) []
+ownPoints l n = picked (λ p. isPlace (getD l p (pos 0)) p) n

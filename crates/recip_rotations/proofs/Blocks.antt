@@ -10,7 +10,7 @@ use lib.ListN.{length, getD, take, drop, set, length-append, length-map, take-ap
 use lib.Seq.{drop-cons, drop-append-add, getD-append-add, drop-drop, paste}
 use Rattle.common.specs.Matrix.{Mat, entries, transpose, negate}
 use Rattle.common.specs.Array.{matrixAt, matricesFrom, flat}
-use Rattle.common.proofs.Reading.{length-flat}
+use Rattle.common.proofs.Reading.{length-flat, length-from}
 use Rattle.recip_rotations.specs.Flat.{laid}
 use Rattle.recip_rotations.specs.Steps.{swapped, transposedAt}
 
@@ -52,10 +52,6 @@ module _ (l : List ℤ) where
 
   pub from-more : (k : ℕ) → matricesFrom l 0 (k + 1) ≡ matricesFrom l 0 k ++ (matrixAt l k ∷ [])
   from-more k = ap (matricesFrom l 0) (add-one k) ∙ from-snoc 0 k ∙ ap (λ i. matricesFrom l 0 k ++ (matrixAt l i ∷ [])) (zero-add k)
-
-  pub length-from : (n k : ℕ) → length (matricesFrom l n k) ≡ k
-  length-from n zero = refl
-  length-from n (suc k) = ap suc (length-from (suc n) k)
 
   flat-from : (n k : ℕ) → (n + k) * 9 ≤ length l → flat (matricesFrom l n k) ≡ take (k * 9) (drop (n * 9) l)
   flat-from n zero h = refl

@@ -10,11 +10,11 @@ use lib.ListN.{length, length-append, drop}
 use lib.Seq.{paste}
 use Rattle.common.specs.Matrix.{Mat}
 use Rattle.common.specs.Array.{matrixAt, matricesFrom, matrices}
-use Rattle.common.proofs.Reading.{read-flat}
+use Rattle.common.proofs.Reading.{read-flat, length-from}
 use Rattle.recip_rotations.specs.Unique.{among, kept, unique}
 use Rattle.recip_rotations.specs.Flat.{laid}
 use Rattle.recip_rotations.specs.Steps.{Counted}
-use Rattle.recip_rotations.proofs.Blocks.{length-from, laid-over, laid-self, laid-copy}
+use Rattle.recip_rotations.proofs.Blocks.{laid-over, laid-self, laid-copy}
 use Rattle.recip_rotations.proofs.Distinct.{kept-there, kept-new, unique-more, unique-longer}
 
 clash : {A : Type 0} {r : ℕ} → r ≤ 48 → 48 < r → A

@@ -15,11 +15,12 @@ use Rattle.common.specs.Tested.{require}
 use Rattle.common.specs.declared.Tested.{Tested}
 use Rattle.common.specs.declared.Tested.the-variants as tested
 use Rattle.common.specs.declared.Refusal.the-variants.{TooManyForInversion}
+use Rattle.common.proofs.Reading.{length-from}
 use Rattle.recip_rotations.specs.Flat.{laid}
 use Rattle.recip_rotations.specs.PointGroup.{joins, joined, joinTests}
 use Rattle.recip_rotations.specs.Steps.{Grouped}
 use Rattle.recip_rotations.specs.declared.PointGroup.the-variants.{Rotations, Refused}
-use Rattle.recip_rotations.proofs.Blocks.{length-from, laid-self, laid-negatives}
+use Rattle.recip_rotations.proofs.Blocks.{laid-self, laid-negatives}
 use Rattle.recip_rotations.proofs.Outcomes.{accepted, refused}
 
 -- whether the negatives are joined, and whether they have room

@@ -4,6 +4,7 @@ use mathlib.Core.Logic.{⊎-elim}
 use mathlib.Core.Bool.{_&&_}
 use mathlib.Core.List.{List, [], _∷_, map, List·Memᴰ·head as here, List·Memᴰ·tail as there, List·Memᴰ·not-nil as not-nil, List·Memᴰ·cases-cons as cases}
 use Prim.Native.Nat.{ℕ}
+use native.Mathlib.Omega.{arith}
 use lib.Dec.{T, leb}
 use lib.IntN.{ℤ, pos, natAbs}
 use Rattle.integer.proofs.Test.{and-l, and-r, and-in, holds, is-true}
@@ -13,9 +14,10 @@ use Rattle.common.specs.Limits.{sideFits, diagonalFits}
 use Rattle.common.specs.Tested.{require, outputOf, after}
 use Rattle.common.specs.declared.Tested.{Tested}
 use Rattle.common.specs.declared.Tested.the-variants.{Accepted}
+use Rattle.common.specs.declared.Refusal.{Refusal}
 use Rattle.common.specs.declared.Refusal.the-variants.{SymmetryBroken}
 use Rattle.common.proofs.Matrix.{axes-of, same-vector}
-use Rattle.common.proofs.Tests.{passed, both-accepted}
+use Rattle.common.proofs.Tests.{passed, passed-by, both-accepted}
 use Rattle.common.proofs.Bounds.{side-above}
 use Rattle.grgrid.specs.Grid.{size}
 use Rattle.grgrid.proofs.Lists.{_∈_}
@@ -23,7 +25,9 @@ use Rattle.grgrid.proofs.Folding.{Sides}
 use Rattle.grgrid.proofs.Acting.{grid}
 use Rattle.grgrid.proofs.Accepted.{grid-fits}
 use Rattle.transform_rotations.specs.Transform.{transformD, isWhole, rounded}
-use Rattle.transform_rotations.specs.TransformRotations.{allWhole, transformedList, inputTests, transformTests, transformWritten}
+use Rattle.transform_rotations.specs.TransformRotations.{allWhole, transformedList, inputTests, transformTests, answerFor, transformAnswer, transformWritten}
+use Rattle.transform_rotations.specs.declared.Transformed.the-variants as answer
+use Rattle.transform_rotations.specs.declared.Transformed.the-variants.{Written}
 
 -- ---- the diagonal numbers
 pub sides-fit : (d : List ℤ) → T (diagonalFits d) → (k : Axis) → T (sideFits (side (vectorOf d) k))
@@ -56,6 +60,14 @@ module _ (d : Vec ℤ) (q : Mat ℤ) where
 module _ (rotations d : List ℤ) (q : List (List ℤ)) (n : ℕ) where
   abbrev whole : Tested
   whole = require (allWhole (vectorOf d) (matrixOf q) (matrices rotations)) SymmetryBroken Accepted
+
+  -- an accepted call
+  pub written-tests : transformAnswer rotations d q n ≡ Written → transformTests rotations d q n ≡ Accepted
+  unfolding transformAnswer
+  written-tests e = passed-by answerFor not-written (transformTests rotations d q n) e
+    where
+      not-written : (r : Refusal) → ¬ (answer.Refused r ≡ Written)
+      not-written r e = let z : _≡_ {A = ℕ} 0 1 = cc in omega arith
 
   pub tests-input : transformTests rotations d q n ≡ Accepted → inputTests rotations d q n ≡ Accepted
   unfolding transformTests

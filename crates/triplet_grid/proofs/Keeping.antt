@@ -1,8 +1,7 @@
 -- The operations that keep q0, found matrix by matrix and moved to the front of their list.
 use mathlib.Core.Path.{_≡_, refl, sym, _∙_, ap, ap₂}
 use mathlib.Core.Bool.{Bool, true, false}
-use mathlib.Core.Logic.{⊎-elim}
-use mathlib.Core.List.{List, [], _∷_, _++_, append-nil, List·Memᴰ·head as here, List·Memᴰ·tail as there, List·Memᴰ·cases-cons as cases}
+use mathlib.Core.List.{List, [], _∷_, _++_, append-nil}
 use Prim.Native.Nat.{ℕ, _+_, _-_, _*_, _≤_}
 use native.Mathlib.Omega.{arith}
 use lib.Dec.{T, eqb, lit≤}
@@ -15,11 +14,11 @@ use Rattle.common.specs.Matrix.{Vec, Mat, entries, _▹_}
 use Rattle.common.specs.Array.{number, vectorOf, items, rows, matrixOf, matrixAt, matricesFrom, matrices, flat}
 use Rattle.common.specs.Limits.{allWithin}
 use Rattle.common.proofs.Matrix.{same-matrix}
-use Rattle.common.proofs.Reading.{length-flat, read-flat, matrices-flat, read-small}
+use Rattle.common.proofs.Reading.{length-flat, read-flat, matrices-flat, length-from, read-small}
 use Rattle.grgrid.specs.Grid.{index, address, carry}
-use Rattle.grgrid.proofs.Lists.{_∈_}
+use Rattle.grgrid.proofs.Picked.{of-passing, passing-append, passing-few}
 use Rattle.recip_rotations.specs.Flat.{laid}
-use Rattle.recip_rotations.proofs.Blocks.{from-more, length-from, laid-over, laid-copy}
+use Rattle.recip_rotations.proofs.Blocks.{from-more, laid-over, laid-copy}
 use Rattle.recip_rotations.proofs.Sizes.{within-flat}
 use Rattle.triplet_grid.specs.Partner.{keeping, stabilizer}
 
@@ -48,30 +47,9 @@ unfolding carry
 carry-is d q0 e f g = e ∙ ap₂ (λ m a. index d (matrixOf m ▹ vectorOf a)) f g
 
 module _ (d : Vec ℕ) (q0 : ℕ) where
-  keeping-append : (a b : List (Mat ℤ)) → keeping d q0 (a ++ b) ≡ keeping d q0 a ++ keeping d q0 b
-  keeping-append [] b = refl
-  keeping-append (m ∷ a) b = step (eqb (carry d m q0) q0) (keeping-append a b)
-    where
-      step : (t : Bool) → keeping d q0 (a ++ b) ≡ keeping d q0 a ++ keeping d q0 b
-          → pick t (m ∷ keeping d q0 (a ++ b)) (keeping d q0 (a ++ b)) ≡ pick t (m ∷ keeping d q0 a) (keeping d q0 a) ++ keeping d q0 b
-      step true e = ap (λ l. m ∷ l) e
-      step false e = e
-
-  keeping-few : (l : List (Mat ℤ)) → length (keeping d q0 l) ≤ length l
-  keeping-few [] = omega arith
-  keeping-few (m ∷ l) = step (eqb (carry d m q0) q0) (keeping-few l)
-    where
-      step : (t : Bool) → length (keeping d q0 l) ≤ length l → length (pick t (m ∷ keeping d q0 l) (keeping d q0 l)) ≤ length (m ∷ l)
-      step true h = omega arith
-      step false h = omega arith
-
-  keeping-of : (l : List (Mat ℤ)) {m : Mat ℤ} → m ∈ keeping d q0 l → m ∈ l
-  keeping-of [] i = i
-  keeping-of (n ∷ l) {m} i = step (eqb (carry d n q0) q0) i (keeping-of l)
-    where
-      step : (t : Bool) → m ∈ pick t (n ∷ keeping d q0 l) (keeping d q0 l) → (m ∈ keeping d q0 l → m ∈ l) → m ∈ n ∷ l
-      step true i h = ⊎-elim here (λ k. there (h k)) (cases i)
-      step false i h = there (h i)
+  -- its test
+  abbrev keeps : Mat ℤ → Bool
+  keeps m = eqb (carry d m q0) q0
 
   -- ---- after n matrices of a list, `kept` of which stand at its front
   module _ (before : List ℤ) where
@@ -94,7 +72,7 @@ module _ (d : Vec ℕ) (q0 : ℕ) where
 
       next : (t : Bool) → eqb (carry d (matrixAt before n) q0) q0 ≡ t → front (n + 1) ≡ front n ++ pick t (matrixAt before n ∷ []) []
       unfolding stabilizer
-      next t e = ap (keeping d q0) (from-more before n) ∙ keeping-append (matricesFrom before 0 n) (matrixAt before n ∷ []) ∙ ap (λ t. front n ++ pick t (matrixAt before n ∷ []) []) e
+      next t e = ap (keeping d q0) (from-more before n) ∙ passing-append keeps (matricesFrom before 0 n) (matrixAt before n ∷ []) ∙ ap (λ t. front n ++ pick t (matrixAt before n ∷ []) []) e
 
       module _ {r : ℕ} (c : r ≡ carry d (matrixAt before n) q0) where
         pub front-more : r ≡ q0 → {m : List (List ℤ)} {after : List ℤ} → m ≡ rows (matrixAt before n) → after ≡ paste group (kept * 9) (entries (matrixOf m) []) 9 → Front (n + 1) (kept + 1) after
@@ -115,7 +93,7 @@ module _ (d : Vec ℕ) (q0 : ℕ) where
     module _ (count : ℕ) {kept : ℕ} (k : kept ≡ length (front count)) where
       pub front-room : count * 9 ≤ length before → kept * 9 ≤ length before
       unfolding stabilizer
-      front-room h = omega (arith, keeping-few (matricesFrom before 0 count), length-from before 0 count)
+      front-room h = omega (arith, passing-few keeps (matricesFrom before 0 count), length-from before 0 count)
 
       -- the part from 0 on that holds them
       pub front-part : {group : List ℤ} → group ≡ laid (front count) before → take (kept * 9 - 0) group ≡ flat (front count)
@@ -128,4 +106,4 @@ module _ (d : Vec ℕ) (q0 : ℕ) where
 
     pub front-within : (count : ℕ) → T (allWithin 100000 before) → T (allWithin 100000 (flat (front count)))
     unfolding stabilizer
-    front-within count w = within-flat 100000 (front count) (λ m i. read-small 100000 before w 0 count m (keeping-of (matricesFrom before 0 count) i))
+    front-within count w = within-flat 100000 (front count) (λ m i. read-small 100000 before w 0 count m (of-passing keeps (matricesFrom before 0 count) i .0))

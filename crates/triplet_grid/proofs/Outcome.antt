@@ -3,9 +3,9 @@ use mathlib.Core.Path.{_≡_, sym, _∙_, ap}
 use mathlib.Core.Bool.{Bool, false, _&&_}
 use mathlib.Core.List.{List, map}
 use Prim.Native.Nat.{ℕ, _<_}
-use lib.Dec.{T, eqb, ltb→lt}
-use lib.IntN.{ℤ, pos, negsuc, natAbs}
-use lib.Signed.{nonNeg, leZ, ltZ}
+use lib.Dec.{T, eqb}
+use lib.IntN.{ℤ, pos, natAbs}
+use lib.Signed.{nonNeg}
 use borrow.Author.Tests.{eqb-true}
 use Rattle.integer.proofs.Test.{holds, and-l, and-r, is-true}
 use Rattle.common.specs.Array.{sidesOf, matrices}
@@ -18,6 +18,7 @@ use Rattle.common.specs.declared.Tested.the-variants.{Accepted, Refused}
 use Rattle.common.proofs.Tests.{passed}
 use Rattle.grgrid.specs.Grid.{size}
 use Rattle.grgrid.specs.ClassMap.{kept}
+use Rattle.grgrid.proofs.Accepted.{point-inside}
 use Rattle.recip_rotations.specs.PointGroup.{roomTests}
 use Rattle.triplet_grid.specs.IrTriplets.{mapTriplets, inputTests, tripletTests, classesAt, answerFor, irTripletsAnswer, mapTripletsWritten, mapQWritten}
 use Rattle.triplet_grid.specs.declared.IrTriplets.{IrTriplets}
@@ -40,7 +41,7 @@ input-accepted q0 d rotations n m e =
     let c = passed (eqb n size && eqb m size) WrongLength _ (b .1) in
     let f = passed (pointFits q0 (pos size)) OutsideLimits _ (c .1) in
     let g = passed (rotationsFit 100000 rotations) OutsideLimits _ (f .1) in
-    let p = inside q0 size (holds (f .0)) in
+    let p = point-inside q0 size (holds (f .0)) in
     record {
       whole = holds (a .0);
       grid = holds (b .0);
@@ -50,10 +51,6 @@ input-accepted q0 d rotations n m e =
       point = p .1;
       fit = holds (g .0);
     }
-  where
-    inside : (q : ℤ) (n : ℕ) → T (pointFits q (pos n)) → T (nonNeg q) × (natAbs q < n)
-    inside (pos p) n t = (tt, ltb→lt p n (and-r (leZ (pos 0) (pos p)) (ltZ (pos p) (pos n)) t))
-    inside (negsuc p) n t = absurd t
 
 module _ (q0 : ℤ) (d rotations : List ℤ) (time : Bool) (n m : ℕ) where
   abbrev room : Tested

@@ -2,12 +2,11 @@
 use mathlib.Core.Path.{_≡_, refl, sym, _∙_, ap, subst}
 use mathlib.Core.Logic.{_⊎_, inl, inr, ⊎-elim, _↔_}
 use mathlib.Core.Bool.{Bool, true, false}
-use mathlib.Core.List.{List, [], _∷_, _++_, map, List·Memᴰ·head as here, List·Memᴰ·tail as there, List·Memᴰ·not-nil as not-nil, List·Memᴰ·cases-cons as cases, List·Memᴰ·append-cases as append-cases, Memᴰ·append-left as append-left, Memᴰ·append-right as append-right}
+use mathlib.Core.List.{List, [], _++_, map, List·Memᴰ·append-cases as append-cases, Memᴰ·append-left as append-left, Memᴰ·append-right as append-right}
 use Prim.Native.Nat.{ℕ, _<_}
 use lib.Dec.{T, eqb, eqb→eq, eqb-refl}
 use lib.IntN.{ℤ, negℤ, _-ℤ_}
 use lib.ListN.{getD}
-use Rattle.integer.specs.Checked.{pick}
 use Rattle.integer.proofs.Polynomial.{Expr, sub, neg}
 use Rattle.integer.proofs.Congruence.{congruent-add, congruent-neg}
 use Rattle.common.specs.Matrix.{Vec, Mat, side, vector, _·_, identity, negate, _▹_, entries}
@@ -15,6 +14,7 @@ use Rattle.common.proofs.Matrix.{sides, column, solveVec, 𝔸, applyE}
 use Rattle.grgrid.specs.Grid.{size, index, address, carry}
 use Rattle.grgrid.specs.ClassMap.{classes, kept}
 use Rattle.grgrid.proofs.Lists.{_∈_}
+use Rattle.grgrid.proofs.Picked.{in-passing, of-passing}
 use Rattle.grgrid.proofs.Pass.{Equiv}
 use Rattle.grgrid.proofs.Group.{Group, Orbit, Keeps, orbit-equiv, keeps-group}
 use Rattle.grgrid.proofs.Folding.{Sides, Agree, agree-by, index-lt, index-address, address-agree, same-index}
@@ -24,37 +24,20 @@ use Rattle.grgrid.proofs.Classes.{plain-classes}
 use Rattle.grgrid.proofs.Count.{Classified}
 use Rattle.recip_rotations.specs.PointGroup.{joins, pointGroup, joined}
 use Rattle.recip_rotations.proofs.Told.{unique-distinct, told-group}
-use Rattle.triplet_grid.specs.Partner.{keeping, stabilizer, third, partner}
+use Rattle.triplet_grid.specs.Partner.{stabilizer, third, partner}
 use Rattle.triplet_grid.specs.IrTriplets.{mapQ, mapTriplets, classesAt}
 use Rattle.triplet_grid.proofs.Joining.{Partner, Joined, Meets, joined-meets, triplet-classes}
 
 -- ---- the members of the stabilizer
-module _ (d : Vec ℕ) (q0 : ℕ) {M : Mat ℤ} where
-  keeping-in : (l : List (Mat ℤ)) → M ∈ l → carry d M q0 ≡ q0 → M ∈ keeping d q0 l
-  keeping-in [] k e = absurd (not-nil k)
-  keeping-in (m ∷ l) k e = step (eqb (carry d m q0) q0) (λ i. rw (← i, e) (eqb-refl q0)) (λ j. keeping-in l j e) (cases k)
-    where
-      step : (b : Bool) → (M ≡ m → T b) → (M ∈ l → M ∈ keeping d q0 l) → (M ≡ m) ⊎ (M ∈ l) → M ∈ pick b (m ∷ keeping d q0 l) (keeping d q0 l)
-      step true t r (inl i) = here i
-      step true t r (inr j) = there (r j)
-      step false t r (inl i) = absurd (t i)
-      step false t r (inr j) = r j
-
-  of-keeping : (l : List (Mat ℤ)) → M ∈ keeping d q0 l → (M ∈ l) × (carry d M q0 ≡ q0)
-  of-keeping [] k = absurd (not-nil k)
-  of-keeping (m ∷ l) k = step (eqb (carry d m q0) q0) (eqb→eq (carry d m q0) q0) (of-keeping l) k
-    where
-      up : (M ∈ l) × (carry d M q0 ≡ q0) → (M ∈ m ∷ l) × (carry d M q0 ≡ q0)
-      up k = (there (k .0), k .1)
-
-      step : (b : Bool) → (T b → carry d m q0 ≡ q0) → (M ∈ keeping d q0 l → (M ∈ l) × (carry d M q0 ≡ q0)) → M ∈ pick b (m ∷ keeping d q0 l) (keeping d q0 l)
-          → (M ∈ m ∷ l) × (carry d M q0 ≡ q0)
-      step true t r k = ⊎-elim (λ i. (here i, rw i (t tt))) (λ j. up (r j)) (cases k)
-      step false t r k = up (r k)
-
-  pub in-stabilizer : (l : List (Mat ℤ)) → (M ∈ stabilizer d q0 l) ↔ Keeps (carry d) (λ M. M ∈ l) q0 M
-  unfolding stabilizer
-  in-stabilizer l = (of-keeping l, λ k. keeping-in l (k .0) (k .1))
+pub in-stabilizer : (d : Vec ℕ) (q0 : ℕ) {M : Mat ℤ} (l : List (Mat ℤ)) → (M ∈ stabilizer d q0 l) ↔ Keeps (carry d) (λ M. M ∈ l) q0 M
+unfolding stabilizer
+in-stabilizer d q0 {M} l = (
+  λ k. let r = of-passing keeps l k in (r .0, eqb→eq (carry d M q0) q0 (r .1)),
+  λ k. in-passing keeps l (k .0) (rw (k .1) (eqb-refl q0)),
+)
+  where
+    keeps : Mat ℤ → Bool
+    keeps m = eqb (carry d m q0) q0
 
 -- ---- the partner
 abbrev thirdE : Vec Expr → Vec Expr → Vec Expr

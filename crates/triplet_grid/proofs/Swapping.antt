@@ -2,38 +2,26 @@
 use mathlib.Core.Path.{_≡_, refl, sym, _∙_, ap, ap₂, subst}
 use mathlib.Core.Logic.{⊎-elim}
 use mathlib.Core.Bool.{Bool, true, false}
-use mathlib.Core.List.{List, map, map-map, map-id}
+use mathlib.Core.List.{List, map}
 use Prim.Native.Nat.{ℕ, _+_, _<_, _≤_}
 use native.Mathlib.Nat.{eq-or-lt-of-le}
 use native.Mathlib.Omega.{arith}
 use lib.IntN.{ℤ, pos, natAbs}
-use lib.ListN.{length, getD, set, length-map, List·getD-map}
+use lib.ListN.{length, getD, set, length-map}
 use lib.Dec.{ltb}
 use lib.Signed.{ltZ}
 use borrow.Author.Tests.{ltb-true}
 use Rattle.integer.specs.Checked.{pick}
 use Rattle.common.specs.Matrix.{Vec, Mat, origin}
 use Rattle.common.specs.Array.{vectorOf, items}
-use Rattle.grgrid.specs.Grid.{size, index, address, rotate}
-use Rattle.grgrid.specs.ClassMap.{classMap, kept}
+use Rattle.grgrid.specs.Grid.{size, index, address}
+use Rattle.grgrid.specs.ClassMap.{Numbered, kept}
 use Rattle.grgrid.specs.Own.{ownPlaces}
 use Rattle.grgrid.proofs.Built.{length-build, build-at, build-list, written, written-more, written-read}
-use Rattle.grgrid.proofs.Pass.{pass-own}
-use Rattle.grgrid.proofs.Numbers.{own-kept}
+use Rattle.grgrid.proofs.Numbers.{own-kept, numbers-of, numbered}
 use Rattle.recip_rotations.specs.PointGroup.{pointGroup}
 use Rattle.triplet_grid.specs.Partner.{stabilizer, third, partner}
-use Rattle.triplet_grid.specs.IrTriplets.{Numbered, lowerOf, swappedNumber, numbersOf, mapTriplets, classesAt}
-
-pub numbers-of : (classes : List ℕ) {l : List ℤ} → l ≡ map pos classes → map natAbs l ≡ classes
-numbers-of classes e = ap (map natAbs) e ∙ map-map natAbs pos classes ∙ map-id classes
-
--- the class map of any list of operations
-numbered : (d : Vec ℕ) (ps : Vec ℤ) (ms : List (Mat ℤ)) {l : List ℤ} → l ≡ map pos (classMap d ps ms) → Numbered (size d) l
-unfolding classMap
-numbered d ps ms e =
-    let gs = map (rotate d ps) ms in
-    let back = numbers-of (classMap d ps ms) e in
-    record { natural = e ∙ ap (map pos) (sym back); low = λ p h. rw back (pass-own gs (size d) p h .0); own = λ p h. rw back (pass-own gs (size d) p h .1) }
+use Rattle.triplet_grid.specs.IrTriplets.{lowerOf, swappedNumber, numbersOf, mapTriplets, classesAt}
 
 pub classes-numbered : (q0 : ℕ) (d : Vec ℕ) (ms : List (Mat ℤ)) (time : Bool) {l : List ℤ} → l ≡ map pos (classesAt q0 d ms time) → Numbered (size d) l
 unfolding classesAt
@@ -42,9 +30,6 @@ classes-numbered q0 d ms time e = numbered d origin (stabilizer d q0 (pointGroup
 pub classes-low : (q0 : ℕ) (d : Vec ℕ) (ms : List (Mat ℤ)) (time : Bool) (p : ℕ) → p < size d → getD (classesAt q0 d ms time) p 0 ≤ p
 classes-low q0 d ms time p h =
     subst (λ l. getD l p 0 ≤ p) (numbers-of (classesAt q0 d ms time) refl) (classes-numbered q0 d ms time {l = map pos (classesAt q0 d ms time)} refl .low p h)
-
-pub numbered-at : {n : ℕ} {l : List ℤ} → Numbered n l → (p : ℕ) → getD l p (pos 0) ≡ pos (getD (map natAbs l) p 0)
-numbered-at {n} {l} h p = ap (λ l. getD l p (pos 0)) (h .natural) ∙ List·getD-map pos (map natAbs l) p 0
 
 -- the partner, from the address of q0
 pub partner-is : (d : Vec ℕ) (q0 q1 : ℕ) {a : List ℤ} → a ≡ items (address d q0) → index d (third (vectorOf a) (address d q1)) ≡ partner d q0 q1

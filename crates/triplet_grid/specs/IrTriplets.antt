@@ -1,8 +1,7 @@
 -- `ir_triplets_at_q`: the tests, in document 01's order, the answer and the two outputs, which have n and m places.
-use mathlib.Core.Path.{_≡_}
 use mathlib.Core.Bool.{Bool, true, false, _&&_}
 use mathlib.Core.List.{List, map}
-use Prim.Native.Nat.{ℕ, _≤_, _<_}
+use Prim.Native.Nat.{ℕ}
 use lib.Dec.{eqb, ltb}
 use lib.IntN.{ℤ, pos, natAbs}
 use lib.ListN.{getD}
@@ -85,9 +84,3 @@ module _ (q0 : ℤ) (d rotations : List ℤ) (timeReversal swappable : Bool) (n 
   unfoldable pub mapQWritten : List ℤ
   unfolding tripletTests classesAt
   mapQWritten = outputOf tests m (map pos here)
-
--- the class map that an output holds: no number lies above its point, and each is that of a point with its own
-pub record Numbered (n : ℕ) (l : List ℤ) : Type 0 where
-  pub natural : l ≡ map pos (map natAbs l)
-  pub low : (p : ℕ) → p < n → getD (map natAbs l) p 0 ≤ p
-  pub own : (p : ℕ) → p < n → getD (map natAbs l) (getD (map natAbs l) p 0) 0 ≡ getD (map natAbs l) p 0

@@ -1,15 +1,14 @@
 -- The operations that keep q0, and the partner of a point: with q0 and q1 it makes a sum that folds to 0.
-use mathlib.Core.List.{List, [], _∷_}
+use mathlib.Core.List.{List}
 use Prim.Native.Nat.{ℕ}
 use lib.Dec.{eqb}
 use lib.IntN.{ℤ, negℤ, _-ℤ_}
-use Rattle.integer.specs.Checked.{pick}
 use Rattle.common.specs.Matrix.{Vec, Mat, side, vector}
 use Rattle.grgrid.specs.Grid.{index, address, carry}
+use Rattle.grgrid.specs.Picked.{passing}
 
 abbrev pub keeping : Vec ℕ → ℕ → List (Mat ℤ) → List (Mat ℤ)
-keeping d q0 [] = []
-keeping d q0 (m ∷ l) = pick (eqb (carry d m q0) q0) (m ∷ keeping d q0 l) (keeping d q0 l)
+keeping d q0 l = passing (λ m. eqb (carry d m q0) q0) l
 
 unfoldable pub stabilizer : Vec ℕ → ℕ → List (Mat ℤ) → List (Mat ℤ)
 unfolding carry

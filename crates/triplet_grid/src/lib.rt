@@ -16,13 +16,13 @@ ghost use Rattle.common.specs.Array.{vectorOf, matricesFrom, matrixOf, items, m
 ghost use Rattle.common.specs.Limits.{allWithin, wholeMatrices, rotationsFit};
 ghost use Rattle.grgrid.specs.Grid.{size, index, address};
 ghost use Rattle.grgrid.specs.Sides.{sides, GridFits};
-ghost use Rattle.grgrid.specs.ClassMap.{kept};
+ghost use Rattle.grgrid.specs.ClassMap.{kept, Numbered};
 ghost use Rattle.common.specs.declared.Tested.the-variants.{Accepted};
 ghost use Rattle.recip_rotations.specs.Flat.{laid};
 ghost use Rattle.recip_rotations.specs.PointGroup.{roomTests};
 ghost use Rattle.triplet_grid.specs.declared.IrTriplets.the-variants.{Refused};
 ghost use Rattle.triplet_grid.specs.Partner.{stabilizer, third};
-ghost use Rattle.triplet_grid.specs.IrTriplets.{mapQ, lowerOf, mapTriplets, Numbered, inputTests, classesAt, irTripletsAnswer, mapTripletsWritten, mapQWritten};
+ghost use Rattle.triplet_grid.specs.IrTriplets.{mapQ, lowerOf, mapTriplets, inputTests, classesAt, irTripletsAnswer, mapTripletsWritten, mapQWritten};
 
 // The number of classes, or why there is none.
 pub enum IrTriplets {

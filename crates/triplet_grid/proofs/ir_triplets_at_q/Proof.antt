@@ -17,7 +17,8 @@ use Rattle.grgrid.specs.ClassMap.{kept}
 use Rattle.grgrid.proofs.Accepted.{grid-fits}
 use Rattle.triplet_grid.specs.IrTriplets.{inputTests, tripletTests, classesAt, mapTriplets}
 use Rattle.triplet_grid.specs.declared.IrTriplets.the-variants.{Classes}
-use Rattle.triplet_grid.proofs.Swapping.{numbers-of, classes-numbered}
+use Rattle.grgrid.proofs.Numbers.{numbers-of}
+use Rattle.triplet_grid.proofs.Swapping.{classes-numbered}
 use Rattle.triplet_grid.proofs.Outcome.{InputAccepted, input-accepted, outcome, input-refused, then-room}
 use Rattle.triplet_grid.proofs.ir_triplets_at_q.Statement.{statement}
 use Rattle.triplet_grid.proofs.ir_triplets_at_q.Tie as tie

@@ -13,7 +13,8 @@ use Rattle.grgrid.specs.Sides.{sides}
 use Rattle.grgrid.proofs.Built.{written, written-end}
 use Rattle.grgrid.proofs.Sizes.{address-sized}
 use Rattle.triplet_grid.specs.IrTriplets.{lowerOf, swappedNumber, mapTriplets}
-use Rattle.triplet_grid.proofs.Swapping.{numbered-at, partner-is, own-stored, other-stored}
+use Rattle.grgrid.proofs.Numbers.{numbered-at}
+use Rattle.triplet_grid.proofs.Swapping.{partner-is, own-stored, other-stored}
 use Rattle.triplet_grid.proofs.ir_triplets_at_q_perm_q1q2.Statement.{statement}
 use Rattle.triplet_grid.proofs.ir_triplets_at_q_perm_q1q2.Tie as tie
 

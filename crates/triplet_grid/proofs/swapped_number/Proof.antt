@@ -11,7 +11,8 @@ use Rattle.grgrid.specs.Grid.{index, address}
 use Rattle.grgrid.specs.Sides.{sides}
 use Rattle.grgrid.proofs.Sizes.{address-sized}
 use Rattle.triplet_grid.specs.Partner.{third}
-use Rattle.triplet_grid.proofs.Swapping.{numbered-at, lower-is, own-is}
+use Rattle.grgrid.proofs.Numbers.{numbered-at}
+use Rattle.triplet_grid.proofs.Swapping.{lower-is, own-is}
 use Rattle.triplet_grid.proofs.swapped_number.Statement.{statement}
 use Rattle.triplet_grid.proofs.swapped_number.Tie as tie
 

@@ -45,7 +45,8 @@
  *   reciprocal     R transposed acts on q; zone_transform_rotations takes this list, the told part of those calls'
  *                  output (9 * told[0] places)
  *   transformed    M = D·Q⁻¹·R·Q·D⁻¹, for each R of the reciprocal list, acts on addresses; zone_ir_grid_map,
- *                  zone_ir_triplets_at_q and zone_rotate_bz_grid_index take this list, or a matrix of it
+ *                  zone_class_weights, zone_ir_triplets_at_q and zone_rotate_bz_grid_index take this list, or a matrix
+ *                  of it
  *
  * No call can tell one of these lists from another. A list is a group if it holds the identity, no matrix twice, only
  * determinants of 1 and -1, and every product of two. For other lists a class map need not be one of classes:
@@ -71,6 +72,7 @@
  *   2  zone_reciprocal_group       the rotations, time_reversal         the reciprocal list
  *   3  zone_transform_rotations    the reciprocal list, d, q            the transformed list
  *      zone_ir_grid_map            the transformed list, d, ps          the classes of the points, if wanted
+ *      zone_class_weights          the same, a point                    their weights and members, likewise
  *   4  zone_bz_grid_addresses      d, q, ps, lattice, type              addresses, map, grg
  *   5  zone_ir_triplets_at_q       q0, d, the transformed list,         map_triplets, map_q
  *                                  time_reversal, swappable
@@ -104,6 +106,7 @@
  *   lattice      finite, of size at most 1,000,000
  *   offsets      of size at most 1,000
  *   q0           0 to N - 1 (an image index in zone_bz_triplets_at_q of type 2: there 14)
+ *   point        0 to N - 1
  *   limit        1 to 1,000,000
  *
  * A list of matrices has a multiple of 9 places, one of addresses a multiple of 3. Tables that are read may have any
@@ -222,6 +225,21 @@ int64_t zone_transform_rotations(const int64_t *rotations, size_t rotations_len,
 int64_t zone_ir_grid_map(const int64_t *rotations, size_t rotations_len, const int64_t *d, size_t d_len,
                          const int64_t *ps, size_t ps_len, int64_t *map, size_t map_len, int64_t *told,
                          size_t told_len);
+
+/* The weights and the members of those classes, and the rotations that keep a point. In: the transformed list, d[3],
+ * ps[3], as for zone_ir_grid_map; a point. Out: weights[N]: by rising class number how many points bear it; members[N]:
+ * by rising class number the points that bear it, each class rising, so that they fill all places and the first of a
+ * class is its number; keepers[rotations_len / 9]: the places in the list, from 0 and rising, of the matrices that
+ * carry the point to itself, by the rule of zone_ir_grid_map. What is left of weights and keepers holds -1. told[2]:
+ * how many classes there are, and how many keepers. A matrix that stands twice counts twice; without any, each point
+ * is a class and there are no keepers. It is proved that the weights add up to N, for any list, and that the weight of
+ * the point's class times its keepers is the number of rotations, for a group that call 3 accepted with det Q = 1 or -1
+ * and a shift as above. Else it need not be: with d (2,2,1), ps (1,0,0), the identity and the exchange of axes 0 and 1
+ * the weights are 3 and 1, and both matrices keep point 0. Refusals: 13, 3. */
+int64_t zone_class_weights(const int64_t *rotations, size_t rotations_len, const int64_t *d, size_t d_len,
+                           const int64_t *ps, size_t ps_len, int64_t point, int64_t *weights, size_t weights_len,
+                           int64_t *members, size_t members_len, int64_t *keepers, size_t keepers_len, int64_t *told,
+                           size_t told_len);
 
 /* The addresses of the points 0, 1, .. in turn. In: d[3]. Out: out[3 * N]. Refusals: 13, 3. */
 int64_t zone_all_grid_addresses(const int64_t *d, size_t d_len, int64_t *out, size_t out_len);

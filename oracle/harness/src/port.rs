@@ -3,9 +3,11 @@
 //! to both: that is proved there, so the wrappers ask nothing of their callers.
 #![allow(clippy::too_many_arguments)]
 
+mod classes;
 mod matrices;
 mod triplets;
 
+pub use classes::*;
 pub use matrices::*;
 pub use triplets::*;
 

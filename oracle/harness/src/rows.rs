@@ -4,6 +4,7 @@ use crate::bench::{self, Timed, Times};
 use crate::bz_grid_addresses::*;
 use crate::bz_triplets_at_q::*;
 use crate::chain::*;
+use crate::class_weights::*;
 use crate::extended_gcd::*;
 use crate::floats::*;
 use crate::function::Function;
@@ -122,6 +123,7 @@ pub static ROWS: &[Row] = &[
     Row::apart::<ReciprocalGroup>("reciprocal_group"),
     Row::call::<IrGridMap>("ir_grid_map"),
     Row::call::<AllGridAddresses>("all_grid_addresses"),
+    Row::apart::<ClassWeights>("class_weights"),
     Row::call::<Snf3x3>("snf3x3"),
     Row::apart::<Smith3x3>("smith3x3"),
     Row::apart::<Hermite3x3>("hermite3x3"),

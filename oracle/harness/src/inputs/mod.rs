@@ -17,6 +17,7 @@ pub mod lent_neighbours;
 pub mod lent_rotations;
 pub mod lent_transforms;
 pub mod lent_triplets;
+pub mod lent_weights;
 pub mod matrices;
 pub mod numbers;
 pub mod tables;

@@ -63,8 +63,9 @@ pub fn tell_rotated(answer: Rotated, told: &mut [i64]) -> i64
             0
         }
         Rotated::Fallback(i) => {
+            let fallback = 1;
             told[0] = i;
-            told[1] = 1;
+            told[1] = fallback;
             0
         }
         Rotated::Refused(r) => {

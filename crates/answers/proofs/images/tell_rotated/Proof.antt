@@ -25,8 +25,8 @@ enum-known-answer-2 c = search needs
 slice-set-from-i-2 : tie.Need-slice-set-from-i-2
 slice-set-from-i-2 c = search needs
 
-slice-set-of-told-2 : tie.Need-slice-set-of-told-2
-slice-set-of-told-2 c = search needs
+slice-set-from-fallback : tie.Need-slice-set-from-fallback
+slice-set-from-fallback c = search needs
 
 enum-known-answer-3 : tie.Need-enum-known-answer-3
 enum-known-answer-3 c = search needs
@@ -73,7 +73,7 @@ tell-rotated-spec =
     slice-set-of-told
     enum-known-answer-2
     slice-set-from-i-2
-    slice-set-of-told-2
+    slice-set-from-fallback
     enum-known-answer-3
     fill-requires
     answer-requires

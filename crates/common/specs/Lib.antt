@@ -5,3 +5,4 @@ pub mod FloatMatrix
 pub mod Limits
 pub mod Refusal
 pub mod Tested
+pub mod Every

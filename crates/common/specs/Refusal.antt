@@ -3,7 +3,7 @@ use Prim.Native.Nat.{ℕ}
 use Rattle.common.specs.declared.Refusal.{Refusal}
 use Rattle.common.specs.declared.Refusal.the-variants.{Singular, NotConverged, OutsideLimits, Overflow, SingularQ, SymmetryBroken}
 use Rattle.common.specs.declared.Refusal.the-variants.{TooManyRotations, TooManyForInversion, BadGridType, NotUnimodularQ}
-use Rattle.common.specs.declared.Refusal.the-variants.{SingularReciprocalLattice, SearchFailed, WrongLength, OutsideTable, BadHeader, NotGroup}
+use Rattle.common.specs.declared.Refusal.the-variants.{SingularReciprocalLattice, SearchFailed, WrongLength, OutsideTable, BadHeader, NotGroup, InvertedRange}
 
 abbrev pub numberOf : Refusal → ℕ
 -- `snf3x3`: the determinant is 0
@@ -38,3 +38,5 @@ numberOf OutsideTable = 14
 numberOf BadHeader = 15
 -- the reciprocal step of the chain: identity missing, a repeat, a determinant other than 1 or -1, or a product not in the list
 numberOf NotGroup = 18
+-- `mark_candidates`: a lowest inner product above its highest
+numberOf InvertedRange = 20

@@ -42,12 +42,13 @@ pub enum Refusal {
     OutsideTable,
     BadHeader,
     NotGroup,
+    InvertedRange,
 }
 
 impl Refusal {
     pub fn number(self) -> u64
         ensures { λ r. ⌜ r ≡ numberOf self ⌝ }
-        ensures { λ r. ⌜ r < 19 ⌝ }
+        ensures { λ r. ⌜ r < 21 ⌝ }
     {
         match self {
             Refusal::Singular => 1,
@@ -66,6 +67,7 @@ impl Refusal {
             Refusal::OutsideTable => 14,
             Refusal::BadHeader => 15,
             Refusal::NotGroup => 18,
+            Refusal::InvertedRange => 20,
         }
     }
 

@@ -10,7 +10,7 @@ use lib.Ieee.{Float, nan, inf, fin, up, down, neg, lt, le, eq, isNan}
 use lib.Ieee.Fits.{eq→eqb}
 use lib.Ieee.Scale.{finite}
 use lib.Ieee.Positive.{den, den-pos}
-use Rattle.integer.proofs.Test.{and-l, and-r, and-in}
+use Rattle.integer.proofs.Test.{and-l, and-r, and-in, or-l, or-r, or-of}
 use Rattle.float.specs.Value.{plus, less}
 use Rattle.float.proofs.Sign.{neg-neg, plus-neg, less-neg, den-neg}
 
@@ -93,25 +93,13 @@ cross→eq (fin false m e) (fin true n d) p q h =
     let z : m * up e * down d ≡ 0 = omega arith in
     level (m * up e * down d) (n * up d * down e) (eqb (m * up e * down d) 0) (omega arith) (eq→eqb z)
 
-or-l : (a b : Bool) → T a → T (a || b)
-or-l true b t = tt
-or-l false b t = absurd t
-
-or-r : (a b : Bool) → T b → T (a || b)
-or-r true b t = tt
-or-r false b t = t
-
-or-cases : (a b : Bool) → T (a || b) → T a ⊎ T b
-or-cases true b t = inl tt
-or-cases false b t = inr t
-
 pub lt→le : (x y : Float) → T (lt x y) → T (le x y)
 unfolding le
 lt→le x y h = or-l (lt x y) (eq x y) h
 
 pub le→cross : (x y : Float) → T (finite x) → T (finite y) → T (le x y) → cross x y ≤ cross y x
 unfolding le
-le→cross x y p q h = elim (or-cases (lt x y) (eq x y) h) [ inl g ↦ le-of-lt (lt→cross x y p q g) | inr g ↦ le-of-eq (eq→cross x y p q g) ]
+le→cross x y p q h = elim (or-of (lt x y) (eq x y) h) [ inl g ↦ le-of-lt (lt→cross x y p q g) | inr g ↦ le-of-eq (eq→cross x y p q g) ]
 
 pub cross→le : (x y : Float) → T (finite x) → T (finite y) → cross x y ≤ cross y x → T (le x y)
 unfolding le

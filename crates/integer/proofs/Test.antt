@@ -1,6 +1,7 @@
--- Tests: both of two, and by cases on one.
+-- Tests: both of two, one of two, and by cases on one.
 use mathlib.Core.Path.{_≡_, refl, sym, subst}
-use mathlib.Core.Bool.{Bool, true, false, not, _&&_, cond}
+use mathlib.Core.Logic.{_⊎_, inl, inr}
+use mathlib.Core.Bool.{Bool, true, false, not, _&&_, _||_, cond}
 use lib.Dec.{T}
 use Rattle.integer.specs.Checked.{pick}
 
@@ -15,6 +16,18 @@ and-r false b t = absurd t
 pub and-in : (a b : Bool) → T a → T b → T (a && b)
 and-in true b s t = t
 and-in false b s t = s
+
+pub or-l : (a b : Bool) → T a → T (a || b)
+or-l true b t = tt
+or-l false b t = absurd t
+
+pub or-r : (a b : Bool) → T b → T (a || b)
+or-r true b t = tt
+or-r false b t = t
+
+pub or-of : (a b : Bool) → T (a || b) → T a ⊎ T b
+or-of true b t = inl tt
+or-of false b t = inr t
 
 pub cond-cases : {A : Type 0} (c : Bool) (x y : A) (P : A → Type 0) → (T c → P x) → (T (not c) → P y) → P (cond c x y)
 cond-cases true x y P f g = f tt

@@ -8,11 +8,13 @@ use lib.Dec.{T, eqb, eqb→eq}
 use lib.IntN.{ℤ, natAbs}
 use Rattle.integer.proofs.Test.{and-l, and-r, and-in}
 use Rattle.common.specs.Matrix.{Mat, _·_, det, identity}
+use Rattle.common.specs.Every.{every}
+use Rattle.common.proofs.Every.{every-of, of-every}
 use Rattle.grgrid.proofs.MatrixGroup.{MatrixGroup}
 use Rattle.recip_rotations.specs.Unique.{among}
 use Rattle.recip_rotations.proofs.Told.{among-in, in-among}
-use Rattle.rotation_group.specs.Group.{every, noRepeats, isUnit, rowInside, isGroup}
-use Rattle.rotation_group.proofs.EveryMember.{every-of, of-every, repeats-none, none-repeats}
+use Rattle.rotation_group.specs.Group.{noRepeats, isUnit, rowInside, isGroup}
+use Rattle.rotation_group.proofs.Repeats.{repeats-none, none-repeats}
 
 module _ (l : List (Mat ℤ)) where
   pub group-of : T (isGroup l) → MatrixGroup l

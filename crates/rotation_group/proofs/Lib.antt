@@ -1,4 +1,4 @@
-pub mod EveryMember
+pub mod Repeats
 pub mod IsGroup
 pub mod Walking
 pub mod Small

@@ -11,11 +11,11 @@ use borrow.Author.Tests.{eqb-true, eqb-false}
 use Rattle.common.specs.Matrix.{Mat, _·_}
 use Rattle.common.specs.Array.{matrixAt, matrices}
 use Rattle.common.proofs.Matrix.{product-assoc}
+use Rattle.common.proofs.Every.{every-of, of-every}
 use Rattle.recip_rotations.specs.Unique.{among}
 use Rattle.recip_rotations.proofs.Told.{among-in}
 use Rattle.rotation_group.specs.Group.{rowInside}
 use Rattle.rotation_group.specs.Code.Known.{Known}
-use Rattle.rotation_group.proofs.EveryMember.{every-of, of-every}
 
 -- (A·B)·C = A·(B·C)
 pub row-product : (l : List (Mat ℤ)) (A B : Mat ℤ) → T (rowInside l A) → T (rowInside l B) → T (rowInside l (A · B))

@@ -7,9 +7,10 @@ use native.Mathlib.Omega.{arith}
 use lib.IntN.{ℤ}
 use Rattle.common.specs.Matrix.{Mat}
 use Rattle.common.specs.Array.{matrixAt, matricesFrom}
+use Rattle.common.specs.Every.{every}
 use Rattle.recip_rotations.specs.Unique.{among}
 use Rattle.recip_rotations.proofs.Among.{from-cons}
-use Rattle.rotation_group.specs.Group.{every, noRepeats}
+use Rattle.rotation_group.specs.Group.{noRepeats}
 
 module _ (l : List ℤ) (k n : ℕ) where
   -- those after matrix k

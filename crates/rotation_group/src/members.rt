@@ -5,8 +5,9 @@ ghost use lib.Dec.{T};
 ghost use lib.ListN.{length};
 ghost use Rattle.common.specs.Array.{matrixAt, matricesFrom, matrices};
 ghost use Rattle.common.specs.Limits.{allWithin};
+ghost use Rattle.common.specs.Every.{every};
 ghost use Rattle.recip_rotations.specs.Unique.{among};
-ghost use Rattle.rotation_group.specs.Group.{every, noRepeats, isUnit};
+ghost use Rattle.rotation_group.specs.Group.{noRepeats, isUnit};
 
 // Whether matrix n comes again after its place.
 fn comes_again(list: &[i64], n: usize) -> bool

@@ -8,8 +8,9 @@ ghost use lib.ListN.{length};
 ghost use Rattle.common.specs.Matrix.{entries, _·_};
 ghost use Rattle.common.specs.Array.{matrixAt, matrices};
 ghost use Rattle.common.specs.Limits.{allWithin};
+ghost use Rattle.common.specs.Every.{every};
 ghost use Rattle.recip_rotations.specs.Unique.{among};
-ghost use Rattle.rotation_group.specs.Group.{every, rowInside};
+ghost use Rattle.rotation_group.specs.Group.{rowInside};
 ghost use Rattle.rotation_group.specs.Code.Known.{Known};
 
 // Matrix m times matrix n.

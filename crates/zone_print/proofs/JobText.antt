@@ -15,7 +15,7 @@ use Rattle.common.specs.Limits.{sideFits, diagonalFits}
 use Rattle.common.specs.Refusal.{numberOf}
 use Rattle.common.specs.Tested.{require, after}
 use Rattle.common.specs.declared.Refusal.{Refusal}
-use Rattle.common.specs.declared.Refusal.the-variants.{Singular, NotConverged, OutsideLimits, Overflow, SingularQ, SymmetryBroken, TooManyRotations, TooManyForInversion, BadGridType, NotUnimodularQ, SingularReciprocalLattice, SearchFailed, WrongLength, OutsideTable, BadHeader, NotGroup}
+use Rattle.common.specs.declared.Refusal.the-variants.{Singular, NotConverged, OutsideLimits, Overflow, SingularQ, SymmetryBroken, TooManyRotations, TooManyForInversion, BadGridType, NotUnimodularQ, SingularReciprocalLattice, SearchFailed, WrongLength, OutsideTable, BadHeader, NotGroup, InvertedRange}
 use Rattle.common.specs.declared.Tested.{Tested}
 use Rattle.common.specs.declared.Tested.the-variants.{Accepted, Refused}
 use Rattle.common.proofs.Bounds.{side-size}
@@ -126,6 +126,7 @@ few-digits WrongLength = tt
 few-digits OutsideTable = tt
 few-digits BadHeader = tt
 few-digits NotGroup = tt
+few-digits InvertedRange = tt
 
 refusal-short : (r : Refusal) → length (refusal r) ≤ 11
 unfolding refusal

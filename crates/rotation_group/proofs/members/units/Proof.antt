@@ -5,7 +5,8 @@ use lib.ListN.{length}
 use borrow.Author.Needs.{needs}
 use borrow.Author.Tests.{not-true, not-false}
 use Rattle.common.specs.Array.{matricesFrom, matrices}
-use Rattle.rotation_group.specs.Group.{every, isUnit}
+use Rattle.common.specs.Every.{every}
+use Rattle.rotation_group.specs.Group.{isUnit}
 use Rattle.rotation_group.proofs.Walking.{every-on, every-stop, every-end}
 use Rattle.rotation_group.proofs.members.units.Statement.{statement}
 use Rattle.rotation_group.proofs.members.units.Tie as tie

@@ -5,8 +5,8 @@ use borrow.Author.Needs.{needs}
 use borrow.Author.Tests.{not-true, not-false}
 use Rattle.common.specs.Matrix.{_·_}
 use Rattle.common.specs.Array.{matrixAt, matricesFrom, matrices}
+use Rattle.common.specs.Every.{every}
 use Rattle.recip_rotations.specs.Unique.{among}
-use Rattle.rotation_group.specs.Group.{every}
 use Rattle.rotation_group.proofs.Walking.{every-start, every-on, every-stop, every-end}
 use Rattle.rotation_group.proofs.products.row_inside.Statement.{statement}
 use Rattle.rotation_group.proofs.products.row_inside.Tie as tie

@@ -4,8 +4,9 @@ use native.Mathlib.Nat.{sub-zero}
 use lib.ListN.{length}
 use borrow.Author.Needs.{needs}
 use Rattle.common.specs.Array.{matricesFrom, matrices}
+use Rattle.common.specs.Every.{every}
 use Rattle.common.proofs.Tests.{yes, no}
-use Rattle.rotation_group.specs.Group.{every, rowInside}
+use Rattle.rotation_group.specs.Group.{rowInside}
 use Rattle.rotation_group.specs.Code.Known.{Known}
 use Rattle.rotation_group.proofs.Walking.{every-on, every-stop, every-end}
 use Rattle.rotation_group.proofs.products.rows_kept.Statement.{statement}

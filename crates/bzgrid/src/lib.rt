@@ -12,15 +12,12 @@ ghost use Prim.Native.Nat.{_+_, _*_, _≤_, _<_};
 ghost use lib.Dec.{T};
 ghost use lib.IntN.{pos, negsuc};
 ghost use lib.ListN.{length, replicate};
-ghost use Rattle.common.specs.Array.{matrixOf};
-ghost use Rattle.common.specs.Limits.{matrixWithin};
 ghost use Rattle.grgrid.specs.Grid.{size};
 ghost use Rattle.grgrid.specs.Sides.{sides, GridFits};
 ghost use Rattle.bzgrid.specs.Table.{imagesAt, doubled};
 ghost use Rattle.bzgrid.specs.Writing.{ifSparse, placedFlat, withMesh};
 ghost use Rattle.bzgrid.specs.Walked.{walkOf, imagesIn, blank, WrittenTo, lengthsFor, judged, isBuilt, Filled, MeshFits};
 ghost use Rattle.bzsearch.specs.SearchView.{searchOf, Ready};
-ghost use Rattle.bzsearch.specs.Search.{unimodular};
 ghost use Rattle.bzgrid.specs.BzGridAddresses.{gridType, isKnown, isSparse, allFound, withinLimits, inputTests, hasRoom, buildAnswer, buildAddresses, buildMap, buildGrg, bzAnswer, addressesWritten, mapWritten, grgWritten};
 
 // The layout of an image table: type 1 is sparse, type 2 dense.
@@ -55,13 +52,6 @@ pub fn grid_type(t: i64) -> GridType
     GridType::Unknown
 }
 
-fn is_unimodular(q: [[i64; 3]; 3]) -> bool
-    requires { ⌜ T (matrixWithin 1000 (matrixOf q)) ⌝ }
-    ensures { λ r. ⌜ r ≡ unimodular (matrixOf q) ⌝ }
-{
-    integer::unsigned_abs(integer_matrix::det_i(q)) == 1
-}
-
 fn within_limits(d: [i64; 3], q: [[i64; 3]; 3], ps: [i64; 3], lattice: [[f64; 3]; 3]) -> bool
     ensures { λ r. ⌜ r ≡ withinLimits d q ps lattice ⌝ }
 {
@@ -90,7 +80,7 @@ fn input_tests(
     if !is_known(t) {
         return Tested::Refused(Refusal::BadGridType);
     }
-    if !is_unimodular(q) {
+    if !bzsearch::is_unimodular(q) {
         return Tested::Refused(Refusal::NotUnimodularQ);
     }
     if bzsearch::is_singular(lattice) {

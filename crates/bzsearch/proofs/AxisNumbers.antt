@@ -15,7 +15,7 @@ use Rattle.integer.proofs.Parts.{ints, eq-parts, sum, difference}
 use Rattle.integer.proofs.Order.{slack, nonneg-dn}
 use Rattle.integer.proofs.Size.{abs-between}
 use Rattle.integer.proofs.Test.{pick-cases, holds, fails, and-l, and-r}
-use Rattle.bzsearch.specs.Search.{Span, Numbers, numberAt, maxZ, minZ, toNat, count, countOf, upwards, fromZero, belowZero, fftOrder, clipped, spanFits}
+use Rattle.bzsearch.specs.Search.{Span, Numbers, numberAt, maxZ, minZ, toNat, count, countOf, upwards, fromZero, belowZero, fftOrder, nearby, clipped, spanFits}
 
 -- ---- one of two
 pub below : (a b : ℕ) → (a < b) ⊎ (b ≤ a)
@@ -171,9 +171,6 @@ module _ (r : Span) where
               (countOf p + toNat (z -ℤ r .lo), omega arith, then-at (countOf p + toNat (z -ℤ r .lo)) (omega arith) ∙ ap (λ (i : ℕ). r .lo +ℤ pos i) (back (countOf p) (toNat (z -ℤ r .lo))) ∙ e)
 
 -- ---- clipped to -2..2
-abbrev pub nearby : Span
-nearby = record { lo = negsuc 1; hi = pos 2 }
-
 pub clipped-in : (r : Span) (z : ℤ) → InSpan r z → InSpan nearby z → InSpan (clipped r) z
 clipped-in r z s t = record { low = max-is (r .lo) (negsuc 1) .2 z (s .low) (t .low); high = min-is (r .hi) (pos 2) .2 z (s .high) (t .high) }
 

@@ -12,31 +12,19 @@ use lib.Signed.{_≤ℤ_, leZ, ltZ, leZ-yes, ltZ-yes, clashℤ}
 use lib.ListN.{length, length-append}
 use Rattle.integer.specs.Checked.{pick}
 use Rattle.integer.proofs.Parts.{ints}
-use Rattle.integer.proofs.Test.{and-l, and-r}
+use Rattle.integer.proofs.Test.{and-l, and-r, or-l, or-r, or-of}
 use Rattle.common.specs.Matrix.{Axis, X, Y, Z, Vec, side, vector}
 use Rattle.common.proofs.Matrix.{axes-of, side-vector}
 use Rattle.grgrid.proofs.Lists.{_∈_, Distinct, distinct-append}
-use Rattle.bzsearch.specs.Search.{Span, Numbers, numberAt, clipped, fftOrder, upwards, rows, far, outside, chosen, lineAt, planeAt, boxAt, box, firstBox, wholeBox, near, candidates, rangeFits, spanFits}
+use Rattle.bzsearch.specs.Search.{Span, Numbers, numberAt, nearby, clipped, fftOrder, upwards, rows, far, outside, chosen, lineAt, planeAt, boxAt, box, firstBox, wholeBox, near, candidates, rangeFits, spanFits}
 use Rattle.bzsearch.proofs.Listing.{rows-in, rows-of, rows-distinct, rows-few}
-use Rattle.bzsearch.proofs.AxisNumbers.{belowℤ, InSpan, Lists, upwards-lists, fft-lists, nearby, clipped-in, clipped-of, clipped-few, upwards-few, span-size}
+use Rattle.bzsearch.proofs.AxisNumbers.{belowℤ, InSpan, Lists, upwards-lists, fft-lists, clipped-in, clipped-of, clipped-few, upwards-few, span-size}
 
 -- the vectors of a range
 abbrev pub InRange : Vec Span → Vec ℤ → Type 0
 InRange r m = (k : Axis) → InSpan (side r k) (side m k)
 
 -- ---- outside -2..2
-or-l : (a b : Bool) → T a → T (a || b)
-or-l true b t = tt
-or-l false b t = absurd t
-
-or-r : (a b : Bool) → T b → T (a || b)
-or-r true b t = tt
-or-r false b t = t
-
-or-of : (a b : Bool) → T (a || b) → T a ⊎ T b
-or-of true b t = inl tt
-or-of false b t = inr t
-
 abbrev Nearby : Vec ℤ → Type 0
 Nearby m = (k : Axis) → InSpan nearby (side m k)
 

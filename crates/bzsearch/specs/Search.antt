@@ -125,9 +125,13 @@ belowZero r = record { lo = r .lo; hi = minZ (r .hi) (negsuc 0) }
 abbrev pub fftOrder : Span → Numbers
 fftOrder r = record { a = fromZero r .lo; low = countOf (fromZero r); b = r .lo; n = countOf (fromZero r) + countOf (belowZero r) }
 
--- clipped to -2..2
+-- -2..2
+abbrev pub nearby : Span
+nearby = record { lo = negsuc 1; hi = pos 2 }
+
+-- clipped to it
 abbrev pub clipped : Span → Span
-clipped r = record { lo = maxZ (r .lo) (negsuc 1); hi = minZ (r .hi) (pos 2) }
+clipped r = record { lo = maxZ (r .lo) (nearby .lo); hi = minZ (r .hi) (nearby .hi) }
 
 -- g 0, then g 1, .. , then g (n - 1)
 abbrev pub rows : {A : Type 0} → (ℕ → List A) → ℕ → List A
@@ -170,7 +174,7 @@ wholeBox r = vector (λ k. upwards (side r k))
 
 -- there is no rest
 abbrev pub near : Vec Span → Bool
-near r = allAxes (λ k. leZ (negsuc 1) (side r k .lo) && leZ (side r k .hi) (pos 2))
+near r = allAxes (λ k. leZ (nearby .lo) (side r k .lo) && leZ (side r k .hi) (nearby .hi))
 
 unfoldable pub candidates : Vec Span → List (Vec ℤ)
 unfolding outside

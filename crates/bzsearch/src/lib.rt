@@ -12,4 +12,5 @@ pub use search::Range;
 pub use search::Span;
 pub use search::Split;
 pub use search::flat_d;
+pub use search::is_unimodular;
 pub use search::length_squared;

@@ -34,6 +34,13 @@ fn inverse_row(a: [i64; 3], b: [i64; 3], det: i64) -> [i64; 3]
     ]
 }
 
+pub fn is_unimodular(q: [[i64; 3]; 3]) -> bool
+    requires { ⌜ T (matrixWithin 1000 (matrixOf q)) ⌝ }
+    ensures { λ r. ⌜ r ≡ unimodular (matrixOf q) ⌝ }
+{
+    integer::unsigned_abs(integer_matrix::det_i(q)) == 1
+}
+
 // Of a determinant of 1 or -1.
 fn inverse_unimodular(q: [[i64; 3]; 3]) -> [[i64; 3]; 3]
     requires { ⌜ T (matrixWithin 1000 (matrixOf q)) ⌝ ∗ ⌜ T (unimodular (matrixOf q)) ⌝ }

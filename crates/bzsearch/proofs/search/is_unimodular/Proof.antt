@@ -4,9 +4,9 @@ use lib.Dec.{eqb}
 use borrow.Author.Needs.{needs}
 use Rattle.integer.proofs.Fits.{held-is}
 use Rattle.common.specs.Array.{matrixOf}
 use Rattle.bzsearch.proofs.Sizes.{det-fits}
-use Rattle.bzgrid.proofs.is_unimodular.Statement.{statement}
-use Rattle.bzgrid.proofs.is_unimodular.Tie as tie
+use Rattle.bzsearch.proofs.search.is_unimodular.Statement.{statement}
+use Rattle.bzsearch.proofs.search.is_unimodular.Tie as tie
 
 det-i-requires : tie.Need-det-i-requires
 det-i-requires c κs = det-fits (matrixOf (c .args .q)) (c .pre)

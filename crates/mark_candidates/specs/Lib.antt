@@ -1,0 +1,5 @@
+pub mod InnerProducts
+pub mod ScaledCoordinates
+pub mod MarkCandidates
+pub mod CertainMarks
+pub mod Code

@@ -7,6 +7,7 @@ pub mod Diagonals
 pub mod Forms
 pub mod Transforms
 pub mod ImageTables
+pub mod MarksTold
 pub mod TripletClasses
 pub mod ImageTriplets
 pub mod WorstPairs

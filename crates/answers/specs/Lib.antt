@@ -5,5 +5,6 @@ pub mod Diagonals
 pub mod Forms
 pub mod Transforms
 pub mod Images
+pub mod Marks
 pub mod Triplets
 pub mod WorstPairs

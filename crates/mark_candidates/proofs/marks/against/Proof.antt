@@ -45,7 +45,8 @@ returns c =
     let a = c .before .before .difference in
     let u = c .before .before .before .rises in
     let s = c .before .before .before .before .args in
-    by (s .t .now) (s .i) (s .j) (u .ensures .1) (a .ensures .1) (b .ensures .1) (u .ensures .0) (a .ensures .0) (b .ensures .0) (c .if1 .taken) refl
+    let h : ltZ (pos 0) (held (held (a .result) -ℤ held (u .result))) ≡ true = search needs in
+    by (s .t .now) (s .i) (s .j) (u .ensures .1) (a .ensures .1) (b .ensures .1) (u .ensures .0) (a .ensures .0) (b .ensures .0) h refl
 
 returns-2 : tie.Need-returns-2
 returns-2 c =
@@ -53,7 +54,8 @@ returns-2 c =
     let a = c .before .before .before .difference in
     let u = c .before .before .before .before .rises in
     let s = c .before .before .before .before .before .args in
-    by (s .t .now) (s .i) (s .j) (u .ensures .1) (a .ensures .1) (b .ensures .1) (u .ensures .0) (a .ensures .0) (b .ensures .0) (c .before .if1 .left) (c .if2 .taken)
+    let h : ltZ (pos 0) (held (held (a .result) -ℤ held (u .result))) ≡ false = search needs in
+    by (s .t .now) (s .i) (s .j) (u .ensures .1) (a .ensures .1) (b .ensures .1) (u .ensures .0) (a .ensures .0) (b .ensures .0) h (c .if2 .taken)
 
 returns-3 : tie.Need-returns-3
 returns-3 c =
@@ -61,7 +63,8 @@ returns-3 c =
     let a = c .before .before .before .difference in
     let u = c .before .before .before .before .rises in
     let s = c .before .before .before .before .before .args in
-    by (s .t .now) (s .i) (s .j) (u .ensures .1) (a .ensures .1) (b .ensures .1) (u .ensures .0) (a .ensures .0) (b .ensures .0) (c .before .if1 .left) (c .if2 .left)
+    let h : ltZ (pos 0) (held (held (a .result) -ℤ held (u .result))) ≡ false = search needs in
+    by (s .t .now) (s .i) (s .j) (u .ensures .1) (a .ensures .1) (b .ensures .1) (u .ensures .0) (a .ensures .0) (b .ensures .0) h (c .if2 .left)
 
 pub against-spec : {M : Type 1} → statement M
 against-spec =

@@ -74,6 +74,8 @@
  *      zone_ir_grid_map            the transformed list, d, ps          the classes of the points, if wanted
  *      zone_class_weights          the same, a point                    their weights and members, likewise
  *   4  zone_bz_grid_addresses      d, q, ps, lattice, type              addresses, map, grg
+ *      zone_mark_candidates        d, q, ps, ranges of the cell,        which addresses of a point are the shortest
+ *                                  a point                              whatever the cell is, if wanted
  *   5  zone_ir_triplets_at_q       q0, d, the transformed list,         map_triplets, map_q
  *                                  time_reversal, swappable
  *   6  zone_bz_triplets_at_q       q0 or an image of it, addresses,     a triplet of images for each class
@@ -104,6 +106,8 @@
  *   ps           each 0 or 1
  *   rotations    at most 192, entries of size at most 100 in zone_transform_rotations, 100,000 elsewhere
  *   lattice      finite, of size at most 1,000,000
+ *   lowest,      of size at most 1,000,000
+ *     highest
  *   offsets      of size at most 1,000
  *   q0           0 to N - 1 (an image index in zone_bz_triplets_at_q of type 2: there 14)
  *   point        0 to N - 1
@@ -145,14 +149,16 @@ enum zone_refusal {
     ZONE_OUTSIDE_TABLE = 14,               /* an index asked for or read is outside its slice, a number read from an
                                               image map outside 0..2^40, or an address read outside -10^13..10^13 */
     ZONE_BAD_HEADER = 15,                  /* the header of a job file is wrong */
-    ZONE_NOT_GROUP = 18                    /* the rotations, as given, are no group: the identity is missing, one stands
+    ZONE_NOT_GROUP = 18,                   /* the rotations, as given, are no group: the identity is missing, one stands
                                               twice, one has a determinant other than 1 or -1, or the product of two
                                               is not among them */
+    ZONE_INVERTED_RANGE = 20               /* the lowest of an inner product is above its highest */
 };
 
 #define ZONE_MOST_ROTATIONS 192
 #define ZONE_GROUP_LENGTH 432 /* of the reciprocal list: room for 48 matrices */
 #define ZONE_MOST_POINTS 65536
+#define ZONE_CANDIDATES 125 /* of a point, whose marks zone_mark_candidates gives */
 #define ZONE_MAP_LENGTH(type, n) ((type) == 1 ? 9 * (n) + 1 : (n) + 1) /* of the image map of n points */
 #define ZONE_MOST_IMAGES INT64_C(2363359232) /* in a table, whatever the lattice */
 #define ZONE_JOB_LENGTH 8192                 /* of the longest job file, in bytes */
@@ -253,6 +259,30 @@ int64_t zone_bz_grid_addresses(const int64_t *d, size_t d_len, const int64_t *q,
                                size_t ps_len, const double *lattice, size_t lattice_len, int64_t bz_grid_type,
                                int64_t *addresses, size_t addresses_len, int64_t *map, size_t map_len, int64_t *grg,
                                size_t grg_len, int64_t *told, size_t told_len);
+
+/* For a cell that is known only roughly: which of 125 addresses of a point are the shortest, whatever the cell is. In:
+ * d[3], q[9], ps[3], as for call 4; lowest[6] and highest[6], between which the inner products b1·b1, b1·b2, b1·b3,
+ * b2·b2, b2·b3, b3·b3 lie, as whole numbers in any one unit; a point. Out: marks[ZONE_CANDIDATES], for m = (m0, m1, m2)
+ * with m0 outermost, each along 0, 1, 2, -2, -1: the i-th, j-th and k-th of these numbers (from 0) stand at
+ * 25 * i + 5 * j + k. Candidate m is q - n + m, where q are the point's coordinates, exactly, and n is each of them
+ * rounded, halves away from zero. Its mark is
+ *
+ *   1   nearest for certain: no six numbers in the ranges make it longer than another of the 125
+ *   2   beaten for certain: some one other is shorter for all six numbers in the ranges
+ *   0   open
+ *
+ * Lengths are compared exactly, in whole numbers; of candidates that tie for certain each is 1. It is proved that
+ * narrower ranges never change a 1 or a 2. The six numbers may be fractions and need not belong to any lattice; of a
+ * basis that is far from reduced a shorter address may lie outside of the 125.
+ *
+ * The address of candidate m is a + d·(Q⁻¹·(m - n)), axis by axis, with a the point's own address and, in whole numbers,
+ * X_i = sum over k of Q[3 * i + k] * (2 * a[k] + ps[k]) * (N / d[k]), n_i = (|X_i| + N) / (2 * N) rounded down, with
+ * the sign of X_i. Call 4 rounds the same coordinates in double, where an exact half may come out a little below: at
+ * about one point in a thousand its n is another. So compare marks and images by addresses, and work out n as here, not
+ * in double: else the address is a whole step off at these points. Refusals: 13, 3, 20, 10. */
+int64_t zone_mark_candidates(const int64_t *d, size_t d_len, const int64_t *q, size_t q_len, const int64_t *ps,
+                             size_t ps_len, const int64_t *lowest, size_t lowest_len, const int64_t *highest,
+                             size_t highest_len, int64_t point, int64_t *marks, size_t marks_len);
 
 /* Where rotation[9], a matrix of the transformed list, carries image `index` of a table. In: addresses and map as
  * call 4 left them (here and below: at least their told parts), d[3], ps[3], the type. Out: told[2]. told[0] is the

@@ -11,6 +11,8 @@ pub const Q_ENTRY: i64 = 1_000;
 pub const TRANSFORMED_ENTRY: i64 = 100;
 /// Entries of the rotations that every other call takes.
 pub const ROTATION_ENTRY: i64 = 100_000;
+/// Inner products of a cell that is known within ranges.
+pub const INNER_PRODUCT: i64 = 1_000_000;
 /// Rotations in a list.
 pub const ROTATIONS: usize = 192;
 /// Rotations that the reciprocal calls answer.

@@ -18,6 +18,7 @@ pub const WRONG_LENGTH: i64 = 13;
 pub const BAD_INDEX: i64 = 14;
 pub const WRONG_HEADER: i64 = 15;
 pub const NOT_GROUP: i64 = 18;
+pub const INVERTED_RANGE: i64 = 20;
 
 /// What a refusal leaves in every place of every output.
 pub const REFUSED_PLACE: i64 = -1;

@@ -17,6 +17,7 @@ use crate::inputs::lent_rotations::RotateInput;
 use crate::inputs::lent_triplets::TripletsInput;
 use crate::integers::*;
 use crate::ir_triplets_at_q::*;
+use crate::mark_candidates::*;
 use crate::neighboring_grid_points::*;
 use crate::order_forms::*;
 use crate::recip_rotations::*;
@@ -132,6 +133,7 @@ pub static ROWS: &[Row] = &[
     Row::replayed::<WorstPair>("worst_pair"),
     Row::call::<TransformRotations>("transform_rotations"),
     Row::call::<BzGridAddresses>("bz_grid_addresses"),
+    Row::apart::<MarkCandidates>("mark_candidates"),
     Row::call::<RotateBzGridIndex>("rotate_bz_grid_index"),
     Row::call::<NeighboringGridPoints>("neighboring_grid_points"),
     Row::call::<IrTripletsAtQ>("ir_triplets_at_q"),

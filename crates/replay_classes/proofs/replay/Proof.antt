@@ -4,10 +4,10 @@ use Rattle.replay_classes.proofs.replay.Statement.{statement}
 use Rattle.replay_classes.proofs.replay.Tie as tie
 
 abbrev Inv-loop : tie.InvT-loop
-Inv-loop altered lines tally₀ i₀ i-end tally i = Unit {0}
+Inv-loop function altered lines tally₀ i₀ i-end tally i = Unit {0}
 
 abbrev μ-loop : tie.MeasureT-loop
-μ-loop altered lines tally₀ i₀ i-end tally i = i-end - i
+μ-loop function altered lines tally₀ i₀ i-end tally i = i-end - i
 
 new-requires : tie.Need-new-requires Inv-loop μ-loop
 new-requires c κs = search needs

@@ -13,6 +13,7 @@ pub mod lattices;
 pub mod lent;
 pub mod lent_classes;
 pub mod lent_images;
+pub mod lent_marks;
 pub mod lent_neighbours;
 pub mod lent_rotations;
 pub mod lent_transforms;

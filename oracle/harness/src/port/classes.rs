@@ -1,4 +1,4 @@
-//! The exports on classes that the Rust lacks.
+//! The exports on classes and candidates that the Rust lacks.
 
 extern "C" {
     fn zone_class_weights(
@@ -17,6 +17,21 @@ extern "C" {
         keepers_len: usize,
         told: *mut i64,
         told_len: usize,
+    ) -> i64;
+    fn zone_mark_candidates(
+        d: *const i64,
+        d_len: usize,
+        q: *const i64,
+        q_len: usize,
+        ps: *const i64,
+        ps_len: usize,
+        lowest: *const i64,
+        lowest_len: usize,
+        highest: *const i64,
+        highest_len: usize,
+        point: i64,
+        marks: *mut i64,
+        marks_len: usize,
     ) -> i64;
 }
 
@@ -47,6 +62,34 @@ pub fn class_weights(
             keepers.len(),
             told.as_mut_ptr(),
             told.len(),
+        )
+    }
+}
+
+pub fn mark_candidates(
+    d: &[i64],
+    q: &[i64],
+    ps: &[i64],
+    lowest: &[i64],
+    highest: &[i64],
+    point: i64,
+    marks: &mut [i64],
+) -> i64 {
+    unsafe {
+        zone_mark_candidates(
+            d.as_ptr(),
+            d.len(),
+            q.as_ptr(),
+            q.len(),
+            ps.as_ptr(),
+            ps.len(),
+            lowest.as_ptr(),
+            lowest.len(),
+            highest.as_ptr(),
+            highest.len(),
+            point,
+            marks.as_mut_ptr(),
+            marks.len(),
         )
     }
 }

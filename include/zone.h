@@ -95,8 +95,9 @@
  * No output may overlap another output or an input; inputs may overlap. A pointer is aligned as its type (8 bytes for
  * int64_t and double) and has as many places as its length says; with length 0 it may be NULL. Nothing is kept after
  * a call, and there are no globals, no allocation and no input or output: any thread may make any call at any time.
- * Stack, as built: under 96 KiB for zone_list, under 8 KiB for every other call. The floating-point environment is
- * that of a C program's start: rounding to nearest, no traps, subnormal numbers kept (so no -ffast-math when linking).
+ * Stack, as built: under 96 KiB for zone_list, under 16 KiB for zone_mark_candidates, under 8 KiB for every other call.
+ * The floating-point environment is that of a C program's start: rounding to nearest, no traps, subnormal numbers kept
+ * (so no -ffast-math when linking).
  *
  * LIMITS (else 3)
  *

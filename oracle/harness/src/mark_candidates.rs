@@ -245,13 +245,14 @@ mod tests {
         );
     }
 
-    /// What the bench takes is accepted and has every mark.
+    /// What the bench takes is accepted; nearly all is certain, or nothing.
     #[test]
     fn typical_marks() {
         let mut random = Random::new(1);
         for _ in 0..64 {
             let (answer, marks) = asked(&MarksInput::typical(&mut random));
             assert!(answer == 0 && marks.contains(&BEATEN));
+            assert_eq!(asked(&MarksInput::open(&mut random)), (0, vec![OPEN; 125]));
         }
     }
 

@@ -12,6 +12,7 @@ use crate::grgrid::*;
 use crate::hermite3x3::*;
 use crate::inputs::lent_classes::ClassesInput;
 use crate::inputs::lent_images::ImagesInput;
+use crate::inputs::lent_marks::MarksInput;
 use crate::inputs::lent_neighbours::NeighboursInput;
 use crate::inputs::lent_rotations::RotateInput;
 use crate::inputs::lent_triplets::TripletsInput;
@@ -167,6 +168,9 @@ pub static VARIANTS: &[Variant] = &[
     }),
     ("bz_grid_addresses:type_2", || {
         bench::run_on::<BzGridAddresses>(ImagesInput::dense)
+    }),
+    ("mark_candidates:open", || {
+        bench::run_on::<MarkCandidates>(MarksInput::open)
     }),
     ("rotate_bz_grid_index:type_1", || {
         bench::run_on::<RotateBzGridIndex>(RotateInput::sparse)

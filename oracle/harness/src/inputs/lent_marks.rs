@@ -49,6 +49,16 @@ impl MarksInput {
         }
     }
 
+    /// A typical point with ranges so wide that nothing is certain, so that every candidate
+    /// is compared with every other.
+    pub fn open(random: &mut Random) -> MarksInput {
+        MarksInput {
+            lowest: vec![-INNER_PRODUCT; 6],
+            highest: vec![INNER_PRODUCT; 6],
+            ..MarksInput::typical(random)
+        }
+    }
+
     /// Without shift, in the lattice's own basis.
     fn plain(d: Vec3I, ranges: Ranges, point: i64) -> MarksInput {
         MarksInput::new(d, IDENTITY, [0; 3], ranges, point)

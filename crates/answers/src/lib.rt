@@ -1,4 +1,6 @@
 // How the answer of a call is told: a number, and what stands in the caller's slices.
+#![tactic(auto)]
+
 mod diagonal;
 mod form;
 mod grid;

@@ -10,7 +10,7 @@ ghost use Rattle.bz_triplets.specs.TripletsView.{found_by, choice_of, triplet_vi
 use bztable::reading;
 
 // What one step tells of its triplet: the sum closed, or the squared length that is left over, or there was no choice.
-#[derive(Drop)]
+#[derive(Clone, Copy)]
 pub enum Step {
     Closed,
     Left(f64),
@@ -18,7 +18,7 @@ pub enum Step {
 }
 
 // By the places of the images; or a read was outside.
-#[derive(Drop)]
+#[derive(Clone, Copy)]
 pub struct Triplet {
     pub step: Step,
     pub x: usize,
@@ -28,7 +28,7 @@ pub struct Triplet {
 }
 
 // Of the images of a point: the first, and the others from `others` on, `count` in all.
-#[derive(Drop)]
+#[derive(Clone, Copy)]
 pub struct Places {
     pub first: usize,
     pub others: usize,
@@ -37,7 +37,7 @@ pub struct Places {
 }
 
 // How lengths are measured: lattice · Q · diag(1 / d) by rows, and the tolerance.
-#[derive(Drop)]
+#[derive(Clone, Copy)]
 pub struct Measure {
     pub lqd: [f64; 9],
     pub tolerance: f64,

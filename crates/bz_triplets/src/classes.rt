@@ -37,7 +37,7 @@ fn no_places() -> Places
 }
 
 // Two numbers of a map that bound a range, zeros where one lies outside.
-#[derive(Drop)]
+#[derive(Clone, Copy)]
 struct Bounds {
     from: usize,
     to: usize,

@@ -1,4 +1,6 @@
 // Triplets of images on a generalized regular grid: `bz_triplets_at_q` of the Rust's triplet_grid.
+#![tactic(auto)]
+
 mod choices;
 mod classes;
 
@@ -27,7 +29,7 @@ pub use choices::Step;
 use common::{Refusal, Tested};
 use grgrid::Grid;
 
-#[derive(Drop)]
+#[derive(Clone, Copy)]
 pub enum BzTriplets {
     Written,
     Refused(Refusal),

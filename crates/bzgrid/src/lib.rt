@@ -1,4 +1,6 @@
 // Brillouin-zone grid address construction.
+#![tactic(auto)]
+
 mod tables;
 
 ghost use Rattle.std.specs.Prelude.{◌≡◌, true, false, ◌+◌, ◌*◌, ◌≤◌, ◌<◌, T, pos, negsuc, length, replicate};
@@ -16,7 +18,7 @@ use grgrid::Grid;
 use tables::Walk;
 
 // The layout of an image table: type 1 is sparse, type 2 dense.
-#[derive(Drop)]
+#[derive(Clone, Copy)]
 pub enum GridType {
     Sparse,
     Dense,
@@ -24,7 +26,7 @@ pub enum GridType {
 }
 
 // In places.
-#[derive(Drop)]
+#[derive(Clone, Copy)]
 pub struct Lengths {
     pub addresses: usize,
     pub map: usize,
@@ -32,7 +34,7 @@ pub struct Lengths {
 }
 
 // The lengths of the three tables, or why there are none.
-#[derive(Drop)]
+#[derive(Clone, Copy)]
 pub enum BzGridAddresses {
     Built(Lengths),
     Refused(Refusal),

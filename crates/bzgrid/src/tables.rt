@@ -17,14 +17,14 @@ use bzsearch::{BzSearch, Point, candidates};
 use grgrid::Grid;
 
 // The place of the next image, and that of the one after it.
-#[derive(Drop)]
+#[derive(Clone, Copy)]
 pub struct Cursor {
     pub at: usize,
     pub next: usize,
 }
 
 // How many images there are, or that a point has none.
-#[derive(Drop)]
+#[derive(Clone, Copy)]
 pub enum Walk {
     Images(usize),
     Missing,

@@ -11,7 +11,7 @@ ghost use Rattle.bzsearch.specs.SearchView.{search_of, span_view, range_view, nu
 use crate::search::{BzSearch, Range, Span};
 
 // Numbers along an axis: `low` of them from a, then from b on, n in all.
-#[derive(Drop)]
+#[derive(Clone, Copy)]
 pub struct Numbers {
     pub a: i64,
     pub low: usize,
@@ -20,7 +20,7 @@ pub struct Numbers {
 }
 
 // x, y, z of the first box, which is clipped, and u, v, w of the whole box; `near` if there is no rest.
-#[derive(Drop)]
+#[derive(Clone, Copy)]
 pub struct Boxes {
     pub x: Numbers,
     pub y: Numbers,

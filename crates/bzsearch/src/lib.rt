@@ -1,4 +1,6 @@
 // The search for the images of a grid point: the lattice, the candidates, the least length.
+#![tactic(auto)]
+
 pub mod candidates;
 mod lattice;
 mod search;

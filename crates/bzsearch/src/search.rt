@@ -60,20 +60,20 @@ fn inverse_unimodular(q: [[i64; 3]; 3]) -> [[i64; 3]; 3]
 }
 
 // Reduced coordinates: what is left of each, and its nearest whole number.
-#[derive(Drop)]
+#[derive(Clone, Copy)]
 pub struct Split {
     pub s0: [f64; 3],
     pub nint: [i64; 3],
 }
 
-#[derive(Drop)]
+#[derive(Clone, Copy)]
 pub struct Span {
     pub lo: i64,
     pub hi: i64,
 }
 
 // `lo <= m <= hi` along each axis.
-#[derive(Drop)]
+#[derive(Clone, Copy)]
 pub struct Range {
     pub x: Span,
     pub y: Span,
@@ -162,7 +162,7 @@ fn span_of(s0: f64, half_width: f64) -> Span
 }
 
 // A point: what is left of its reduced coordinates and their whole part, its address and its index.
-#[derive(Drop)]
+#[derive(Clone, Copy)]
 pub struct Point {
     pub s0: [f64; 3],
     pub nint: [i64; 3],
@@ -171,7 +171,7 @@ pub struct Point {
 }
 
 // Parameters of the search for the BZ images of GR-grid points.
-#[derive(Drop)]
+#[derive(Clone, Copy)]
 pub struct BzSearch {
     pub d_diag: [i64; 3],
     pub ps: [i64; 3],

@@ -1,4 +1,6 @@
 // Image tables as they are read: the rotation of an image, neighbours.
+#![tactic(auto)]
+
 mod neighbours;
 pub mod reading;
 mod rotate;

@@ -16,7 +16,7 @@ use bzgrid::GridType;
 use common::{Refusal, Tested};
 use grgrid::Grid;
 
-#[derive(Drop)]
+#[derive(Clone, Copy)]
 pub enum Neighbours {
     Written,
     Refused(Refusal),

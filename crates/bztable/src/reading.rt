@@ -5,21 +5,21 @@ ghost use Rattle.bztable.specs.Reading.{whole_addresses, address_at, address_of,
 ghost use Rattle.bztable.specs.ReadingView.{address_view, place_view, PlaceBelow, found_view, FoundBelow};
 
 // Three numbers that were read, zeros where they lie outside.
-#[derive(Drop)]
+#[derive(Clone, Copy)]
 pub struct Address {
     pub numbers: [i64; 3],
     pub inside: bool,
 }
 
 // A number of a map.
-#[derive(Drop)]
+#[derive(Clone, Copy)]
 pub enum Place {
     At(usize),
     Outside,
 }
 
 // Where an address stands.
-#[derive(Drop)]
+#[derive(Clone, Copy)]
 pub enum Found {
     At(usize),
     Nowhere,

@@ -14,7 +14,7 @@ use common::{Refusal, Tested};
 use grgrid::Grid;
 
 // The image's place. A fallback is what the map holds at the point where no image has the rotated address.
-#[derive(Drop)]
+#[derive(Clone, Copy)]
 pub enum Rotated {
     Image(i64),
     Fallback(i64),

@@ -12,6 +12,7 @@ use lib.Signed.{le_z, le_z_yes, mag}
 use lib.ListN.{length, get_or, drop, drop_of_length-le}
 use lib.Seq.{drop-cons}
 use mir.Facts.{to_z-of_z}
+use mir.Syntax.{w64}
 use Rattle.integer.proofs.Test.{and_l, and_r, and_in, is_true, same_test}
 use Rattle.integer.proofs.Parts.{ints, le_parts, parts-le, difference}
 use Rattle.integer.proofs.Size.{sfits-abs}
@@ -78,7 +79,7 @@ p-sized n h = p_atom (h.each n)
 -- an entry of known size is what a local holds of it
 module _ {k : ℕ} {l : List ℤ} (h : Sized k l) (n : ℕ) (t : T (ltb k 0x8000000000000000)) where
   pub entry-held : held (get_or l n (pos 0)) ≡ get_or l n (pos 0)
-  entry-held = to_z-of_z (sfits-abs (lt_of_le_of_lt (h.each n) (ltb→lt k 0x8000000000000000 t)))
+  entry-held = to_z-of_z {w = w64} (sfits-abs (lt_of_le_of_lt (h.each n) (ltb→lt k 0x8000000000000000 t)))
 
   pub held-size : nat_abs (held (get_or l n (pos 0))) ≤ k
   held-size = rw entry-held (h.each n)

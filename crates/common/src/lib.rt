@@ -1,4 +1,6 @@
 // What the modules share: limits, refusals and the filling of outputs.
+#![tactic(auto)]
+
 mod array;
 mod limits;
 
@@ -12,7 +14,7 @@ pub use limits::{
 };
 
 // Why a call gives no result. The Rust's own errors have the Rust's names.
-#[derive(Drop)]
+#[derive(Clone, Copy)]
 pub enum Refusal {
     Singular,
     NotConverged,
@@ -68,7 +70,7 @@ impl Refusal {
 }
 
 // The outcome of a call's tests.
-#[derive(Drop)]
+#[derive(Clone, Copy)]
 pub enum Tested {
     Accepted,
     Refused(Refusal),

@@ -44,6 +44,7 @@ record Power (d : ℕ) : Type 0 where
   small : t ≤ 8
 
 power : (d : ℕ) → 0 < d → d ≤ 256 → Power d
+power zero p h = elim p [ ]
 power (suc d) p h = record { t = size d; from = size-lt d; to = go (size d) (size_reaches d); small = size-le d 8 (omega arith) }
   where
     go : (z : ℕ) → ((j : ℕ) → j < z → 2 ^ j ≤ d) → 2 ^ z < 2 * suc d

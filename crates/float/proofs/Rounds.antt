@@ -108,6 +108,10 @@ same_bits f s m e n d h =
     ap (λ (x : ℕ). cond s (2 ^ (prec f - 1) * suc (2 * emax f + 1)) 0 + (size x - prec f) * 2 ^ (prec f - 1) + x / 2 ^ (size x - prec f)) k
 
 pub unique : (f : Format) (x y : Float) (s : Bool) (a c : ℕ) → 0 < c → T (fits f x) → T (fits f y) → HasValue x s a c → HasValue y s a c → x ≡ y
+unique f nan y s a c C p q v w = elim v [ ]
+unique f (inf _) y s a c C p q v w = elim v [ ]
+unique f (fin t m e) nan s a c C p q v w = elim w [ ]
+unique f (fin t m e) (inf _) s a c C p q v w = elim w [ ]
 unique f (fin t m e) (fin u n d) s a c C p q v w =
     let k : m * up e * down d ≡ n * up d * down e =
     eq_of_mul-eq-mul_right c C (m * up e * down d) (n * up d * down e)

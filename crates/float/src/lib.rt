@@ -1,4 +1,6 @@
 // What Rust has on f64 and Rattle lacks: rounding to whole numbers, casts, sizes and the square root. Each is total on every f64.
+#![tactic(auto)]
+
 ghost use Rattle.std.specs.Prelude.{◌≡◌, ◌+◌, ◌*◌, ◌^◌, ◌<◌, ◌≤◌, true, false, T, pos, from_bits, Float};
 ghost use Rattle.std.specs.Float.{binary64, fin};
 ghost use Rattle.std.specs.Float.Ieee.{fits, lt, of_int, to_signed};

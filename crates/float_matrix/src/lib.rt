@@ -1,4 +1,6 @@
 // 3 by 3 matrices and vectors of f64, by value.
+#![tactic(auto)]
+
 ghost use Rattle.std.specs.Prelude.{◌≡◌, [], ◌∷◌};
 ghost use Rattle.common.specs.Matrix.{cross};
 ghost use Rattle.common.specs.Array.{rows};

@@ -1,4 +1,6 @@
 // Generalized regular grid helpers.
+#![tactic(auto)]
+
 ghost use Rattle.std.specs.Prelude.{◌≡◌, ◌+◌, ◌*◌, ◌≤◌, ◌<◌, ℤ, pos, nat_abs, ◌+ℤ◌, ◌*ℤ◌, ◌-ℤ◌, length, map, T};
 ghost use Rattle.std.proofs.lemmas.List.Edits.{sets};
 ghost use Rattle.common.specs.Array.{vector_of, sides_of, items, matrix_of, matrices, Sized, SizedRows};
@@ -14,7 +16,7 @@ ghost use Rattle.common.specs.Limits.{all_within, diagonal_fits};
 use common::{Refusal, Tested};
 
 // The diagonal numbers.
-#[derive(Drop)]
+#[derive(Clone, Copy)]
 pub struct Grid {
     pub x: usize,
     pub y: usize,
@@ -260,7 +262,7 @@ fn map_tests(rotations: &[i64], d: [i64; 3], ps: [i64; 3], places: usize) -> Tes
 }
 
 // The number of classes, or why there is none.
-#[derive(Drop)]
+#[derive(Clone, Copy)]
 pub enum IrGridMap {
     Classes(i64),
     Refused(Refusal),
@@ -286,7 +288,7 @@ pub fn ir_grid_map(rotations: &[i64], d: [i64; 3], ps: [i64; 3], map: &mut [i64]
 }
 
 // A point by its remainders.
-#[derive(Drop)]
+#[derive(Clone, Copy)]
 pub struct Remainders {
     pub x: usize,
     pub y: usize,
@@ -353,7 +355,7 @@ fn address_tests(d: [i64; 3], places: usize) -> Tested
     Tested::Accepted
 }
 
-#[derive(Drop)]
+#[derive(Clone, Copy)]
 pub enum Addresses {
     Written,
     Refused(Refusal),

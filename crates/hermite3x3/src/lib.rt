@@ -1,4 +1,6 @@
 // The Hermite form of a 3 by 3 integer matrix, the order of two forms, and whether two matrices have the same points.
+#![tactic(auto)]
+
 mod steps;
 
 ghost use Rattle.std.specs.Prelude.{◌≡◌, ◌↔◌};
@@ -14,7 +16,7 @@ use common::{Refusal, Tested};
 use steps::Rows;
 
 // The form of an accepted matrix, by rows; -1 in every place of a refused one.
-#[derive(Drop)]
+#[derive(Clone, Copy)]
 pub struct Hermite {
     pub tested: Tested,
     pub h: [i64; 9],
@@ -57,7 +59,7 @@ pub fn hermite3x3(a: [[i64; 3]; 3]) -> Hermite
 }
 
 // Of two forms: the first comes before the second, is equal to it, or comes after it.
-#[derive(Drop)]
+#[derive(Clone, Copy)]
 pub enum Order {
     Before,
     Equal,
@@ -85,7 +87,7 @@ pub fn order_forms(g: [i64; 9], h: [i64; 9]) -> Order
 }
 
 // Whether two matrices make the same grid.
-#[derive(Drop)]
+#[derive(Clone, Copy)]
 pub enum SameGrid {
     Same,
     Different,

@@ -12,7 +12,7 @@ use snf_steps::columns::Combination;
 use snf_steps::{columns, elementary};
 
 // `fits` is 1, or 0 once a number left 64 bits; the matrix then says nothing.
-#[derive(Drop)]
+#[derive(Clone, Copy)]
 pub struct Rows {
     pub m: [i64; 9],
     pub fits: u64,

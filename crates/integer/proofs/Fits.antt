@@ -22,7 +22,7 @@ abbrev pub held : ℤ → ℤ
 held z = to_z w64 (of_z w64 z)
 
 pub held-is : (z : ℤ) → mag z < 0x8000000000000000 → held z ≡ z
-held-is z h = to_z-of_z (record { sfits = h })
+held-is z h = to_z-of_z {w = w64} (record { sfits = h })
 
 pub held-natural : {z : ℤ} → SFits w64 z → T (non_neg z) → T (non_neg (held z)) × Fits w64 (nat_abs (held z))
 held-natural {z} f t = rw (to_z-of_z f) (t, record { fits = lt_of_le_of_lt (nat_abs-le z f.sfits) (lit< tt) })

@@ -1,10 +1,12 @@
 // Operations on i64 that answer the exact number, or why there is none. Rust's i64 has them under the same names.
+#![tactic(auto)]
+
 ghost use Rattle.std.specs.Prelude.{◌≡◌, ℤ, nat_abs, neg_ℤ, ◌+ℤ◌, ◌-ℤ◌, ◌*ℤ◌};
 ghost use Rattle.std.specs.Int.Signed.{quot_z, rem_z};
 ghost use Rattle.integer.specs.Checked.{fits64, checked, divided};
 ghost use Rattle.integer.specs.Division.{div_euclid, rem_euclid, Divisible};
 
-#[derive(Drop)]
+#[derive(Clone, Copy)]
 pub enum Checked {
     Value(i64),
     Overflow,

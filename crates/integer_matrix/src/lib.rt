@@ -1,4 +1,6 @@
 // 3 by 3 integer matrices by value; products and determinants where every number on the way fits.
+#![tactic(auto)]
+
 ghost use Rattle.std.specs.Prelude.{◌≡◌, ◌&&◌, [], ◌∷◌, ◌+◌, ◌*◌, ◌≤◌, ◌<◌, T, leb, neg_ℤ, ◌+ℤ◌, ◌-ℤ◌};
 ghost use Rattle.integer.specs.Checked.{fits64};
 ghost use Rattle.common.specs.Matrix.{all_axes, entries, transpose, negate, ◌·◌, det, cross, expand, minors, vector, integers};

@@ -5,7 +5,7 @@ ghost use Rattle.job.specs.Job.{little_endian, word, signed, float, signed_words
 use common::{Refusal, Tested};
 
 // A job as it was read, `count` rotations standing beside it, or its refusal: then every number is -1, but `count` is 0 and both flags are false.
-#[derive(Drop)]
+#[derive(Clone, Copy)]
 pub struct Job {
     pub tested: Tested,
     pub a: [i64; 9],

@@ -1,4 +1,6 @@
 // The job file and the listing.
+#![tactic(auto)]
+
 mod job;
 mod listing;
 

@@ -7,7 +7,7 @@ ghost use Rattle.job.specs.Writing.{printed, printed_answer, page, put, puts, fi
 use common::Refusal;
 
 // How many bytes are written, or that there is no room for the text.
-#[derive(Drop)]
+#[derive(Clone, Copy)]
 pub enum Printed {
     Bytes(usize),
     NoRoom,

@@ -1,4 +1,6 @@
 // Which of the 125 candidates of a point are nearest for certain, and which are beaten for certain, where the lattice is known only within ranges.
+#![tactic(auto)]
+
 mod candidates;
 mod coordinates;
 mod marks;

@@ -6,7 +6,7 @@ ghost use Rattle.mark_candidates.specs.Code.Table.{length_by, entry_of, cell, Ra
 use crate::candidates::weights_at;
 
 // The lowest and highest of the six inner products 00, 01, 02, 11, 12, 22.
-#[derive(Drop)]
+#[derive(Clone, Copy)]
 pub struct Ranges {
     pub lowest: [i64; 6],
     pub highest: [i64; 6],

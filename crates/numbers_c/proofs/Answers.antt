@@ -47,6 +47,6 @@ module _ (b : List ℤ) (c : Checked) where
 -- an export hands on what `tell` said of the answer of its operation
 pub passed_on : {c d : Checked} {b l : List ℤ} {r : ℤ} → mag r < 0x8000000000000000 → d ≡ c → Told d b r l → Told c b (to_z w64 (of_z w64 r)) l
 passed_on {b = b} f e t = record {
-  answer = to_z-of_z (record { sfits = f }) ∙ t.answer ∙ ap (told_answer (length b)) e;
+  answer = to_z-of_z {w = w64} (record { sfits = f }) ∙ t.answer ∙ ap (told_answer (length b)) e;
   written = t.written ∙ ap (told (length b)) e;
 }

@@ -1,5 +1,7 @@
 // Checked operations on i64, functions of f64 and the extended gcd, exported for the comparison with the Rust's own.
 // No part of the archive for the camera, zone_c.
+#![tactic(auto)]
+
 mod floats;
 mod gcd;
 

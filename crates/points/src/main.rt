@@ -1,4 +1,6 @@
 // Runs the points of document 01 that it leaves to programs, the triplets of its listing, and the worst pairs of small limits.
+#![tactic(auto)]
+
 mod pairs;
 
 fn print_number(n: i64) {

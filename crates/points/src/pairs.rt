@@ -1,7 +1,7 @@
 // The worst pair of every limit up to 300, by trial of all pairs.
 
 // The steps are those that the gcd tells.
-#[derive(Drop)]
+#[derive(Clone, Copy)]
 pub struct Pair {
     pub first: u16,
     pub second: u16,

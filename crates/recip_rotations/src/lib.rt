@@ -1,4 +1,6 @@
 // Reciprocal-space point group construction.
+#![tactic(auto)]
+
 ghost use Rattle.std.specs.Prelude.{◌≡◌, true, map, ◌+◌, ◌*◌, ◌≤◌, ◌<◌, T, neg_ℤ, negsuc, length, drop, replicate};
 ghost use Rattle.std.proofs.Math.Seq.{paste};
 ghost use Rattle.common.specs.Array.{matrix_at, matrices_from, matrices, Sized};
@@ -11,7 +13,7 @@ ghost use Rattle.recip_rotations.specs.Steps.{same_row, swapped, transposed_at, 
 use common::{Refusal, Tested};
 
 // How many rotations the output holds, or why there are none.
-#[derive(Drop)]
+#[derive(Clone, Copy)]
 pub enum PointGroup {
     Rotations(usize),
     Refused(Refusal),

@@ -2,6 +2,8 @@
 // answers and writes. Prints how many cases there were, how many differ, and how many differ once the last
 // number of the line is another one; the export writes no text of a refused job, so these do not differ
 // then. One number of data/control is wrong, so that one case of it must differ.
+#![tactic(auto)]
+
 mod job_file;
 mod runs;
 

@@ -2,6 +2,8 @@
 // reads the vectors of each function, data/FUNCTION, calls the port's export, and prints how many cases
 // there were, how many differ, and how many differ once the last number of the line is another one, which
 // must be all. One number of data/control is wrong, so that one case of it must differ.
+#![tactic(auto)]
+
 mod checked;
 mod floats;
 mod gcd;

@@ -1,4 +1,6 @@
 // What the programs that replay vectors share: a file is read, and its tally printed.
+#![tactic(auto)]
+
 ghost use Rattle.io.specs.Counts.{IsPrefixLen};
 
 use vectors::tally::Tally;

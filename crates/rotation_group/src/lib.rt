@@ -1,4 +1,6 @@
 // Whether a list of rotations is a group as it stands, and the reciprocal group of one that is.
+#![tactic(auto)]
+
 mod members;
 mod products;
 

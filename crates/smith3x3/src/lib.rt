@@ -1,4 +1,6 @@
 // The Smith form of a 3 by 3 integer matrix in which each number divides the next.
+#![tactic(auto)]
+
 ghost use Rattle.std.specs.Prelude.{◌≡◌};
 ghost use Rattle.common.specs.Array.{vector_of, matrix_of, matrix_at, rows};
 ghost use Rattle.common.specs.Matrix.{diagonal};
@@ -9,7 +11,7 @@ ghost use Rattle.smith3x3.specs.Written.{written, product_of, Promised};
 use common::{Refusal, Tested};
 
 // P.A.Q is the diagonal matrix of `d_diag`.
-#[derive(Drop)]
+#[derive(Clone, Copy)]
 pub struct Smith {
     pub tested: Tested,
     pub d_diag: [i64; 3],
@@ -29,7 +31,7 @@ fn refuse(r: Refusal) -> Smith
 }
 
 // A product whose numbers fit, or -1 in every place.
-#[derive(Drop)]
+#[derive(Clone, Copy)]
 pub struct Joined {
     pub fits: bool,
     pub m: [i64; 9],

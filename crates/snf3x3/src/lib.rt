@@ -1,4 +1,6 @@
 // Diagonalising a 3 by 3 integer matrix.
+#![tactic(auto)]
+
 ghost use Rattle.std.specs.Prelude.{◌≡◌, true, ◌≤◌, T};
 ghost use Rattle.common.specs.Array.{matrix_of};
 ghost use Rattle.common.specs.IntegerMatrix.{det_fits};
@@ -13,7 +15,7 @@ use snf_steps::stages::{Outcome, Triple};
 use snf_steps::{finalize, stages};
 
 // P.A.Q is the diagonal matrix of `d_diag`; `rounds` says how many passes it took.
-#[derive(Drop)]
+#[derive(Clone, Copy)]
 pub struct Snf {
     pub tested: Tested,
     pub d_diag: [i64; 3],

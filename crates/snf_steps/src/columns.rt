@@ -10,14 +10,14 @@ use crate::gcd::Division;
 use crate::{elementary, gcd, mixing};
 
 // `fits` is 1, or 0 once a number left 64 bits; the matrices then say nothing. Beside arrays a bool is slow to copy.
-#[derive(Drop)]
+#[derive(Clone, Copy)]
 pub struct Pair {
     pub a: [i64; 9],
     pub p: [i64; 9],
     pub fits: u64,
 }
 
-#[derive(Drop)]
+#[derive(Clone, Copy)]
 pub enum Pivot {
     Row(usize),
     Nothing,
@@ -57,7 +57,7 @@ pub fn multiply(l: [[i64; 3]; 3], s: Pair) -> Pair
 }
 
 // How two rows are combined; `fits` is false where a number on the way left 64 bits.
-#[derive(Drop)]
+#[derive(Clone, Copy)]
 pub struct Combination {
     pub s: i64,
     pub t: i64,

@@ -4,7 +4,7 @@ ghost use Rattle.snf_steps.specs.Gcd.{less_fits, step, extended_gcd, counted_gcd
 ghost use Rattle.snf_steps.specs.GcdView.{euclid_of, division_of, counted_of};
 
 // Two remainders after each other: r = s·a + t·b and r1 = s1·a + t1·b.
-#[derive(Drop)]
+#[derive(Clone, Copy)]
 pub struct Euclid {
     pub r: i64,
     pub r1: i64,
@@ -14,7 +14,7 @@ pub struct Euclid {
     pub t1: i64,
 }
 
-#[derive(Drop)]
+#[derive(Clone, Copy)]
 pub enum Division {
     Done(Euclid),
     Overflow,
@@ -63,7 +63,7 @@ fn step(e: Euclid) -> Division
 }
 
 // How the walk ends, and after how many divisions.
-#[derive(Drop)]
+#[derive(Clone, Copy)]
 pub enum Counted {
     Done(Euclid, usize),
     Overflow,

@@ -17,7 +17,7 @@ use crate::elementary::{
 };
 
 // a, P and the transpose of Q. `fits` is 0 once a number left 64 bits.
-#[derive(Drop)]
+#[derive(Clone, Copy)]
 pub struct Triple {
     pub a: [i64; 9],
     pub p: [i64; 9],
@@ -26,7 +26,7 @@ pub struct Triple {
 }
 
 // What a stage leaves, and whether it is through.
-#[derive(Drop)]
+#[derive(Clone, Copy)]
 pub struct Outcome {
     pub left: Triple,
     pub done: bool,

@@ -1,4 +1,6 @@
 // Transform reciprocal-space rotations into rotations of the grid.
+#![tactic(auto)]
+
 ghost use Rattle.std.specs.Prelude.{◌≡◌, true, ◌&&◌, [], ◌+◌, ◌*◌, ◌^◌, ◌≤◌, T, nat_abs, length, get_or};
 ghost use Rattle.std.specs.Float.{nan, binary64};
 ghost use Rattle.std.specs.Float.Ieee.{div};
@@ -272,7 +274,7 @@ fn input_tests(rotations: &[i64], d: [i64; 3], q: [[i64; 3]; 3], places: usize) 
     Tested::Accepted
 }
 
-#[derive(Drop)]
+#[derive(Clone, Copy)]
 pub enum Transformed {
     Written,
     Refused(Refusal),

@@ -1,4 +1,6 @@
 // Irreducible triplet search on a generalized regular grid.
+#![tactic(auto)]
+
 ghost use Rattle.std.specs.Prelude.{◌≡◌, true, false, [], map, ◌+◌, ◌*◌, ◌≤◌, ◌<◌, T, pos, negsuc, nat_abs, length, get_or, replicate};
 ghost use Rattle.std.proofs.Math.Seq.{paste};
 ghost use Rattle.common.specs.Matrix.{entries, ◌▹◌};
@@ -19,7 +21,7 @@ use grgrid::Grid;
 use recip_rotations::PointGroup;
 
 // The number of classes, or why there is none.
-#[derive(Drop)]
+#[derive(Clone, Copy)]
 pub enum IrTriplets {
     Classes(i64),
     Refused(Refusal),

@@ -6,7 +6,7 @@ ghost use Rattle.vectors.specs.Matched.{matched, matched_output, matched_floats,
 use crate::slices::LISTED;
 use crate::{Verdict, floats, slices};
 
-#[derive(Drop)]
+#[derive(Clone, Copy)]
 pub enum Compared {
     // every place before this one is what the call answered and wrote
     To(usize),

@@ -7,7 +7,7 @@ ghost use Rattle.vectors.specs.Line.{Front};
 
 use crate::slices;
 
-#[derive(Drop)]
+#[derive(Clone, Copy)]
 pub enum Read {
     Float(f64),
     Malformed,

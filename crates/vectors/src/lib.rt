@@ -1,11 +1,13 @@
 // The Rust's answers, a case a line: how a line is read, and what it says of the port.
+#![tactic(auto)]
+
 pub mod compared;
 pub mod floats;
 pub mod slices;
 pub mod tally;
 pub mod text;
 
-#[derive(Drop)]
+#[derive(Clone, Copy)]
 pub enum Verdict {
     Same,
     Differs,

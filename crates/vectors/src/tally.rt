@@ -4,7 +4,7 @@ ghost use Rattle.vectors.specs.Counted.{more as one_more, counted};
 
 use crate::Verdict;
 
-#[derive(Drop)]
+#[derive(Clone, Copy)]
 pub struct Tally {
     pub cases: u64,
     pub differences: u64,

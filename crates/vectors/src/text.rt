@@ -19,7 +19,7 @@ pub fn find(s: &[u8], from: usize, b: u8) -> usize
     i
 }
 
-#[derive(Drop)]
+#[derive(Clone, Copy)]
 pub enum Parsed {
     // the number, and the place after it
     Number(i64, usize),

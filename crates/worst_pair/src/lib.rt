@@ -1,11 +1,13 @@
 // The pair of numbers on which the extended gcd takes the most steps.
+#![tactic(auto)]
+
 ghost use Rattle.std.specs.Prelude.{◌≤◌, ◌≡◌};
 ghost use Rattle.worst_pair.specs.WorstPair.{limit_fits, Finds, Answers};
 
 use common::Refusal;
 
 // The first number, the second, and their steps.
-#[derive(Drop)]
+#[derive(Clone, Copy)]
 pub enum WorstPair {
     Found(usize, usize, usize),
     Refused(Refusal),

@@ -1,4 +1,6 @@
 // The chain of calls, from a matrix and its rotations to the finished list.
+#![tactic(auto)]
+
 ghost use Rattle.std.specs.Prelude.{◌≡◌, ◌&&◌, ◌*◌, ◌<◌, eqb, length};
 ghost use Rattle.common.specs.declared.Tested.TheVariants.{Accepted};
 ghost use Rattle.grgrid.specs.Own.{own_places};
@@ -10,7 +12,7 @@ ghost use Rattle.zone.specs.ChainView.{job, finished_with, refused_with};
 use common::{Refusal, Tested};
 
 // The diagonal and the number of classes; -1 in every place after a refusal.
-#[derive(Drop)]
+#[derive(Clone, Copy)]
 pub struct Finished {
     pub tested: Tested,
     pub d: [i64; 3],

@@ -1,4 +1,6 @@
 // The exports for C and Rust. Each answers 0, or document 01's number of the refusal.
+#![tactic(auto)]
+
 mod diagonal;
 mod form;
 mod grid;

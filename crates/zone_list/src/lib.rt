@@ -1,4 +1,6 @@
 // A job file, from its bytes to its listing.
+#![tactic(auto)]
+
 ghost use Rattle.std.specs.Prelude.{◌≡◌, length};
 ghost use Rattle.common.specs.Array.{rows};
 ghost use Rattle.common.specs.declared.Tested.TheVariants.{Accepted};
@@ -11,7 +13,7 @@ use job::Printed;
 use zone::Finished;
 
 // How many bytes the listing has, or why there is none.
-#[derive(Drop)]
+#[derive(Clone, Copy)]
 pub enum Listing {
     Bytes(usize),
     Refused(Refusal),

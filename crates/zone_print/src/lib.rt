@@ -1,4 +1,6 @@
 // The program's one call, from the bytes that it read to the text that it prints.
+#![tactic(auto)]
+
 ghost use Rattle.std.specs.Prelude.{◌≡◌, ◌≤◌, length, take};
 ghost use Rattle.job.specs.Listing.{refusal};
 ghost use Rattle.job.specs.Writing.{printed};

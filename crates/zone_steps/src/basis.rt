@@ -8,7 +8,7 @@ use recip_rotations::PointGroup;
 use transform_rotations::Transformed;
 
 // How many rotations there are, or why there are none.
-#[derive(Drop)]
+#[derive(Clone, Copy)]
 pub enum Turned {
     Rotations(usize),
     Refused(Refusal),

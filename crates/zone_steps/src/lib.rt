@@ -1,4 +1,6 @@
 // The steps of the chain: rotations in the basis of a grid, its images, classes and triplets.
+#![tactic(auto)]
+
 mod basis;
 mod grid;
 mod tables;

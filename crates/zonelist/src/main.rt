@@ -1,4 +1,6 @@
 // Reads a job file on standard input and prints its finished list, or its refusal. It holds at most 256 points and 1,024 images.
+#![tactic(auto)]
+
 fn main() {
     let mut held = [0u8; 8193];
     let n = io::read_full(0, &mut held);

@@ -10,5 +10,5 @@ floor-requires c κs = search rules
 returns : tie.Need-returns
 returns c = ap neg c.floor.ensures ∙ neg-floor _
 
-pub ceil-spec : {M : Type 1} → statement M
-ceil-spec = tie.close (tie.spec floor-requires returns)
+pub ceil_spec : {M : Type 1} → statement M
+ceil_spec = tie.close (tie.spec floor-requires returns)

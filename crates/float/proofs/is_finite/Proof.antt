@@ -11,5 +11,5 @@ returns : tie.Need-returns
 unfolding of_bits div
 returns c = rw c.abs.ensures (finite-is c.before.args.x)
 
-pub is-finite-spec : {M : Type 1} → statement M
-is-finite-spec = tie.close (tie.spec abs-requires returns)
+pub is_finite_spec : {M : Type 1} → statement M
+is_finite_spec = tie.close (tie.spec abs-requires returns)

@@ -5,31 +5,31 @@ use Rattle.float.proofs.Rounding.{large, large-neg, no_sign, above_zero, below_t
 use Rattle.float.proofs.round.Statement.{statement}
 use Rattle.float.proofs.round.Tie as tie
 
-small-round-requires : tie.Need-small-round-requires
+small-round-requires : tie.Need-small_round-requires
 unfolding of_bits
-small-round-requires c κs = (holds c.before.if1.true, holds c.if2.true)
+small-round-requires c κs = (holds c.before.if-x.true, holds c.if-x-2.true)
 
-returns : tie.Need-returns
+returns : tie.Need-returns-then-x-2
 returns c = search rules
 
-returns-2 : tie.Need-returns-2
+returns-2 : tie.Need-returns-then-x
 unfolding of_bits
-returns-2 c = (large _ (holds c.before.before.well-formed.0.1) (holds c.before.if1.true) (fails c.if2.false)).round
+returns-2 c = (large _ (holds c.before.before.well_formed.0.1) (holds c.before.if-x.true) (fails c.if-x-2.false)).round
 
-small-round-requires-2 : tie.Need-small-round-requires-2
+small-round-requires-2 : tie.Need-small_round-requires-then-x-4
 unfolding of_bits
-small-round-requires-2 c κs = (above_zero _ (holds c.before.if3.true), below_top _ (holds c.if4.true))
+small-round-requires-2 c κs = (above_zero _ (holds c.before.if-x-3.true), below_top _ (holds c.if-x-4.true))
 
-returns-3 : tie.Need-returns-3
-returns-3 c = ap neg c.small-round2.ensures ∙ neg-round _
+returns-3 : tie.Need-returns-then-x-4
+returns-3 c = ap neg c.small_round-then-x-4.ensures ∙ neg-round _
 
-returns-4 : tie.Need-returns-4
+returns-4 : tie.Need-returns-then-x-3
 unfolding of_bits
-returns-4 c = (large-neg _ (holds c.before.before.before.well-formed.0.1) (holds c.before.if3.true) (fails c.if4.false)).round
+returns-4 c = (large-neg _ (holds c.before.before.before.well_formed.0.1) (holds c.before.if-x-3.true) (fails c.if-x-4.false)).round
 
-returns-5 : tie.Need-returns-5
+returns-5 : tie.Need-returns
 unfolding of_bits
-returns-5 c = (no_sign _ (holds c.before.before.well-formed.0.1) (fails c.before.if1.false) (fails c.if3.false)).round
+returns-5 c = (no_sign _ (holds c.before.before.well_formed.0.1) (fails c.before.if-x.false) (fails c.if-x-3.false)).round
 
-pub round-spec : {M : Type 1} → statement M
-round-spec = tie.close (tie.spec small-round-requires returns returns-2 small-round-requires-2 returns-3 returns-4 returns-5)
+pub round_spec : {M : Type 1} → statement M
+round_spec = tie.close (tie.spec small-round-requires returns returns-2 small-round-requires-2 returns-3 returns-4 returns-5)

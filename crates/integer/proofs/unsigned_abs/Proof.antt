@@ -28,33 +28,33 @@ module _ (a : ℤ) (f : SFits w64 a) (e : lt_z (held a) (pos 0) ≡ true) where
   pub held-mag : held (pos 0 -ℤ held (held a +ℤ pos 1)) ≡ pos (mag a)
   held-mag = to_z-of_z mag-fits ∙ is-mag
 
-add-result : tie.Need-overflow-add-result
-add-result c = next c.before.args.a c.before.ranges.a c.if1.true
+add-result : tie.Need-overflow_add-result
+add-result c = next c.before.args.a c.before.ranges.a c.if-a-lt0.true
 
-sub-result : tie.Need-overflow-sub-result
-sub-result c = mag-fits c.before.args.a c.before.ranges.a c.if1.true
+sub-result : tie.Need-overflow_sub-result
+sub-result c = mag-fits c.before.args.a c.before.ranges.a c.if-a-lt0.true
 
-cast-result : tie.Need-overflow-cast-result
-cast-result c = rw (held-mag c.before.args.a c.before.ranges.a c.if1.true) (tt, record { fits = omega (arith, c.before.ranges.a.sfits) })
+cast-result : tie.Need-overflow_cast-result
+cast-result c = rw (held-mag c.before.args.a c.before.ranges.a c.if-a-lt0.true) (tt, record { fits = omega (arith, c.before.ranges.a.sfits) })
 
-add-result-2 : tie.Need-overflow-add-result-2
-add-result-2 c = rw (held-mag c.before.args.a c.before.ranges.a c.if1.true) (record { fits = omega (arith, c.before.ranges.a.sfits) })
+add-result-2 : tie.Need-overflow_add-result-then-a-lt0
+add-result-2 c = rw (held-mag c.before.args.a c.before.ranges.a c.if-a-lt0.true) (record { fits = omega (arith, c.before.ranges.a.sfits) })
 
-cast-result-2 : tie.Need-overflow-cast-result-2
+cast-result-2 : tie.Need-overflow_cast-result-else-a-lt0
 cast-result-2 c =
     let s = c.before in
     let e = to_z-of_z s.ranges.a in
-    rw e ((nonneg_of (from_zero s.args.a (rw e at c.if1.false))).sign, record { fits = omega (arith, nat_abs-le s.args.a s.ranges.a.sfits) })
+    rw e ((nonneg_of (from_zero s.args.a (rw e at c.if-a-lt0.false))).sign, record { fits = omega (arith, nat_abs-le s.args.a s.ranges.a.sfits) })
 
-returns : tie.Need-returns
+returns : tie.Need-returns-then-a-lt0
 returns c =
     let s = c.before in
-    rw (held-mag s.args.a s.ranges.a c.if1.true) (mag-next s.args.a (test s.args.a s.ranges.a c.if1.true))
+    rw (held-mag s.args.a s.ranges.a c.if-a-lt0.true) (mag-next s.args.a (test s.args.a s.ranges.a c.if-a-lt0.true))
 
-returns-2 : tie.Need-returns-2
+returns-2 : tie.Need-returns-else-a-lt0
 returns-2 c = ap nat_abs (to_z-of_z c.before.ranges.a)
 
-pub unsigned-abs-spec : {M : Type 1} → statement M
-unsigned-abs-spec =
+pub unsigned_abs_spec : {M : Type 1} → statement M
+unsigned_abs_spec =
     tie.close
     (tie.spec add-result sub-result cast-result add-result-2 cast-result-2 returns returns-2)

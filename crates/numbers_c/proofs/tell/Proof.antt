@@ -1,3 +1,4 @@
+use mir.Syntax.{w64}
 use mathlib.Core.Path.{refl}
 use native.Mathlib.Omega.{arith}
 use mir.Facts.{to_z-of_z}
@@ -50,7 +51,7 @@ same-length-2 c = search rules
 returns-2 : tie.Need-returns-2
 returns-2 c =
     let s = c.before.before.before.before in
-    rw (to_z-of_z (record { sfits = c.known-told.given.0.1 })) (value-told s.args.out.now s.args.answer c.before.before.before.if1.false c.before.answer2.given.1)
+    rw (to_z-of_z {w = w64} (record { sfits = c.known-told.given.0.1 })) (value-told s.args.out.now s.args.answer c.before.before.before.if1.false c.before.answer2.given.1)
 
 same-length-3 : tie.Need-same-length-3
 same-length-3 c = search rules

@@ -22,7 +22,7 @@ returns c =
     let size = c.before.before.guess.ensures in
     let h = held_of refl (size_fits n (lt_of_le_of_lt size (lit< tt))) in
     let e = c.before.to-f64.ensures ∙ ap (of_int binary64) h in
-    h ∙ sym (found s.args.x n size (holds s.well-formed.0.1) (holds (ap (λ y. eq y s.args.x) (sym e) ∙ c.if1.true)))
+    h ∙ sym (found s.args.x n size (holds s.well_formed.0.1) (holds (ap (λ y. eq y s.args.x) (sym e) ∙ c.if1.true)))
 
 nint-requires : tie.Need-nint-requires
 nint-requires c κs = search rules

@@ -1,3 +1,4 @@
+use mir.Syntax.{w64}
 use mathlib.Core.Path.{◌≡◌, ◌∙◌, ap}
 use mathlib.Core.List.{[], ◌∷◌}
 use lib.Ieee.Casts.{to_signed_in}
@@ -13,7 +14,7 @@ use Rattle.transform_rotations.proofs.nint_row.Tie as tie
 -- a rounded value fits 64 bits
 kept : {z : ℤ} (x : Float) → z ≡ nint_of x → held z ≡ nint_of x
 unfolding nint_of
-kept x e = ap held e ∙ to_z-of_z (record { sfits = to_signed_in 63 (round_of x) })
+kept x e = ap held e ∙ to_z-of_z {w = w64} (record { sfits = to_signed_in 63 (round_of x) })
 
 array-read-nint-entry : tie.Need-array-read-nint-entry
 array-read-nint-entry c = search rules

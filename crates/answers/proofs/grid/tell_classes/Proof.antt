@@ -1,3 +1,4 @@
+use mir.Syntax.{w64}
 use mathlib.Core.Path.{sym, ◌∙◌, ap}
 use mathlib.Core.List.{[], ◌∷◌}
 use mir.Facts.{to_z-of_z}
@@ -30,7 +31,7 @@ returns : tie.Need-returns
 returns c =
     let s = c.before.before.before in
     let e = c.before.answer.given.1 in
-    (sym (ap classes_number e), stored s.args.told.now s.requires _ ∙ ap (λ z. z ∷ []) (to_z-of_z (record { sfits = c.known-told.given.0.1 })) ∙ sym (ap classes_told e))
+    (sym (ap classes_number e), stored s.args.told.now s.requires _ ∙ ap (λ z. z ∷ []) (to_z-of_z {w = w64} (record { sfits = c.known-told.given.0.1 })) ∙ sym (ap classes_told e))
 
 same-length-2 : tie.Need-same-length-2
 same-length-2 c = search rules

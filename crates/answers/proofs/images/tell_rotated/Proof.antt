@@ -1,3 +1,4 @@
+use mir.Syntax.{w64}
 use mathlib.Core.Path.{sym, ◌∙◌, ap}
 use mathlib.Core.List.{[], ◌∷◌}
 use lib.IntN.{pos, negsuc}
@@ -44,7 +45,7 @@ returns : tie.Need-returns
 returns c =
     let s = c.before.before.before in
     let e = c.before.answer.given.1 in
-    (sym (ap rotated_number e), stored-two s.args.told.now s.requires _ _ ∙ ap (λ z. z ∷ pos 0 ∷ []) (to_z-of_z (record { sfits = c.known-told.given.0.1 })) ∙ sym (ap rotated_told e))
+    (sym (ap rotated_number e), stored-two s.args.told.now s.requires _ _ ∙ ap (λ z. z ∷ pos 0 ∷ []) (to_z-of_z {w = w64} (record { sfits = c.known-told.given.0.1 })) ∙ sym (ap rotated_told e))
 
 same-length-2 : tie.Need-same-length-2
 same-length-2 c = search rules
@@ -53,7 +54,7 @@ returns-2 : tie.Need-returns-2
 returns-2 c =
     let s = c.before.before.before in
     let e = c.before.answer2.given.1 in
-    (sym (ap rotated_number e), stored-two s.args.told.now s.requires _ _ ∙ ap (λ z. z ∷ pos 1 ∷ []) (to_z-of_z (record { sfits = c.known-told2.given.0.1 })) ∙ sym (ap rotated_told e))
+    (sym (ap rotated_number e), stored-two s.args.told.now s.requires _ _ ∙ ap (λ z. z ∷ pos 1 ∷ []) (to_z-of_z {w = w64} (record { sfits = c.known-told2.given.0.1 })) ∙ sym (ap rotated_told e))
 
 same-length-3 : tie.Need-same-length-3
 same-length-3 c = search rules

@@ -10,11 +10,11 @@ use Rattle.common.proofs.Refusal.answer.Tie as tie
 number-requires : tie.Need-number-requires
 number-requires c κs = search rules
 
-cast-result : tie.Need-overflow-cast-result
+cast-result : tie.Need-overflow_cast-result
 cast-result c = search rules
 
 returns : tie.Need-returns
 returns c = to_z_pos w64 (omega (arith, c.number.ensures.1)) ∙ ap pos c.number.ensures.0
 
-pub answer-spec : {M : Type 1} → statement M
-answer-spec = tie.close (tie.spec number-requires cast-result returns)
+pub answer_spec : {M : Type 1} → statement M
+answer_spec = tie.close (tie.spec number-requires cast-result returns)

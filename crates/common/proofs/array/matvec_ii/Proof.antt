@@ -12,29 +12,29 @@ use Rattle.common.proofs.array.matvec_ii.Tie as tie
 abbrev row : List (List ℤ) → List ℤ → Axis → Bool
 row a b j = dot_fits (entry (matrix_of a) j) (side (vector_of b))
 
-array-copy-out-x : tie.Need-array-copy-out-x
+array-copy-out-x : tie.Need-bounds-a-0
 array-copy-out-x c = search rules
 
-array-copy-out-y : tie.Need-array-copy-out-y
+array-copy-out-y : tie.Need-bounds-a-1
 array-copy-out-y c = search rules
 
-array-copy-out-z : tie.Need-array-copy-out-z
+array-copy-out-z : tie.Need-bounds-a-2
 array-copy-out-z c = search rules
 
-dot-i-requires : tie.Need-dot-i-requires
-dot-i-requires c κs = let s = c.before.before.before in axes-of (row s.args.t1 s.args.b) s.requires X
+dot-i-requires : tie.Need-dot_i-requires
+dot-i-requires c κs = let s = c.before.before.before in axes-of (row s.args.a s.args.b) s.requires X
 
-dot-i-requires-2 : tie.Need-dot-i-requires-2
-dot-i-requires-2 c κs = let s = c.before.before.before.before in axes-of (row s.args.t1 s.args.b) s.requires Y
+dot-i-requires-2 : tie.Need-dot_i-requires-2
+dot-i-requires-2 c κs = let s = c.before.before.before.before in axes-of (row s.args.a s.args.b) s.requires Y
 
-dot-i-requires-3 : tie.Need-dot-i-requires-3
-dot-i-requires-3 c κs = let s = c.before.before.before.before.before in axes-of (row s.args.t1 s.args.b) s.requires Z
+dot-i-requires-3 : tie.Need-dot_i-requires-3
+dot-i-requires-3 c κs = let s = c.before.before.before.before.before in axes-of (row s.args.a s.args.b) s.requires Z
 
 returns : tie.Need-returns
 returns c = search rules
 
-pub matvec-ii-spec : {M : Type 1} → statement M
-matvec-ii-spec =
+pub matvec_ii_spec : {M : Type 1} → statement M
+matvec_ii_spec =
     tie.close
     (tie.spec
     array-copy-out-x

@@ -29,68 +29,68 @@ small x y z e =
     let t = and_r (side_fits x) (side_fits y && side_fits z) (holds e) in
     (side-size x (and_l (side_fits x) (side_fits y && side_fits z) (holds e)), side-size y (and_l (side_fits y) (side_fits z) t), side-size z (and_r (side_fits y) (side_fits z) t))
 
-array-copy-out-side-fits : tie.Need-array-copy-out-side-fits
+array-copy-out-side-fits : tie.Need-bounds-d-0
 array-copy-out-side-fits c = search rules
 
-side-fits-requires : tie.Need-side-fits-requires
+side-fits-requires : tie.Need-side_fits-requires
 side-fits-requires c κs = search rules
 
-array-copy-out-side-fits-2 : tie.Need-array-copy-out-side-fits-2
+array-copy-out-side-fits-2 : tie.Need-bounds-d-1
 array-copy-out-side-fits-2 c = search rules
 
-side-fits-requires-2 : tie.Need-side-fits-requires-2
+side-fits-requires-2 : tie.Need-side_fits-requires-2
 side-fits-requires-2 c κs = search rules
 
-array-copy-out-side-fits-3 : tie.Need-array-copy-out-side-fits-3
+array-copy-out-side-fits-3 : tie.Need-bounds-d-2
 array-copy-out-side-fits-3 c = search rules
 
-side-fits-requires-3 : tie.Need-side-fits-requires-3
+side-fits-requires-3 : tie.Need-side_fits-requires-3
 side-fits-requires-3 c κs = search rules
 
-all-three-requires : tie.Need-all-three-requires
+all-three-requires : tie.Need-all_three-requires
 all-three-requires c κs = search rules
 
-array-copy-out-volume-fits : tie.Need-array-copy-out-volume-fits
+array-copy-out-volume-fits : tie.Need-bounds-d-0-then-all_three
 array-copy-out-volume-fits c = search rules
 
-array-copy-out-volume-fits-2 : tie.Need-array-copy-out-volume-fits-2
+array-copy-out-volume-fits-2 : tie.Need-bounds-d-1-then-all_three
 array-copy-out-volume-fits-2 c = search rules
 
-array-copy-out-volume-fits-3 : tie.Need-array-copy-out-volume-fits-3
+array-copy-out-volume-fits-3 : tie.Need-bounds-d-2-then-all_three
 array-copy-out-volume-fits-3 c = search rules
 
-volume-fits-requires : tie.Need-volume-fits-requires
+volume-fits-requires : tie.Need-volume_fits-requires
 volume-fits-requires c κs =
-    let l = c.before.before.before.before.before.before.before.before.before.before.before.args.t1 in
+    let l = c.before.before.before.before.before.before.before.before.before.before.before.args.d in
     let e = sides (get_or l 0 (pos 0)) (get_or l 1 (pos 0)) (get_or l 2 (pos 0))
-    c.before.before.before.before.before.before.before.before.before.before.side-fits-arg.given c.before.before.before.before.before.before.before.before.side-fits-arg2.given c.before.before.before.before.before.before.side-fits-arg3.given
-    c.before.before.before.before.before.before.before.before.before.side-fits.ensures c.before.before.before.before.before.before.before.side-fits2.ensures c.before.before.before.before.before.side-fits3.ensures
-    c.before.before.before.before.All-three.ensures in
-    rw (held-is (get_or l 0 (pos 0)) c.before.before.volume-fits-arg.given, held-is (get_or l 1 (pos 0)) c.before.volume-fits-arg2.given, held-is (get_or l 2 (pos 0)) c.volume-fits-arg3.given)
-    (small (get_or l 0 (pos 0)) (get_or l 1 (pos 0)) (get_or l 2 (pos 0)) (sym e ∙ c.before.before.before.if1.true))
+    c.before.before.before.before.before.before.before.before.before.before.side_fits-arg-1.given c.before.before.before.before.before.before.before.before.side_fits-arg-2-1.given c.before.before.before.before.before.before.side_fits-arg-3-1.given
+    c.before.before.before.before.before.before.before.before.before.side_fits.ensures c.before.before.before.before.before.before.before.side_fits-2.ensures c.before.before.before.before.before.side_fits-3.ensures
+    c.before.before.before.before.all_three.ensures in
+    rw (held-is (get_or l 0 (pos 0)) c.before.before.volume_fits-arg-1.given, held-is (get_or l 1 (pos 0)) c.before.volume_fits-arg-then-all_three-1.given, held-is (get_or l 2 (pos 0)) c.volume_fits-arg-then-all_three-2-1.given)
+    (small (get_or l 0 (pos 0)) (get_or l 1 (pos 0)) (get_or l 2 (pos 0)) (sym e ∙ c.before.before.before.if-all_three.true))
 
-returns : tie.Need-returns
+returns : tie.Need-returns-then-all_three
 returns c =
-    let l = c.before.before.before.before.before.before.before.before.before.before.before.before.args.t1 in
+    let l = c.before.before.before.before.before.before.before.before.before.before.before.before.args.d in
     let e = sides (get_or l 0 (pos 0)) (get_or l 1 (pos 0)) (get_or l 2 (pos 0))
-    c.before.before.before.before.before.before.before.before.before.before.before.side-fits-arg.given c.before.before.before.before.before.before.before.before.before.side-fits-arg2.given c.before.before.before.before.before.before.before.side-fits-arg3.given
-    c.before.before.before.before.before.before.before.before.before.before.side-fits.ensures c.before.before.before.before.before.before.before.before.side-fits2.ensures c.before.before.before.before.before.before.side-fits3.ensures
-    c.before.before.before.before.before.All-three.ensures in
-    c.volume-fits.ensures
-    ∙ (rw (held-is (get_or l 0 (pos 0)) c.before.before.before.volume-fits-arg.given, held-is (get_or l 1 (pos 0)) c.before.before.volume-fits-arg2.given, held-is (get_or l 2 (pos 0)) c.before.volume-fits-arg3.given)
-    (first_holds (leb (nat_abs (get_or l 0 (pos 0)) * nat_abs (get_or l 1 (pos 0)) * nat_abs (get_or l 2 (pos 0))) 65536) (sym e ∙ c.before.before.before.before.if1.true)))
+    c.before.before.before.before.before.before.before.before.before.before.before.side_fits-arg-1.given c.before.before.before.before.before.before.before.before.before.side_fits-arg-2-1.given c.before.before.before.before.before.before.before.side_fits-arg-3-1.given
+    c.before.before.before.before.before.before.before.before.before.before.side_fits.ensures c.before.before.before.before.before.before.before.before.side_fits-2.ensures c.before.before.before.before.before.before.side_fits-3.ensures
+    c.before.before.before.before.before.all_three.ensures in
+    c.volume_fits.ensures
+    ∙ (rw (held-is (get_or l 0 (pos 0)) c.before.before.before.volume_fits-arg-1.given, held-is (get_or l 1 (pos 0)) c.before.before.volume_fits-arg-then-all_three-1.given, held-is (get_or l 2 (pos 0)) c.before.volume_fits-arg-then-all_three-2-1.given)
+    (first_holds (leb (nat_abs (get_or l 0 (pos 0)) * nat_abs (get_or l 1 (pos 0)) * nat_abs (get_or l 2 (pos 0))) 65536) (sym e ∙ c.before.before.before.before.if-all_three.true)))
 
-returns-2 : tie.Need-returns-2
+returns-2 : tie.Need-returns
 returns-2 c =
-    let l = c.before.before.before.before.before.before.before.before.args.t1 in
+    let l = c.before.before.before.before.before.before.before.before.args.d in
     let e = sides (get_or l 0 (pos 0)) (get_or l 1 (pos 0)) (get_or l 2 (pos 0))
-    c.before.before.before.before.before.before.before.side-fits-arg.given c.before.before.before.before.before.side-fits-arg2.given c.before.before.before.side-fits-arg3.given
-    c.before.before.before.before.before.before.side-fits.ensures c.before.before.before.before.side-fits2.ensures c.before.before.side-fits3.ensures
-    c.before.All-three.ensures in
-    first-fails (leb (nat_abs (get_or l 0 (pos 0)) * nat_abs (get_or l 1 (pos 0)) * nat_abs (get_or l 2 (pos 0))) 65536) (sym e ∙ c.if1.false)
+    c.before.before.before.before.before.before.before.side_fits-arg-1.given c.before.before.before.before.before.side_fits-arg-2-1.given c.before.before.before.side_fits-arg-3-1.given
+    c.before.before.before.before.before.before.side_fits.ensures c.before.before.before.before.side_fits-2.ensures c.before.before.side_fits-3.ensures
+    c.before.all_three.ensures in
+    first-fails (leb (nat_abs (get_or l 0 (pos 0)) * nat_abs (get_or l 1 (pos 0)) * nat_abs (get_or l 2 (pos 0))) 65536) (sym e ∙ c.if-all_three.false)
 
-pub diagonal-fits-spec : {M : Type 1} → statement M
-diagonal-fits-spec =
+pub diagonal_fits_spec : {M : Type 1} → statement M
+diagonal_fits_spec =
     tie.close
     (tie.spec
     array-copy-out-side-fits

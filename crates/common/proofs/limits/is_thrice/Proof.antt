@@ -17,11 +17,11 @@ thrice n k h =
 other : (n k : ℕ) → (n % 3 ≡ 0 → ⊥) → false ≡ eqb n (k * 3)
 other n k h = sym (ne_eqb n (k * 3) (λ e. h (omega arith)))
 
-returns : tie.Need-returns
-returns c = other c.before.args.n c.before.args.k c.if1.true
+returns : tie.Need-returns-then-n-ne0
+returns c = other c.before.args.n c.before.args.k c.if-n-ne0.true
 
-returns-2 : tie.Need-returns-2
-returns-2 c = thrice c.before.args.n c.before.args.k c.if1.false
+returns-2 : tie.Need-returns
+returns-2 c = thrice c.before.args.n c.before.args.k c.if-n-ne0.false
 
-pub is-thrice-spec : {M : Type 1} → statement M
-is-thrice-spec = tie.close (tie.spec returns returns-2)
+pub is_thrice_spec : {M : Type 1} → statement M
+is_thrice_spec = tie.close (tie.spec returns returns-2)

@@ -59,7 +59,7 @@ bz-grid-addresses-requires c κs = search rules
 tell-lengths-requires : tie.Need-tell-lengths-requires
 tell-lengths-requires c κs =
     let s = c.before.before.before.before.before.before.before.before.before.before.before.before.before.before.before in
-    ((image-lengths (length s.args.d.now) (length s.args.q.now) (length s.args.ps.now) (length s.args.lattice.now) (length s.args.told.now) (yes c.before.before.before.before.before.before.before.before.before.before.before.before.before.image-lengths.ensures c.before.before.before.before.before.before.before.before.before.before.before.before.if1.false)).4, lengths-fit _ _ _ _ _ _ _ _ s.well-formed.1.1.1.1.1.0.1 s.well-formed.1.1.1.1.1.1.0.1 s.well-formed.1.1.1.1.1.1.1.0.1 c.before.before.before.before.bz-grid-addresses.ensures.0)
+    ((image-lengths (length s.args.d.now) (length s.args.q.now) (length s.args.ps.now) (length s.args.lattice.now) (length s.args.told.now) (yes c.before.before.before.before.before.before.before.before.before.before.before.before.before.image-lengths.ensures c.before.before.before.before.before.before.before.before.before.before.before.before.if1.false)).4, lengths-fit _ _ _ _ _ _ _ _ s.well_formed.1.1.1.1.1.0.1 s.well_formed.1.1.1.1.1.1.0.1 s.well_formed.1.1.1.1.1.1.1.0.1 c.before.before.before.before.bz-grid-addresses.ensures.0)
 
 same-length-5 : tie.Need-same-length-5
 same-length-5 c = search rules

@@ -1,3 +1,4 @@
+use mir.Syntax.{w64}
 use mathlib.Core.Path.{sym, ◌∙◌, ap, ap₂, subst}
 use Prim.Native.Nat.{◌≤◌}
 use lib.IntN.{negsuc}
@@ -99,7 +100,7 @@ returns-2 c =
     let agreed = s.requires.1.agreed in
     let wx = class-map g ei s.requires.0 c.before.before.before.before.before.before.before.before.before.before.before.before.before.before.before.before.before.before.before.before.before.before.before.before.before.wipe-lists.new.0 n.1.0 in
     let kx = c.before.before.before.before.before.before.before.before.before.before.before.before.before.before.before.classes2.given ∙ c.before.before.before.before.before.before.before.before.before.before.before.before.before.before.before.before.before.before.before.before.before.before.before.before.classes.given in
-    let st = to_z-of_z (record { sfits = c.before.before.before.before.before.before.before.before.before.before.start_of_lem.type-inv }) ∙ c.before.before.before.before.before.before.before.before.before.before.start_of_lem.ensures ∙ ap₂ (λ t q. start_of t s.args.map.now q) (c.before.before.before.before.before.before.before.before.before.before.before.grid-type.ensures ∙ ap grid_type_of eu) ei in
+    let st = to_z-of_z {w = w64} (record { sfits = c.before.before.before.before.before.before.before.before.before.before.start_of_lem.type-inv }) ∙ c.before.before.before.before.before.before.before.before.before.before.start_of_lem.ensures ∙ ap₂ (λ t q. start_of t s.args.map.now q) (c.before.before.before.before.before.before.before.before.before.before.before.grid-type.ensures ∙ ap grid_type_of eu) ei in
     let ch = chosen-for g s.args.addresses.now s.args.map.now st (classes-front g ei s.requires.0 m fits w.0 wx kx) eu c.before.before.before.before.choose-triplets.ensures in (
       list-tested g s.args.addresses.now s.args.map.now ch (class-tests g ei s.requires.0 n.0) c.before.before.before.before.before.before.before.before.before.before.before.before.enum_told.given.1,
       λ _. lists-left g s.args.addresses.now s.args.map.now ch m fits

@@ -1,3 +1,4 @@
+use mir.Syntax.{w64}
 use mathlib.Core.Path.{◌≡◌, sym, ◌∙◌, ap}
 use lib.IntN.{pos, nat_abs}
 use lib.ListN.{get_or}
@@ -35,7 +36,7 @@ returns c =
 returns-2 : tie.Need-returns-2
 returns-2 c =
     let s = c.before.before.before in
-    to_z-of_z (record { sfits = c.number_at.type-inv }) ∙ c.number_at.ensures ∙ ap (λ z. get_or s.args.map.now (nat_abs z) (pos 0)) (to_z-of_z s.ranges.q0) ∙ by-type s c.before.enum-told2.given.1
+    to_z-of_z {w = w64} (record { sfits = c.number_at.type-inv }) ∙ c.number_at.ensures ∙ ap (λ z. get_or s.args.map.now (nat_abs z) (pos 0)) (to_z-of_z s.ranges.q0) ∙ by-type s c.before.enum-told2.given.1
 
 returns-3 : tie.Need-returns-3
 returns-3 c =

@@ -10,55 +10,55 @@ use borrow.Author.Rules.{rules}
 use Rattle.grgrid.proofs.all_grid_addresses.Statement.{statement}
 use Rattle.grgrid.proofs.all_grid_addresses.Tie as tie
 
-address-tests-requires : tie.Need-address-tests-requires
+address-tests-requires : tie.Need-address_tests-requires
 address-tests-requires c κs = search rules
 
-enum_told : tie.Need-enum-told
+enum_told : tie.Need-enum_told-1
 enum_told c = search rules
 
-grid-of-requires : tie.Need-grid-of-requires
+grid-of-requires : tie.Need-grid_of-requires
 grid-of-requires c κs =
-    let s = c.before.before.before in
-    (addresses-accepted s.args.d (length s.args.out.now) (sym c.before.before.address-tests.ensures ∙ c.enum_told.given.1)).grid
+    let s = c in
+    (addresses-accepted s.args.d (length s.args.out.now) (sym c.address_tests.ensures ∙ c.in-Accepted.is)).grid
 
-write-addresses-requires : tie.Need-write-addresses-requires
+write-addresses-requires : tie.Need-write_addresses-requires
 write-addresses-requires c κs =
-    let s = c.before.before.before.before.before in
-    let a = addresses-accepted s.args.d (length s.args.out.now) (sym c.before.before.before.before.address-tests.ensures ∙ c.before.before.enum_told.given.1) in
-    let e = c.before.grid-of.ensures in
+    let s = c in
+    let a = addresses-accepted s.args.d (length s.args.out.now) (sym c.address_tests.ensures ∙ c.in-Accepted.is) in
+    let e = c.grid_of.ensures in
     (rw e (grid-fits s.args.d a.grid), a.places ∙ ap (λ g. size g * 3) (sym e))
 
-enum-known-r : tie.Need-enum-known-r
+enum-known-r : tie.Need-enum_known-r
 enum-known-r c = search rules
 
 fill-requires : tie.Need-fill-requires
 fill-requires c κs = search rules
 
-same_length : tie.Need-same-length
+same_length : tie.Need-shape_of-out-in-Accepted
 same_length c = search rules
 
-returns : tie.Need-returns
+returns : tie.Need-returns-in-Accepted
 unfolding addresses_answer addresses_written
 returns c =
-    let s = c.before.before.before.before.before.before.before in
+    let s = c in
     let d = sides_of s.args.d in
-    let e = sym (sym c.before.before.before.before.before.before.address-tests.ensures ∙ c.before.before.before.before.enum_told.given.1) in
-    let w = c.before.write-addresses.ensures ∙ ap (λ g. addresses g (size g)) c.before.before.before.grid-of.ensures in
+    let e = sym (sym c.address_tests.ensures ∙ c.in-Accepted.is) in
+    let w = c.write_addresses.ensures ∙ ap (λ g. addresses g (size g)) c.grid_of.ensures in
     (ap all_grid_addresses e, w ∙ ap (λ t. output_of t (length s.args.out.now) (addresses d (size d))) e)
 
-same-length-2 : tie.Need-same-length-2
+same-length-2 : tie.Need-shape_of-out-in-Refused
 same-length-2 c = search rules
 
-returns-2 : tie.Need-returns-2
+returns-2 : tie.Need-returns-in-Refused
 unfolding addresses_answer addresses_written
 returns-2 c =
-    let s = c.before.before.before.before.before.before.before in
+    let s = c in
     let d = sides_of s.args.d in
-    let e = sym (sym c.before.before.before.before.before.before.address-tests.ensures ∙ c.before.before.before.before.r.given.1) in
-    (ap all_grid_addresses e, c.before.fill.ensures ∙ ap (λ t. output_of t (length s.args.out.now) (addresses d (size d))) e)
+    let e = sym (sym c.address_tests.ensures ∙ c.in-Refused.is) in
+    (ap all_grid_addresses e, c.fill.ensures ∙ ap (λ t. output_of t (length s.args.out.now) (addresses d (size d))) e)
 
-pub all-grid-addresses-spec : {M : Type 1} → statement M
-all-grid-addresses-spec =
+pub all_grid_addresses_spec : {M : Type 1} → statement M
+all_grid_addresses_spec =
     tie.close
     (tie.spec
     address-tests-requires

@@ -6,16 +6,16 @@ use borrow.Author.Rules.{rules}
 use Rattle.grgrid.proofs.double_grid_index.Statement.{statement}
 use Rattle.grgrid.proofs.double_grid_index.Tie as tie
 
-halve-address-requires : tie.Need-halve-address-requires
+halve-address-requires : tie.Need-halve_address-requires
 halve-address-requires c κs = search rules
 
-grid-index-from-address-requires : tie.Need-grid-index-from-address-requires
+grid-index-from-address-requires : tie.Need-grid_index_from_address-requires
 grid-index-from-address-requires c κs = search rules
 
 returns : tie.Need-returns
 returns c =
-    let s = c.before.before in
-    (c.grid-index-from-address.ensures.0 ∙ ap (λ l. index (sides s.args.g) (vector_of l)) c.before.halve-address.ensures, c.grid-index-from-address.ensures.1)
+    let s = c in
+    (c.grid_index_from_address.ensures.0 ∙ ap (λ l. index (sides s.args.g) (vector_of l)) c.halve_address.ensures, c.grid_index_from_address.ensures.1)
 
-pub double-grid-index-spec : {M : Type 1} → statement M
-double-grid-index-spec = tie.close (tie.spec halve-address-requires grid-index-from-address-requires returns)
+pub double_grid_index_spec : {M : Type 1} → statement M
+double_grid_index_spec = tie.close (tie.spec halve-address-requires grid-index-from-address-requires returns)

@@ -16,11 +16,11 @@ use borrow.Author.Rules.{rules}
 use Rattle.grgrid.proofs.first_lower.Statement.{statement}
 use Rattle.grgrid.proofs.first_lower.Tie as tie
 
-abbrev invariant-loop : tie.invariant-loop
+abbrev invariant-loop : tie.invariant-loop-n
 invariant-loop rotations p g ps address count n₀ n =
     (n ≤ count) × (lower_from (rotate (sides g) (vector_of ps)) rotations p n count ≡ first_lower (map (rotate (sides g) (vector_of ps)) (matrices rotations)) p)
 
-abbrev decreases-loop : tie.decreases-loop
+abbrev decreases-loop : tie.decreases-loop-n
 decreases-loop rotations p g ps address count n₀ n = count - n
 
 -- what the two calls of a turn return is matrix n's rotation of the point
@@ -33,53 +33,53 @@ carried d ps l p n e f g = e ∙ ap₂ (λ m a. index d (halve (matrix_of m ▹ 
 inside : (n m : ℕ) → n < m / 9 → n * 9 + 9 ≤ m
 inside n m h = omega (arith, div-mul-le_self m 9)
 
-doubled-point-requires : tie.Need-doubled-point-requires invariant-loop decreases-loop
+doubled-point-requires : tie.Need-doubled_point-address-requires invariant-loop decreases-loop
 doubled-point-requires c κs = search rules
 
-loop-holds : tie.Need-loop-init invariant-loop decreases-loop
+loop-holds : tie.Need-loop-n-init invariant-loop decreases-loop
 loop-holds c =
-    let s = c.before in
+    let s = c in
     (search rules, lower-start (rotate (sides s.args.g) (vector_of s.args.ps)) s.args.rotations.now s.args.p (length s.args.rotations.now / 9))
 
-matrix-at-requires : tie.Need-matrix-at-requires invariant-loop decreases-loop
-matrix-at-requires c κs = inside c.before.loop.n (length c.before.before.before.args.rotations.now) c.loop-test.true
+matrix-at-requires : tie.Need-matrix_at-requires invariant-loop decreases-loop
+matrix-at-requires c κs = inside c.loop-n.n (length c.args.rotations.now) c.loop-n-test.true
 
-rotated-index-requires : tie.Need-rotated-index-requires invariant-loop decreases-loop
+rotated-index-requires : tie.Need-rotated_index-q-requires invariant-loop decreases-loop
 rotated-index-requires c κs =
-    let s = c.before.before.before.before in
+    let s = c in
     let f = s.requires.1.1 in (
-      rw c.before.before.before.doubled-point.ensures (point-sized (sides s.args.g) f.1 f.0 s.args.p s.requires.0),
-      (rw c.matrix-at.ensures (rotation-sized 100000 s.args.rotations.now s.requires.1.0 c.before.before.loop.n), f),
+      rw c.doubled_point-address.ensures (point-sized (sides s.args.g) f.1 f.0 s.args.p s.requires.0),
+      (rw c.matrix_at.ensures (rotation-sized 100000 s.args.rotations.now s.requires.1.0 c.loop-n.n), f),
     )
 
-returns : tie.Need-returns invariant-loop decreases-loop
+returns : tie.Need-returns-then-q-p invariant-loop decreases-loop
 returns c =
-    let s = c.before.before.before.before.before.before in
-    let n = c.before.before.before.before.loop.n in
-    let e = carried (sides s.args.g) s.args.ps s.args.rotations.now s.args.p n c.before.rotated-index.ensures.0 c.before.before.matrix-at.ensures c.before.before.before.before.before.doubled-point.ensures in
-    let first = e ∙ sym (lower-here (rotate (sides s.args.g) (vector_of s.args.ps)) s.args.rotations.now s.args.p n (length s.args.rotations.now / 9) c.before.before.before.loop-test.true (rw e at c.if1.true)) ∙ c.before.before.before.before.loop.invariant.1 in
+    let s = c in
+    let n = c.loop-n.n in
+    let e = carried (sides s.args.g) s.args.ps s.args.rotations.now s.args.p n c.rotated_index-q.ensures.0 c.matrix_at.ensures c.doubled_point-address.ensures in
+    let first = e ∙ sym (lower-here (rotate (sides s.args.g) (vector_of s.args.ps)) s.args.rotations.now s.args.p n (length s.args.rotations.now / 9) c.loop-n-test.true (rw e at c.if-q-p.true)) ∙ c.loop-n.invariant.1 in
     search rules
 
-add-n : tie.Need-overflow-add-n invariant-loop decreases-loop
+add-n : tie.Need-overflow_add-n invariant-loop decreases-loop
 add-n c = search rules
 
-loop-less : tie.Need-loop-smaller invariant-loop decreases-loop
+loop-less : tie.Need-loop-n-smaller invariant-loop decreases-loop
 loop-less c = search rules
 
-loop-again : tie.Need-loop-preserved invariant-loop decreases-loop
+loop-again : tie.Need-loop-n-preserved invariant-loop decreases-loop
 loop-again c =
-    let s = c.before.before.before.before.before.before in
-    let n = c.before.before.before.before.loop.n in
-    let e = carried (sides s.args.g) s.args.ps s.args.rotations.now s.args.p n c.before.rotated-index.ensures.0 c.before.before.matrix-at.ensures c.before.before.before.before.before.doubled-point.ensures in
-    (search rules, sym (lower-on (rotate (sides s.args.g) (vector_of s.args.ps)) s.args.rotations.now s.args.p n (length s.args.rotations.now / 9) c.before.before.before.loop-test.true (rw e at c.if1.false)) ∙ c.before.before.before.before.loop.invariant.1)
+    let s = c in
+    let n = c.loop-n.n in
+    let e = carried (sides s.args.g) s.args.ps s.args.rotations.now s.args.p n c.rotated_index-q.ensures.0 c.matrix_at.ensures c.doubled_point-address.ensures in
+    (search rules, sym (lower-on (rotate (sides s.args.g) (vector_of s.args.ps)) s.args.rotations.now s.args.p n (length s.args.rotations.now / 9) c.loop-n-test.true (rw e at c.if-q-p.false)) ∙ c.loop-n.invariant.1)
 
-returns-2 : tie.Need-returns-2 invariant-loop decreases-loop
+returns-2 : tie.Need-returns invariant-loop decreases-loop
 returns-2 c =
-    let s = c.before.before.before in
-    sym (lower-end (rotate (sides s.args.g) (vector_of s.args.ps)) s.args.rotations.now s.args.p c.before.loop.n (length s.args.rotations.now / 9) c.loop-test.false) ∙ c.before.loop.invariant.1
+    let s = c in
+    sym (lower-end (rotate (sides s.args.g) (vector_of s.args.ps)) s.args.rotations.now s.args.p c.loop-n.n (length s.args.rotations.now / 9) c.loop-n-test.false) ∙ c.loop-n.invariant.1
 
-pub first-lower-spec : {M : Type 1} → statement M
-first-lower-spec =
+pub first_lower_spec : {M : Type 1} → statement M
+first_lower_spec =
     tie.close
     (tie.spec
     invariant-loop

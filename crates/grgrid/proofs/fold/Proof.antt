@@ -23,25 +23,25 @@ module _ (n : ℕ) (h : (0 < n) × (n ≤ 512)) where
         ap held (e ∙ ap₂ rem_euclid (to_z-of_z f) divisor)
         ∙ to_z-of_z (rem-sfits a (pos n) (record { sfits = omega arith }) h.0)
 
-cast-rem-euclid : tie.Need-overflow-cast-rem-euclid
+cast-rem-euclid : tie.Need-overflow_cast-n
 cast-rem-euclid c = record { sfits = omega arith }
 
-rem-euclid-requires : tie.Need-rem-euclid-requires
+rem-euclid-requires : tie.Need-rem_euclid-requires
 rem-euclid-requires c κs =
     rw (to_z-of_z c.ranges.a, divisor c.args.n c.requires)
     (record { nonzero = c.requires.0; fits = quot-sfits c.args.a (pos c.args.n) c.ranges.a (pos-ne-negsuc c.args.n 0) })
 
-cast-result : tie.Need-overflow-cast-result
+cast-result : tie.Need-overflow_cast-result
 cast-result c =
-    let s = c.before in
-    rw (is-rem s.args.n s.requires s.args.a s.ranges.a c.rem-euclid.ensures)
+    let s = c in
+    rw (is-rem s.args.n s.requires s.args.a s.ranges.a c.rem_euclid.ensures)
     ((rem-euclid-nonneg s.args.a (pos s.args.n)).sign, record { fits = omega (arith, rem-euclid-lt s.args.a (pos s.args.n) s.requires.0) })
 
 returns : tie.Need-returns
 returns c =
-    let s = c.before in
-    let e = ap nat_abs (is-rem s.args.n s.requires s.args.a s.ranges.a c.rem-euclid.ensures) in
+    let s = c in
+    let e = ap nat_abs (is-rem s.args.n s.requires s.args.a s.ranges.a c.rem_euclid.ensures) in
     (e, rw e (rem-euclid-lt s.args.a (pos s.args.n) s.requires.0))
 
-pub fold-spec : {M : Type 1} → statement M
-fold-spec = tie.close (tie.spec cast-rem-euclid rem-euclid-requires cast-result returns)
+pub fold_spec : {M : Type 1} → statement M
+fold_spec = tie.close (tie.spec cast-rem-euclid rem-euclid-requires cast-result returns)

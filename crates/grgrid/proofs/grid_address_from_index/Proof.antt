@@ -10,5 +10,5 @@ returns : tie.Need-returns
 unfolding address
 returns c = c.split.ensures
 
-pub grid-address-from-index-spec : {M : Type 1} → statement M
-grid-address-from-index-spec = tie.close (tie.spec split-requires returns)
+pub grid_address_from_index_spec : {M : Type 1} → statement M
+grid_address_from_index_spec = tie.close (tie.spec split-requires returns)

@@ -22,14 +22,14 @@ module _ (a s : ℤ) (h : (nat_abs a ≤ 6000000000000300000) × (nat_abs s ≤ 
   half-fits : SFits w64 (quot_z (held (held a -ℤ held s)) (pos 2))
   half-fits = quot-sfits (held (held a -ℤ held s)) (pos 2) (rw (to_z-of_z difference-fits) difference-fits) (pos-ne-negsuc 2 0)
 
-sub-result : tie.Need-overflow-sub-result
+sub-result : tie.Need-overflow_sub-result
 sub-result c = difference-fits c.args.a c.args.s c.requires
 
-div-result : tie.Need-nonzero-div-result
+div-result : tie.Need-nonzero_div-result
 div-result c = (lit< tt, half-fits c.args.a c.args.s c.requires)
 
 returns : tie.Need-returns
 returns c = to_z-of_z (half-fits c.args.a c.args.s c.requires) ∙ ap (λ z. quot_z z (pos 2)) (difference-is c.args.a c.args.s c.requires)
 
-pub halved-spec : {M : Type 1} → statement M
-halved-spec = tie.close (tie.spec sub-result div-result returns)
+pub halved_spec : {M : Type 1} → statement M
+halved_spec = tie.close (tie.spec sub-result div-result returns)

@@ -13,73 +13,73 @@ use Rattle.grgrid.proofs.Accepted.{grid-fits}
 use Rattle.grgrid.proofs.map_tests.Statement.{statement}
 use Rattle.grgrid.proofs.map_tests.Tie as tie
 
-whole-matrices-requires : tie.Need-whole-matrices-requires
+whole-matrices-requires : tie.Need-whole_matrices-requires
 whole-matrices-requires c κs = search rules
 
-returns : tie.Need-returns
+returns : tie.Need-returns-then-not-whole_matrices
 unfolding map_tests
-returns c = rw (no c.before.whole-matrices.ensures c.if1.true)
+returns c = rw (no c.whole_matrices.ensures c.if-not-whole_matrices.true-raw)
 
-diagonal-fits-requires : tie.Need-diagonal-fits-requires
+diagonal-fits-requires : tie.Need-diagonal_fits-requires
 diagonal-fits-requires c κs = search rules
 
-returns-2 : tie.Need-returns-2
+returns-2 : tie.Need-returns-then-not-diagonal_fits
 unfolding map_tests
 returns-2 c =
-    let e1 = yes c.before.before.before.whole-matrices.ensures c.before.before.if1.false in
-    rw (e1, no c.before.diagonal-fits.ensures c.if2.true)
+    let e1 = yes c.whole_matrices.ensures c.if-not-whole_matrices.false-raw in
+    rw (e1, no c.diagonal_fits.ensures c.if-not-diagonal_fits.true-raw)
 
-grid-of-requires : tie.Need-grid-of-requires
-grid-of-requires c κs = holds (yes c.before.diagonal-fits.ensures c.if2.false)
+grid-of-requires : tie.Need-grid_of-requires
+grid-of-requires c κs = holds (yes c.diagonal_fits.ensures c.if-not-diagonal_fits.false-raw)
 
 points-requires : tie.Need-points-requires
 points-requires c κs =
-    let d = c.before.before.before.before.before.args.d in
-    rw c.grid-of.ensures (grid-fits d (holds (yes c.before.before.diagonal-fits.ensures c.before.if2.false)))
+    let d = c.args.d in
+    rw c.grid_of.ensures (grid-fits d (holds (yes c.diagonal_fits.ensures c.if-not-diagonal_fits.false-raw)))
 
-returns-3 : tie.Need-returns-3
+returns-3 : tie.Need-returns-then-places-points
 unfolding map_tests
 returns-3 c =
-    let e1 = yes c.before.before.before.before.before.before.whole-matrices.ensures c.before.before.before.before.before.if1.false in
-    let e2 = yes c.before.before.before.before.diagonal-fits.ensures c.before.before.before.if2.false in
-    let n = c.before.before.before.before.before.before.before.args.places in
-    let d = c.before.before.before.before.before.before.before.args.d in
-    rw (e1, e2, ne_eqb n (size (sides_of d)) (λ e. c.if3.true (e ∙ sym (c.before.points.ensures ∙ ap size c.before.before.grid-of.ensures))))
+    let e1 = yes c.whole_matrices.ensures c.if-not-whole_matrices.false-raw in
+    let e2 = yes c.diagonal_fits.ensures c.if-not-diagonal_fits.false-raw in
+    let n = c.args.places in
+    let d = c.args.d in
+    rw (e1, e2, ne_eqb n (size (sides_of d)) (λ e. c.if-places-points.true (e ∙ sym (c.points.ensures ∙ ap size c.grid_of.ensures))))
 
-shift-fits-requires : tie.Need-shift-fits-requires
+shift-fits-requires : tie.Need-shift_fits-requires
 shift-fits-requires c κs = search rules
 
-returns-4 : tie.Need-returns-4
+returns-4 : tie.Need-returns-then-not-shift_fits
 unfolding map_tests
 returns-4 c =
-    let e1 = yes c.before.before.before.before.before.before.before.before.whole-matrices.ensures c.before.before.before.before.before.before.before.if1.false in
-    let e2 = yes c.before.before.before.before.before.before.diagonal-fits.ensures c.before.before.before.before.before.if2.false in
-    let e3 = eq-eqb c.before.before.before.before.before.before.before.before.before.args.places (size (sides_of c.before.before.before.before.before.before.before.before.before.args.d)) (c.before.before.if3.false ∙ c.before.before.before.points.ensures ∙ ap size c.before.before.before.before.grid-of.ensures) in
-    rw (e1, e2, e3, no c.before.shift-fits.ensures c.if4.true)
+    let e1 = yes c.whole_matrices.ensures c.if-not-whole_matrices.false-raw in
+    let e2 = yes c.diagonal_fits.ensures c.if-not-diagonal_fits.false-raw in
+    let e3 = eq-eqb c.args.places (size (sides_of c.args.d)) (c.if-places-points.false ∙ c.points.ensures ∙ ap size c.grid_of.ensures) in
+    rw (e1, e2, e3, no c.shift_fits.ensures c.if-not-shift_fits.true-raw)
 
-rotations-fit-requires : tie.Need-rotations-fit-requires
+rotations-fit-requires : tie.Need-rotations_fit-requires
 rotations-fit-requires c κs = search rules
 
-returns-5 : tie.Need-returns-5
+returns-5 : tie.Need-returns-then-not-rotations_fit
 unfolding map_tests
 returns-5 c =
-    let e1 = yes c.before.before.before.before.before.before.before.before.before.before.whole-matrices.ensures c.before.before.before.before.before.before.before.before.before.if1.false in
-    let e2 = yes c.before.before.before.before.before.before.before.before.diagonal-fits.ensures c.before.before.before.before.before.before.before.if2.false in
-    let e3 = eq-eqb c.before.before.before.before.before.before.before.before.before.before.before.args.places (size (sides_of c.before.before.before.before.before.before.before.before.before.before.before.args.d)) (c.before.before.before.before.if3.false ∙ c.before.before.before.before.before.points.ensures ∙ ap size c.before.before.before.before.before.before.grid-of.ensures) in
-    let e4 = yes c.before.before.before.shift-fits.ensures c.before.before.if4.false in
-    rw (e1, e2, e3, e4) (ap (λ t. require t OutsideLimits Accepted) (sym (no c.before.rotations-fit.ensures c.if5.true)))
+    let e1 = yes c.whole_matrices.ensures c.if-not-whole_matrices.false-raw in
+    let e2 = yes c.diagonal_fits.ensures c.if-not-diagonal_fits.false-raw in
+    let e3 = eq-eqb c.args.places (size (sides_of c.args.d)) (c.if-places-points.false ∙ c.points.ensures ∙ ap size c.grid_of.ensures) in
+    let e4 = yes c.shift_fits.ensures c.if-not-shift_fits.false-raw in
+    rw (e1, e2, e3, e4) (ap (λ t. require t OutsideLimits Accepted) (sym (no c.rotations_fit.ensures c.if-not-rotations_fit.true-raw)))
 
-returns-6 : tie.Need-returns-6
+returns-6 : tie.Need-returns
 unfolding map_tests
 returns-6 c =
-    let e1 = yes c.before.before.before.before.before.before.before.before.before.before.whole-matrices.ensures c.before.before.before.before.before.before.before.before.before.if1.false in
-    let e2 = yes c.before.before.before.before.before.before.before.before.diagonal-fits.ensures c.before.before.before.before.before.before.before.if2.false in
-    let e3 = eq-eqb c.before.before.before.before.before.before.before.before.before.before.before.args.places (size (sides_of c.before.before.before.before.before.before.before.before.before.before.before.args.d)) (c.before.before.before.before.if3.false ∙ c.before.before.before.before.before.points.ensures ∙ ap size c.before.before.before.before.before.before.grid-of.ensures) in
-    let e4 = yes c.before.before.before.shift-fits.ensures c.before.before.if4.false in
-    rw (e1, e2, e3, e4) (ap (λ t. require t OutsideLimits Accepted) (sym (yes c.before.rotations-fit.ensures c.if5.false)))
+    let e1 = yes c.whole_matrices.ensures c.if-not-whole_matrices.false-raw in
+    let e2 = yes c.diagonal_fits.ensures c.if-not-diagonal_fits.false-raw in
+    let e3 = eq-eqb c.args.places (size (sides_of c.args.d)) (c.if-places-points.false ∙ c.points.ensures ∙ ap size c.grid_of.ensures) in
+    let e4 = yes c.shift_fits.ensures c.if-not-shift_fits.false-raw in
+    rw (e1, e2, e3, e4) (ap (λ t. require t OutsideLimits Accepted) (sym (yes c.rotations_fit.ensures c.if-not-rotations_fit.false-raw)))
 
-pub map-tests-spec : {M : Type 1} → statement M
-map-tests-spec =
+pub map_tests_spec : {M : Type 1} → statement M
+map_tests_spec =
     tie.close
     (tie.spec
     whole-matrices-requires

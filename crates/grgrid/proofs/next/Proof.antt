@@ -12,25 +12,25 @@ use Rattle.grgrid.proofs.next.Tie as tie
 layer-end : (d r : Vec ℕ) → r.x + 1 ≡ d.x → r.y + 1 ≡ d.y → place d (record { x = 0; y = 0; z = r.z + 1 }) ≡ place d r + 1
 layer-end d r e f = omega (arith, ap (λ b. d.x * b) f)
 
-add-x : tie.Need-overflow-add-x
+add-x : tie.Need-overflow_add-x
 add-x c = search rules
 
-returns : tie.Need-returns
+returns : tie.Need-returns-then-x-g
 returns c = search rules
 
-add-y : tie.Need-overflow-add-y
+add-y : tie.Need-overflow_add-y
 add-y c = search rules
 
-returns-2 : tie.Need-returns-2
+returns-2 : tie.Need-returns-then-y-g
 returns-2 c = search rules
 
-add-t6 : tie.Need-overflow-add-t6
+add-t6 : tie.Need-overflow_add-result
 add-t6 c = search rules
 
-returns-3 : tie.Need-returns-3
+returns-3 : tie.Need-returns
 returns-3 c =
-    let s = c.before.before.before.before.before.before.before in
+    let s = c in
     (search rules, search rules, layer-end (sides s.args.g) (remainders s.args.r) (search rules) (search rules))
 
-pub next-spec : {M : Type 1} → statement M
-next-spec = tie.close (tie.spec add-x returns add-y returns-2 add-t6 returns-3)
+pub next_spec : {M : Type 1} → statement M
+next_spec = tie.close (tie.spec add-x returns add-y returns-2 add-t6 returns-3)

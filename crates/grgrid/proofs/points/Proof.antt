@@ -6,14 +6,14 @@ use borrow.Author.Rules.{rules}
 use Rattle.grgrid.proofs.points.Statement.{statement}
 use Rattle.grgrid.proofs.points.Tie as tie
 
-mul-result : tie.Need-overflow-mul-result
-mul-result c = let s = c.before in record { fits = omega (arith, mul-le-mul_left {m = 1} {n = s.args.g.z} (s.args.g.x * s.args.g.y) (s.requires.positive Z), s.requires.few) }
+mul-result : tie.Need-overflow_mul-result
+mul-result c = let s = c in record { fits = omega (arith, mul-le-mul_left {m = 1} {n = s.args.g.z} (s.args.g.x * s.args.g.y) (s.requires.positive Z), s.requires.few) }
 
-mul-result-2 : tie.Need-overflow-mul-result-2
+mul-result-2 : tie.Need-overflow_mul-result-2
 mul-result-2 c = search rules
 
 returns : tie.Need-returns
 returns c = search rules
 
-pub points-spec : {M : Type 1} → statement M
-points-spec = tie.close (tie.spec mul-result mul-result-2 returns)
+pub points_spec : {M : Type 1} → statement M
+points_spec = tie.close (tie.spec mul-result mul-result-2 returns)

@@ -11,50 +11,50 @@ use borrow.Author.Rules.{rules}
 use Rattle.integer_matrix.proofs.cross_fits.Statement.{statement}
 use Rattle.integer_matrix.proofs.cross_fits.Tie as tie
 
-main : (c : tie.After-mul-fits) → c.mul-fits.result ≡ fits64 (c.before.args.a *ℤ c.before.args.d)
-main c = let s = c.before in c.mul-fits.ensures ∙ ap₂ (λ u v. fits64 (u *ℤ v)) (to_z-of_z s.ranges.a) (to_z-of_z s.ranges.d)
+main : (c : tie.After-mul_fits) → c.mul_fits.result ≡ fits64 (c.before.args.a *ℤ c.before.args.d)
+main c = let s = c.before in c.mul_fits.ensures ∙ ap₂ (λ u v. fits64 (u *ℤ v)) (to_z-of_z s.ranges.a) (to_z-of_z s.ranges.d)
 
-other : (c : tie.After-mul-fits2) → c.mul-fits2.result ≡ fits64 (c.before.before.before.args.b *ℤ c.before.before.before.args.c)
-other c = let s = c.before.before.before in c.mul-fits2.ensures ∙ ap₂ (λ u v. fits64 (u *ℤ v)) (to_z-of_z s.ranges.b) (to_z-of_z s.ranges.c)
+other : (c : tie.After-mul_fits-2) → c.mul_fits-2.result ≡ fits64 (c.before.before.before.args.b *ℤ c.before.before.before.args.c)
+other c = let s = c.before.before.before in c.mul_fits-2.ensures ∙ ap₂ (λ u v. fits64 (u *ℤ v)) (to_z-of_z s.ranges.b) (to_z-of_z s.ranges.c)
 
-mul-fits-requires : tie.Need-mul-fits-requires
+mul-fits-requires : tie.Need-mul_fits-requires
 mul-fits-requires c κs = search rules
 
-returns : tie.Need-returns
-returns c = let s = c.before.before in ends (main c.before) (fits64 (s.args.b *ℤ s.args.c) && fits64 (cross integers s.args.a s.args.b s.args.c s.args.d)) c.if1.true
+returns : tie.Need-returns-then-not-mul_fits
+returns c = let s = c.before.before in ends (main c.before) (fits64 (s.args.b *ℤ s.args.c) && fits64 (cross integers s.args.a s.args.b s.args.c s.args.d)) c.if-not-mul_fits.true-raw
 
-mul-fits-requires-2 : tie.Need-mul-fits-requires-2
+mul-fits-requires-2 : tie.Need-mul_fits-requires-2
 mul-fits-requires-2 c κs = search rules
 
-returns-2 : tie.Need-returns-2
+returns-2 : tie.Need-returns-then-not-mul_fits-2
 returns-2 c =
     let s = c.before.before.before.before in
-    goes_on (main c.before.before.before) c.before.before.if1.false (ends (other c.before) (fits64 (cross integers s.args.a s.args.b s.args.c s.args.d)) c.if2.true)
+    goes_on (main c.before.before.before) c.before.before.if-not-mul_fits.false-raw (ends (other c.before) (fits64 (cross integers s.args.a s.args.b s.args.c s.args.d)) c.if-not-mul_fits-2.true-raw)
 
-mul-sub-fits : tie.Need-overflow-mul-sub-fits
+mul-sub-fits : tie.Need-overflow_mul-a
 mul-sub-fits c =
     let s = c.before.before.before.before in
-    fits-of (ap₂ ◌*ℤ◌ (to_z-of_z s.ranges.a) (to_z-of_z s.ranges.d)) (holds (yes (main c.before.before.before) c.before.before.if1.false))
+    fits-of (ap₂ ◌*ℤ◌ (to_z-of_z s.ranges.a) (to_z-of_z s.ranges.d)) (holds (yes (main c.before.before.before) c.before.before.if-not-mul_fits.false-raw))
 
-mul-sub-fits-2 : tie.Need-overflow-mul-sub-fits-2
+mul-sub-fits-2 : tie.Need-overflow_mul-b
 mul-sub-fits-2 c =
     let s = c.before.before.before.before in
-    fits-of (ap₂ ◌*ℤ◌ (to_z-of_z s.ranges.b) (to_z-of_z s.ranges.c)) (holds (yes (other c.before) c.if2.false))
+    fits-of (ap₂ ◌*ℤ◌ (to_z-of_z s.ranges.b) (to_z-of_z s.ranges.c)) (holds (yes (other c.before) c.if-not-mul_fits-2.false-raw))
 
-sub-fits-requires : tie.Need-sub-fits-requires
+sub-fits-requires : tie.Need-sub_fits-requires
 sub-fits-requires c κs = search rules
 
-returns-3 : tie.Need-returns-3
+returns-3 : tie.Need-returns
 returns-3 c =
     let o = c.before.before in
     let m = o.before.before in
     let s = m.before in
-    goes_on (main m) o.before.if1.false (goes_on (other o) c.before.if2.false (c.sub-fits.ensures ∙ ap₂ (λ u v. fits64 (u -ℤ v))
-    (held_of (ap₂ ◌*ℤ◌ (to_z-of_z s.ranges.a) (to_z-of_z s.ranges.d)) (holds (yes (main m) o.before.if1.false)))
-    (held_of (ap₂ ◌*ℤ◌ (to_z-of_z s.ranges.b) (to_z-of_z s.ranges.c)) (holds (yes (other o) c.before.if2.false)))))
+    goes_on (main m) o.before.if-not-mul_fits.false-raw (goes_on (other o) c.before.if-not-mul_fits-2.false-raw (c.sub_fits.ensures ∙ ap₂ (λ u v. fits64 (u -ℤ v))
+    (held_of (ap₂ ◌*ℤ◌ (to_z-of_z s.ranges.a) (to_z-of_z s.ranges.d)) (holds (yes (main m) o.before.if-not-mul_fits.false-raw)))
+    (held_of (ap₂ ◌*ℤ◌ (to_z-of_z s.ranges.b) (to_z-of_z s.ranges.c)) (holds (yes (other o) c.before.if-not-mul_fits-2.false-raw)))))
 
-pub cross-fits-spec : {M : Type 1} → statement M
-cross-fits-spec =
+pub cross_fits_spec : {M : Type 1} → statement M
+cross_fits_spec =
     tie.close
     (tie.spec
     mul-fits-requires

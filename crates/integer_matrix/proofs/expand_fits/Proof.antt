@@ -13,60 +13,60 @@ use borrow.Author.Rules.{rules}
 use Rattle.integer_matrix.proofs.expand_fits.Statement.{statement}
 use Rattle.integer_matrix.proofs.expand_fits.Tie as tie
 
-first : (c : tie.After-difference-fits-arg2) → let s = c.before.before.before.before in held (along s.args.t1 X) *ℤ held (along s.args.t2 X) ≡ along s.args.t1 X *ℤ along s.args.t2 X
-first c = let s = c.before.before.before.before in ap₂ ◌*ℤ◌ (held-is (along s.args.t1 X) c.before.difference-fits-arg.given) (held-is (along s.args.t2 X) c.difference-fits-arg2.given)
+first : (c : tie.After-difference_fits-arg-2-1) → let s = c.before.before.before.before in held (along s.args.a X) *ℤ held (along s.args.b X) ≡ along s.args.a X *ℤ along s.args.b X
+first c = let s = c.before.before.before.before in ap₂ ◌*ℤ◌ (held-is (along s.args.a X) c.before.difference_fits-arg-1.given) (held-is (along s.args.b X) c.difference_fits-arg-2-1.given)
 
-second : (c : tie.After-difference-fits-arg4) → let s = c.before.before.before.before.before.before in held (along s.args.t1 Y) *ℤ held (along s.args.t2 Y) ≡ along s.args.t1 Y *ℤ along s.args.t2 Y
-second c = let s = c.before.before.before.before.before.before in ap₂ ◌*ℤ◌ (held-is (along s.args.t1 Y) c.before.difference-fits-arg3.given) (held-is (along s.args.t2 Y) c.difference-fits-arg4.given)
+second : (c : tie.After-difference_fits-arg-4-1) → let s = c.before.before.before.before.before.before in held (along s.args.a Y) *ℤ held (along s.args.b Y) ≡ along s.args.a Y *ℤ along s.args.b Y
+second c = let s = c.before.before.before.before.before.before in ap₂ ◌*ℤ◌ (held-is (along s.args.a Y) c.before.difference_fits-arg-3-1.given) (held-is (along s.args.b Y) c.difference_fits-arg-4-1.given)
 
-third : (c : tie.After-difference-fits-arg6) → let s = c.before.before.before.before.before.before.before.before in held (along s.args.t1 Z) *ℤ held (along s.args.t2 Z) ≡ along s.args.t1 Z *ℤ along s.args.t2 Z
-third c = let s = c.before.before.before.before.before.before.before.before in ap₂ ◌*ℤ◌ (held-is (along s.args.t1 Z) c.before.difference-fits-arg5.given) (held-is (along s.args.t2 Z) c.difference-fits-arg6.given)
+third : (c : tie.After-difference_fits-arg-6-1) → let s = c.before.before.before.before.before.before.before.before in held (along s.args.a Z) *ℤ held (along s.args.b Z) ≡ along s.args.a Z *ℤ along s.args.b Z
+third c = let s = c.before.before.before.before.before.before.before.before in ap₂ ◌*ℤ◌ (held-is (along s.args.a Z) c.before.difference_fits-arg-5-1.given) (held-is (along s.args.b Z) c.difference_fits-arg-6-1.given)
 
 -- each product fits
-fits : (c : tie.Else1) → let s = c.before.before in (k : Axis) → T (fits64 (along s.args.t1 k *ℤ along s.args.t2 k))
-fits c = let s = c.before.before in axes-of (λ k. fits64 (along s.args.t1 k *ℤ along s.args.t2 k)) (holds (yes c.before.products-fit.ensures c.if1.false))
+fits : (c : tie.Else-not-products_fit) → let s = c.before.before in (k : Axis) → T (fits64 (along s.args.a k *ℤ along s.args.b k))
+fits c = let s = c.before.before in axes-of (λ k. fits64 (along s.args.a k *ℤ along s.args.b k)) (holds (yes c.before.products_fit.ensures c.if-not-products_fit.false-raw))
 
-products-fit-requires : tie.Need-products-fit-requires
+products-fit-requires : tie.Need-products_fit-requires
 products-fit-requires c κs = search rules
 
-returns : tie.Need-returns
+returns : tie.Need-returns-then-not-products_fit
 returns c =
     let s = c.before.before in
-    let u = along s.args.t1 in
-    let v = along s.args.t2 in
-    ends c.before.products-fit.ensures (fits64 (u X *ℤ v X -ℤ u Y *ℤ v Y) && fits64 (expand integers u v)) c.if1.true
+    let u = along s.args.a in
+    let v = along s.args.b in
+    ends c.before.products_fit.ensures (fits64 (u X *ℤ v X -ℤ u Y *ℤ v Y) && fits64 (expand integers u v)) c.if-not-products_fit.true-raw
 
-array-copy-out-difference-fits : tie.Need-array-copy-out-difference-fits
+array-copy-out-difference-fits : tie.Need-bounds-a-0
 array-copy-out-difference-fits c = search rules
 
-array-copy-out-difference-fits-2 : tie.Need-array-copy-out-difference-fits-2
+array-copy-out-difference-fits-2 : tie.Need-bounds-b-0
 array-copy-out-difference-fits-2 c = search rules
 
-mul-difference-fits : tie.Need-overflow-mul-difference-fits
+mul-difference-fits : tie.Need-overflow_mul-a
 mul-difference-fits c = fits-of (first c) (fits c.before.before X)
 
-array-copy-out-difference-fits-3 : tie.Need-array-copy-out-difference-fits-3
+array-copy-out-difference-fits-3 : tie.Need-bounds-a-1
 array-copy-out-difference-fits-3 c = search rules
 
-array-copy-out-difference-fits-4 : tie.Need-array-copy-out-difference-fits-4
+array-copy-out-difference-fits-4 : tie.Need-bounds-b-1
 array-copy-out-difference-fits-4 c = search rules
 
-mul-difference-fits-2 : tie.Need-overflow-mul-difference-fits-2
+mul-difference-fits-2 : tie.Need-overflow_mul-a-2
 mul-difference-fits-2 c = fits-of (second c) (fits c.before.before.before.before Y)
 
-array-copy-out-difference-fits-5 : tie.Need-array-copy-out-difference-fits-5
+array-copy-out-difference-fits-5 : tie.Need-bounds-a-2
 array-copy-out-difference-fits-5 c = search rules
 
-array-copy-out-difference-fits-6 : tie.Need-array-copy-out-difference-fits-6
+array-copy-out-difference-fits-6 : tie.Need-bounds-b-2
 array-copy-out-difference-fits-6 c = search rules
 
-mul-difference-fits-3 : tie.Need-overflow-mul-difference-fits-3
+mul-difference-fits-3 : tie.Need-overflow_mul-a-3
 mul-difference-fits-3 c = fits-of (third c) (fits c.before.before.before.before.before.before Z)
 
-difference-fits-requires : tie.Need-difference-fits-requires
+difference-fits-requires : tie.Need-difference_fits-requires
 difference-fits-requires c κs = search rules
 
-returns-2 : tie.Need-returns-2
+returns-2 : tie.Need-returns
 returns-2 c =
     let z = c.before in
     let y = z.before.before in
@@ -75,10 +75,10 @@ returns-2 c =
     let e0 = held_of (first x) (fits t X) in
     let e1 = held_of (second y) (fits t Y) in
     let e2 = held_of (third z) (fits t Z) in
-    goes_on t.before.products-fit.ensures t.if1.false (c.difference-fits.ensures ∙ (λ i. fits64 (e0 i -ℤ e1 i) && fits64 (e0 i -ℤ e1 i +ℤ e2 i)))
+    goes_on t.before.products_fit.ensures t.if-not-products_fit.false-raw (c.difference_fits.ensures ∙ (λ i. fits64 (e0 i -ℤ e1 i) && fits64 (e0 i -ℤ e1 i +ℤ e2 i)))
 
-pub expand-fits-spec : {M : Type 1} → statement M
-expand-fits-spec =
+pub expand_fits_spec : {M : Type 1} → statement M
+expand_fits_spec =
     tie.close
     (tie.spec
     products-fit-requires

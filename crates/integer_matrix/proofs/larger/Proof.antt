@@ -4,11 +4,11 @@ use Rattle.integer.specs.Checked.{pick}
 use Rattle.integer_matrix.proofs.larger.Statement.{statement}
 use Rattle.integer_matrix.proofs.larger.Tie as tie
 
-returns : tie.Need-returns
-returns c = let s = c.before in sym (ap (λ t. pick t s.args.b s.args.a) (lt-ltb s.args.a s.args.b c.if1.true))
+returns : tie.Need-returns-then-a-b
+returns c = let s = c.before in sym (ap (λ t. pick t s.args.b s.args.a) (lt-ltb s.args.a s.args.b c.if-a-b.true))
 
-returns-2 : tie.Need-returns-2
-returns-2 c = let s = c.before in sym (ap (λ t. pick t s.args.b s.args.a) (le-ltb s.args.a s.args.b c.if1.false))
+returns-2 : tie.Need-returns-else-a-b
+returns-2 c = let s = c.before in sym (ap (λ t. pick t s.args.b s.args.a) (le-ltb s.args.a s.args.b c.if-a-b.false))
 
-pub larger-spec : {M : Type 1} → statement M
-larger-spec = tie.close (tie.spec returns returns-2)
+pub larger_spec : {M : Type 1} → statement M
+larger_spec = tie.close (tie.spec returns returns-2)

@@ -23,10 +23,10 @@ largest-requires-3 c κs = search rules
 larger-requires : tie.Need-larger-requires
 larger-requires c κs = search rules
 
-small-product-requires : tie.Need-small-product-requires
+small-product-requires : tie.Need-small_product-requires
 small-product-requires c κs = search rules
 
-returns : tie.Need-returns
+returns : tie.Need-returns-then-small_product
 returns c =
     let p = c.before in
     let m = p.before in
@@ -34,26 +34,26 @@ returns c =
     let l = matrix_of s.args.l in
     let a = matrix_of s.args.a in
     let b = matrix_of s.args.b in
-    let sizes = m.larger.ensures ∙ (λ i. larger (m.before.before.largest2.ensures i) (m.before.largest3.ensures i)) in
+    let sizes = m.larger.ensures ∙ (λ i. larger (m.before.before.largest-2.ensures i) (m.before.largest-3.ensures i)) in
     let e = p.small_product.ensures ∙ (λ i. leb (m.before.before.before.largest.ensures i * sizes i) 3074457345618258602) in
-    sym (is_true (product_fits l a && product_fits l b) (sized-products l a b (leb→le (largest l * larger (largest a) (largest b)) 3074457345618258602 (holds (sym e ∙ c.if1.true)))))
+    sym (is_true (product_fits l a && product_fits l b) (sized-products l a b (leb→le (largest l * larger (largest a) (largest b)) 3074457345618258602 (holds (sym e ∙ c.if-small_product.true)))))
 
-rows-fit-requires : tie.Need-rows-fit-requires
+rows-fit-requires : tie.Need-rows_fit-requires
 rows-fit-requires c κs = search rules
 
-returns-2 : tie.Need-returns-2
+returns-2 : tie.Need-returns-then-not-rows_fit
 returns-2 c =
     let s = c.before.before.before.before.before.before.before.before in
-    ends c.before.rows_fit.ensures (product_fits (matrix_of s.args.l) (matrix_of s.args.b)) c.if2.true
+    ends c.before.rows_fit.ensures (product_fits (matrix_of s.args.l) (matrix_of s.args.b)) c.if-not-rows_fit.true-raw
 
-rows-fit-requires-2 : tie.Need-rows-fit-requires-2
+rows-fit-requires-2 : tie.Need-rows_fit-requires-2
 rows-fit-requires-2 c κs = search rules
 
-returns-3 : tie.Need-returns-3
-returns-3 c = goes_on c.before.before.rows_fit.ensures c.before.if2.false c.rows-fit2.ensures
+returns-3 : tie.Need-returns
+returns-3 c = goes_on c.before.before.rows_fit.ensures c.before.if-not-rows_fit.false-raw c.rows_fit-2.ensures
 
-pub matmul-fits-spec : {M : Type 1} → statement M
-matmul-fits-spec =
+pub matmul_fits_spec : {M : Type 1} → statement M
+matmul_fits_spec =
     tie.close
     (tie.spec
     largest-requires

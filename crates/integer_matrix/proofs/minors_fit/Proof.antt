@@ -8,52 +8,52 @@ use borrow.Author.Rules.{rules}
 use Rattle.integer_matrix.proofs.minors_fit.Statement.{statement}
 use Rattle.integer_matrix.proofs.minors_fit.Tie as tie
 
-array-copy-out-cross-fits : tie.Need-array-copy-out-cross-fits
+array-copy-out-cross-fits : tie.Need-bounds-y-1
 array-copy-out-cross-fits c = search rules
 
-array-copy-out-cross-fits-2 : tie.Need-array-copy-out-cross-fits-2
+array-copy-out-cross-fits-2 : tie.Need-bounds-y-2
 array-copy-out-cross-fits-2 c = search rules
 
-array-copy-out-cross-fits-3 : tie.Need-array-copy-out-cross-fits-3
+array-copy-out-cross-fits-3 : tie.Need-bounds-z-1
 array-copy-out-cross-fits-3 c = search rules
 
-array-copy-out-cross-fits-4 : tie.Need-array-copy-out-cross-fits-4
+array-copy-out-cross-fits-4 : tie.Need-bounds-z-2
 array-copy-out-cross-fits-4 c = search rules
 
-cross-fits-requires : tie.Need-cross-fits-requires
+cross-fits-requires : tie.Need-cross_fits-requires
 cross-fits-requires c κs = search rules
 
-array-copy-out-cross-fits-5 : tie.Need-array-copy-out-cross-fits-5
+array-copy-out-cross-fits-5 : tie.Need-bounds-y-0
 array-copy-out-cross-fits-5 c = search rules
 
-array-copy-out-cross-fits-6 : tie.Need-array-copy-out-cross-fits-6
+array-copy-out-cross-fits-6 : tie.Need-bounds-y-2-2
 array-copy-out-cross-fits-6 c = search rules
 
-array-copy-out-cross-fits-7 : tie.Need-array-copy-out-cross-fits-7
+array-copy-out-cross-fits-7 : tie.Need-bounds-z-0
 array-copy-out-cross-fits-7 c = search rules
 
-array-copy-out-cross-fits-8 : tie.Need-array-copy-out-cross-fits-8
+array-copy-out-cross-fits-8 : tie.Need-bounds-z-2-2
 array-copy-out-cross-fits-8 c = search rules
 
-cross-fits-requires-2 : tie.Need-cross-fits-requires-2
+cross-fits-requires-2 : tie.Need-cross_fits-requires-2
 cross-fits-requires-2 c κs = search rules
 
-array-copy-out-cross-fits-9 : tie.Need-array-copy-out-cross-fits-9
+array-copy-out-cross-fits-9 : tie.Need-bounds-y-0-2
 array-copy-out-cross-fits-9 c = search rules
 
-array-copy-out-cross-fits-10 : tie.Need-array-copy-out-cross-fits-10
+array-copy-out-cross-fits-10 : tie.Need-bounds-y-1-2
 array-copy-out-cross-fits-10 c = search rules
 
-array-copy-out-cross-fits-11 : tie.Need-array-copy-out-cross-fits-11
+array-copy-out-cross-fits-11 : tie.Need-bounds-z-0-2
 array-copy-out-cross-fits-11 c = search rules
 
-array-copy-out-cross-fits-12 : tie.Need-array-copy-out-cross-fits-12
+array-copy-out-cross-fits-12 : tie.Need-bounds-z-1-2
 array-copy-out-cross-fits-12 c = search rules
 
-cross-fits-requires-3 : tie.Need-cross-fits-requires-3
+cross-fits-requires-3 : tie.Need-cross_fits-requires-3
 cross-fits-requires-3 c κs = search rules
 
-all-three-requires : tie.Need-all-three-requires
+all-three-requires : tie.Need-all_three-requires
 all-three-requires c κs = search rules
 
 returns : tie.Need-returns
@@ -62,13 +62,13 @@ returns c =
     let y = z.before.before.before.before.before in
     let x = y.before.before.before.before.before in
     let s = x.before.before.before.before.before in
-    let e0 = x.cross-fits.ensures ∙ (λ i. cross_fits ((held-is (along s.args.t1 Y) x.before.before.before.before.cross-fits-arg.given) i) ((held-is (along s.args.t1 Z) x.before.before.before.cross-fits-arg2.given) i) ((held-is (along s.args.t2 Y) x.before.before.cross-fits-arg3.given) i) ((held-is (along s.args.t2 Z) x.before.cross-fits-arg4.given) i)) in
-    let e1 = y.cross-fits2.ensures ∙ (λ i. cross_fits ((held-is (along s.args.t1 X) y.before.before.before.before.cross-fits-arg5.given) i) ((held-is (along s.args.t1 Z) y.before.before.before.cross-fits-arg6.given) i) ((held-is (along s.args.t2 X) y.before.before.cross-fits-arg7.given) i) ((held-is (along s.args.t2 Z) y.before.cross-fits-arg8.given) i)) in
-    let e2 = z.cross-fits3.ensures ∙ (λ i. cross_fits ((held-is (along s.args.t1 X) z.before.before.before.before.cross-fits-arg9.given) i) ((held-is (along s.args.t1 Y) z.before.before.before.cross-fits-arg10.given) i) ((held-is (along s.args.t2 X) z.before.before.cross-fits-arg11.given) i) ((held-is (along s.args.t2 Y) z.before.cross-fits-arg12.given) i)) in
-    c.All-three.ensures ∙ (λ i. e0 i && (e1 i && e2 i))
+    let e0 = x.cross_fits.ensures ∙ (λ i. cross_fits ((held-is (along s.args.y Y) x.before.before.before.before.cross_fits-arg-1.given) i) ((held-is (along s.args.y Z) x.before.before.before.cross_fits-arg-2-1.given) i) ((held-is (along s.args.z Y) x.before.before.cross_fits-arg-3-1.given) i) ((held-is (along s.args.z Z) x.before.cross_fits-arg-4-1.given) i)) in
+    let e1 = y.cross_fits-2.ensures ∙ (λ i. cross_fits ((held-is (along s.args.y X) y.before.before.before.before.cross_fits-arg-5-1.given) i) ((held-is (along s.args.y Z) y.before.before.before.cross_fits-arg-6-1.given) i) ((held-is (along s.args.z X) y.before.before.cross_fits-arg-7-1.given) i) ((held-is (along s.args.z Z) y.before.cross_fits-arg-8-1.given) i)) in
+    let e2 = z.cross_fits-3.ensures ∙ (λ i. cross_fits ((held-is (along s.args.y X) z.before.before.before.before.cross_fits-arg-9-1.given) i) ((held-is (along s.args.y Y) z.before.before.before.cross_fits-arg-10-1.given) i) ((held-is (along s.args.z X) z.before.before.cross_fits-arg-11-1.given) i) ((held-is (along s.args.z Y) z.before.cross_fits-arg-12-1.given) i)) in
+    c.all_three.ensures ∙ (λ i. e0 i && (e1 i && e2 i))
 
-pub minors-fit-spec : {M : Type 1} → statement M
-minors-fit-spec =
+pub minors_fit_spec : {M : Type 1} → statement M
+minors_fit_spec =
     tie.close
     (tie.spec
     array-copy-out-cross-fits

@@ -4,22 +4,22 @@ use borrow.Author.Rules.{rules}
 use Rattle.integer_matrix.proofs.row_fits.Statement.{statement}
 use Rattle.integer_matrix.proofs.row_fits.Tie as tie
 
-dot-fits-requires : tie.Need-dot-fits-requires
+dot-fits-requires : tie.Need-dot_fits-requires
 dot-fits-requires c κs = search rules
 
-dot-fits-requires-2 : tie.Need-dot-fits-requires-2
+dot-fits-requires-2 : tie.Need-dot_fits-requires-2
 dot-fits-requires-2 c κs = search rules
 
-dot-fits-requires-3 : tie.Need-dot-fits-requires-3
+dot-fits-requires-3 : tie.Need-dot_fits-requires-3
 dot-fits-requires-3 c κs = search rules
 
-all-three-requires : tie.Need-all-three-requires
+all-three-requires : tie.Need-all_three-requires
 all-three-requires c κs = search rules
 
 returns : tie.Need-returns
-returns c = c.All-three.ensures ∙ (λ i. c.before.before.before.dot-fits.ensures i && (c.before.before.dot-fits2.ensures i && c.before.dot-fits3.ensures i))
+returns c = c.all_three.ensures ∙ (λ i. c.before.before.before.dot_fits.ensures i && (c.before.before.dot_fits-2.ensures i && c.before.dot_fits-3.ensures i))
 
-pub row-fits-spec : {M : Type 1} → statement M
-row-fits-spec =
+pub row_fits_spec : {M : Type 1} → statement M
+row_fits_spec =
     tie.close
     (tie.spec dot-fits-requires dot-fits-requires-2 dot-fits-requires-3 all-three-requires returns)

@@ -9,16 +9,16 @@ use borrow.Author.Rules.{rules}
 use Rattle.vectors.proofs.compared.Compared.float.Statement.{statement}
 use Rattle.vectors.proofs.compared.Compared.float.Tie as tie
 
-bits-of-requires : tie.Need-bits-of-requires
+bits-of-requires : tie.Need-bits_of-bits-requires
 bits-of-requires c κs = search rules
 
-cast-t7 : tie.Need-overflow-cast-t7
+cast-t7 : tie.Need-overflow_cast-words
 cast-t7 c = search rules
 
-cast-t9 : tie.Need-overflow-cast-t9
+cast-t9 : tie.Need-overflow_cast-words-2
 cast-t9 c = search rules
 
-slice-aggregate-numbers : tie.Need-slice-aggregate-numbers
+slice-aggregate-numbers : tie.Need-slice_bounds-numbers-end
 slice-aggregate-numbers c = search rules
 
 numbers-requires : tie.Need-numbers-requires
@@ -26,13 +26,13 @@ numbers-requires c κs = search rules
 
 returns : tie.Need-returns
 returns c =
-    let s = c.before.before.before in
-    let b = c.before.before.bits_of in
+    let s = c in
+    let b = c.bits_of-bits in
     c.numbers.ensures ∙ ap₂ (λ y z. matched s.args.self (y ∷ z ∷ []) s.args.n.now)
     (to_z_pos w64 {n = b.result / 0x100000000} (search rules) ∙ ap (λ n. pos (n / 0x100000000)) b.ensures)
     (to_z_pos w64 {n = b.result % 0x100000000} (search rules) ∙ ap (λ n. pos (n % 0x100000000)) b.ensures)
 
-pub float-spec : {M : Type 1} → statement M
-float-spec =
+pub float_spec : {M : Type 1} → statement M
+float_spec =
     tie.close
     (tie.spec bits-of-requires cast-t7 cast-t9 slice-aggregate-numbers numbers-requires returns)

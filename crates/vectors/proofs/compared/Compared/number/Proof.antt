@@ -7,7 +7,7 @@ use borrow.Author.Rules.{rules}
 use Rattle.vectors.proofs.compared.Compared.number.Statement.{statement}
 use Rattle.vectors.proofs.compared.Compared.number.Tie as tie
 
-slice-aggregate-numbers : tie.Need-slice-aggregate-numbers
+slice-aggregate-numbers : tie.Need-slice_bounds-numbers-end
 slice-aggregate-numbers c = search rules
 
 numbers-requires : tie.Need-numbers-requires
@@ -15,8 +15,8 @@ numbers-requires c κs = search rules
 
 returns : tie.Need-returns
 returns c =
-    let s = c.before.before in
+    let s = c in
     c.numbers.ensures ∙ ap (λ z. matched s.args.self (z ∷ []) s.args.n.now) (to_z-of_z s.ranges.z)
 
-pub number-spec : {M : Type 1} → statement M
-number-spec = tie.close (tie.spec slice-aggregate-numbers numbers-requires returns)
+pub number_spec : {M : Type 1} → statement M
+number_spec = tie.close (tie.spec slice-aggregate-numbers numbers-requires returns)

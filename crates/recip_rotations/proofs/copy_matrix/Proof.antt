@@ -9,61 +9,61 @@ use Rattle.recip_rotations.proofs.Pasted.{paste_more}
 use Rattle.recip_rotations.proofs.copy_matrix.Statement.{statement}
 use Rattle.recip_rotations.proofs.copy_matrix.Tie as tie
 
-abbrev invariant-loop : tie.invariant-loop
+abbrev invariant-loop : tie.invariant-loop-k
 invariant-loop from at out₀ to k₀ out k = (k ≤ 9) × (length out ≡ length out₀) × (out ≡ paste out₀ to (drop at from) k)
 
-abbrev decreases-loop : tie.decreases-loop
+abbrev decreases-loop : tie.decreases-loop-k
 decreases-loop from at out₀ to k₀ out k = 9 - k
 
-loop-holds : tie.Need-loop-init invariant-loop decreases-loop
+loop-holds : tie.Need-loop-k-init invariant-loop decreases-loop
 loop-holds c = (search rules, refl, paste-zero c.args.out.now c.args.to (drop c.args.at c.args.from.now))
 
-add-out : tie.Need-overflow-add-out invariant-loop decreases-loop
+add-out : tie.Need-overflow_add-out invariant-loop decreases-loop
 add-out c = search rules
 
-mul-out : tie.Need-overflow-mul-out invariant-loop decreases-loop
+mul-out : tie.Need-offset_bounds-from-at invariant-loop decreases-loop
 mul-out c = search rules
 
-shared-slice-copy-out-out : tie.Need-shared-slice-copy-out-out invariant-loop decreases-loop
+shared-slice-copy-out-out : tie.Need-bounds-from-at invariant-loop decreases-loop
 shared-slice-copy-out-out c = search rules
 
-add-t11 : tie.Need-overflow-add-t11 invariant-loop decreases-loop
+add-t11 : tie.Need-overflow_add-to invariant-loop decreases-loop
 add-t11 c = search rules
 
-mul-t12 : tie.Need-overflow-mul-t12 invariant-loop decreases-loop
+mul-t12 : tie.Need-offset_bounds-out-to invariant-loop decreases-loop
 mul-t12 c = search rules
 
-slice-set-from-out : tie.Need-slice-set-from-out invariant-loop decreases-loop
+slice-set-from-out : tie.Need-bounds-out-to invariant-loop decreases-loop
 slice-set-from-out c = search rules
 
-add-k : tie.Need-overflow-add-k invariant-loop decreases-loop
+add-k : tie.Need-overflow_add-k invariant-loop decreases-loop
 add-k c = search rules
 
-loop-less : tie.Need-loop-smaller invariant-loop decreases-loop
+loop-less : tie.Need-loop-k-smaller invariant-loop decreases-loop
 loop-less c = search rules
 
-loop-again : tie.Need-loop-preserved invariant-loop decreases-loop
+loop-again : tie.Need-loop-k-preserved invariant-loop decreases-loop
 loop-again c =
-    let s = c.before.before.before in
-    let l = c.before.before.loop in (
+    let s = c in
+    let l = c.loop-k in (
       search rules,
       search rules,
       paste_more s.args.out.now s.args.to (drop s.args.at s.args.from.now) l.k (pos 0) l.invariant.2
-          (held-is _ c.out.given ∙ sym (get_or-drop s.args.at s.args.from.now l.k (pos 0))) (search rules) (simp length-drop (search rules)),
+          (held-is _ c.out-1.given ∙ sym (get_or-drop s.args.at s.args.from.now l.k (pos 0))) (search rules) (simp length-drop (search rules)),
     )
 
-same_length : tie.Need-same-length invariant-loop decreases-loop
+same_length : tie.Need-shape_of-out invariant-loop decreases-loop
 same_length c = search rules
 
 returns : tie.Need-returns invariant-loop decreases-loop
 returns c =
-    let s = c.before.before in
-    let l = c.before.loop in
+    let s = c in
+    let l = c.loop-k in
     let e : l.k ≡ 9 = search rules in
     l.invariant.2 ∙ ap (paste s.args.out.now s.args.to (drop s.args.at s.args.from.now)) e
 
-pub copy-matrix-spec : {M : Type 1} → statement M
-copy-matrix-spec =
+pub copy_matrix_spec : {M : Type 1} → statement M
+copy_matrix_spec =
     tie.close
     (tie.spec
     invariant-loop

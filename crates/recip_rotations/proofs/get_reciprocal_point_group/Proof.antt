@@ -5,42 +5,40 @@ use Rattle.recip_rotations.proofs.Answered.{answered, group-written, blank-writt
 use Rattle.recip_rotations.proofs.get_reciprocal_point_group.Statement.{statement}
 use Rattle.recip_rotations.proofs.get_reciprocal_point_group.Tie as tie
 
-group-of-requires : tie.Need-group-of-requires
+group-of-requires : tie.Need-group_of-requires
 group-of-requires c κs = search rules
 
-enum-known-n : tie.Need-enum-known-n
+enum-known-n : tie.Need-enum_known-n
 enum-known-n c = search rules
 
-enum-known-r : tie.Need-enum-known-r
+enum-known-r : tie.Need-enum_known-r
 enum-known-r c = search rules
 
 fill-requires : tie.Need-fill-requires
 fill-requires c κs = search rules
 
-same_length : tie.Need-same-length
+same_length : tie.Need-shape_of-out-in-Rotations
 same_length c = search rules
 
-returns : tie.Need-returns
+returns : tie.Need-returns-in-Rotations
 returns c =
-    let a = c.before.before.before.before.before.before.args in
-    let e = c.before.n.given.1 in
-    let g = c.before.before.before.before.group_of.ensures in
-    (sym e ∙ answered a.rotations.now a.is-time-reversal a.is-transpose (length a.out.now) g, group-written a.rotations.now a.is-time-reversal a.is-transpose (length a.out.now) g e)
+    let a = c.args in
+    let g = c.group_of.ensures in
+    (sym c.in-Rotations.is ∙ answered a.rotations.now a.is_time_reversal a.is_transpose (length a.out.now) g, group-written a.rotations.now a.is_time_reversal a.is_transpose (length a.out.now) g c.in-Rotations.is)
 
-same-length-2 : tie.Need-same-length-2
+same-length-2 : tie.Need-shape_of-out-in-Refused
 same-length-2 c = search rules
 
-returns-2 : tie.Need-returns-2
+returns-2 : tie.Need-returns-in-Refused
 returns-2 c =
-    let a = c.before.before.before.before.before.before.before.before.before.args in
-    let e = c.before.before.before.before.r.given.1 in
-    let g = c.before.before.before.before.before.before.before.group_of.ensures in (
-      sym e ∙ answered a.rotations.now a.is-time-reversal a.is-transpose (length a.out.now) g,
-      blank-written a.rotations.now a.is-time-reversal a.is-transpose (length a.out.now) g (length c.before.before.before.before.before.before.before.group_of.new.1.1.1.0) e c.before.fill.ensures (search rules),
+    let a = c.args in
+    let g = c.group_of.ensures in (
+      sym c.in-Refused.is ∙ answered a.rotations.now a.is_time_reversal a.is_transpose (length a.out.now) g,
+      blank-written a.rotations.now a.is_time_reversal a.is_transpose (length a.out.now) g (length c.group_of.new.out) c.in-Refused.is c.fill.ensures (search rules),
     )
 
-pub get-reciprocal-point-group-spec : {M : Type 1} → statement M
-get-reciprocal-point-group-spec =
+pub get_reciprocal_point_group_spec : {M : Type 1} → statement M
+get_reciprocal_point_group_spec =
     tie.close
     (tie.spec
     group-of-requires

@@ -5,37 +5,37 @@ use Rattle.recip_rotations.proofs.Answered.{input-accepted, input-passed, input-
 use Rattle.recip_rotations.proofs.group_of.Statement.{statement}
 use Rattle.recip_rotations.proofs.group_of.Tie as tie
 
-input-tests-requires : tie.Need-input-tests-requires
+input-tests-requires : tie.Need-input_tests-requires
 input-tests-requires c κs = search rules
 
-enum_told : tie.Need-enum-told
+enum_told : tie.Need-enum_told-1
 enum_told c = search rules
 
-distinct-group-requires : tie.Need-distinct-group-requires
+distinct-group-requires : tie.Need-distinct_group-requires
 distinct-group-requires c κs =
-    let s = c.before.before.before.before in
-    let a = input-accepted s.args.rotations.now (length s.args.out.now) (sym c.before.before.before.input-tests.ensures ∙ c.before.enum_told.given.1) in
+    let s = c in
+    let a = input-accepted s.args.rotations.now (length s.args.out.now) (sym c.input_tests.ensures ∙ c.in-Accepted.is) in
     (a.0, a.2)
 
-enum-known-r : tie.Need-enum-known-r
+enum-known-r : tie.Need-enum_known-r
 enum-known-r c = search rules
 
-same_length : tie.Need-same-length
+same_length : tie.Need-shape_of-out
 same_length c = search rules
 
-returns : tie.Need-returns
+returns : tie.Need-returns-in-Accepted
 returns c =
-    let s = c.before.before.before.before.before.before in
-    input-passed s.args.rotations.now s.args.is-time-reversal s.args.is-transpose (length s.args.out.now)
-    (sym c.before.before.before.before.before.input-tests.ensures ∙ c.before.before.before.enum_told.given.1) c.before.distinct-group.ensures
+    let s = c in
+    input-passed s.args.rotations.now s.args.is_time_reversal s.args.is_transpose (length s.args.out.now)
+    (sym c.input_tests.ensures ∙ c.in-Accepted.is) c.distinct_group.ensures
 
-returns-2 : tie.Need-returns-2
+returns-2 : tie.Need-returns-in-Refused
 returns-2 c =
-    let s = c.before.before.before.before in
-    input-refused s.args.rotations.now s.args.is-time-reversal s.args.is-transpose (length s.args.out.now) (sym c.before.before.before.input-tests.ensures ∙ c.before.r.given.1)
+    let s = c in
+    input-refused s.args.rotations.now s.args.is_time_reversal s.args.is_transpose (length s.args.out.now) (sym c.input_tests.ensures ∙ c.in-Refused.is)
 
-pub group-of-spec : {M : Type 1} → statement M
-group-of-spec =
+pub group_of_spec : {M : Type 1} → statement M
+group_of_spec =
     tie.close
     (tie.spec
     input-tests-requires

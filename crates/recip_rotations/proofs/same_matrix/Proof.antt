@@ -6,53 +6,53 @@ use Rattle.recip_rotations.proofs.Same.{matrix-rows}
 use Rattle.recip_rotations.proofs.same_matrix.Statement.{statement}
 use Rattle.recip_rotations.proofs.same_matrix.Tie as tie
 
-mul-i : tie.Need-overflow-mul-i
+mul-i : tie.Need-overflow_mul-i
 mul-i c = search rules
 
-mul-j : tie.Need-overflow-mul-j
+mul-j : tie.Need-overflow_mul-j
 mul-j c = search rules
 
-same-row-requires : tie.Need-same-row-requires
+same-row-requires : tie.Need-same_row-requires
 same-row-requires c κs = search rules
 
-returns : tie.Need-returns
+returns : tie.Need-returns-then-not-same_row
 returns c =
-    let s = c.before.before in
-    first-fails _ (no c.before.same_row.ensures c.if1.true) ∙ sym (matrix-rows s.args.a.now s.args.m s.args.b.now s.args.n)
+    let s = c in
+    first-fails _ (no c.same_row.ensures c.if-not-same_row.true-raw) ∙ sym (matrix-rows s.args.a.now s.args.m s.args.b.now s.args.n)
 
-add-same-row : tie.Need-overflow-add-same-row
+add-same-row : tie.Need-overflow_add-i
 add-same-row c = search rules
 
-add-same-row-2 : tie.Need-overflow-add-same-row-2
+add-same-row-2 : tie.Need-overflow_add-j
 add-same-row-2 c = search rules
 
-same-row-requires-2 : tie.Need-same-row-requires-2
+same-row-requires-2 : tie.Need-same_row-requires-2
 same-row-requires-2 c κs = search rules
 
-returns-2 : tie.Need-returns-2
+returns-2 : tie.Need-returns-then-not-same_row-2
 returns-2 c =
-    let s = c.before.before.before.before in
-    first-fails _ (no c.before.same-row2.ensures c.if2.true) ∙ first_holds _ (yes c.before.before.before.same_row.ensures c.before.before.if1.false)
+    let s = c in
+    first-fails _ (no c.same_row-2.ensures c.if-not-same_row-2.true-raw) ∙ first_holds _ (yes c.same_row.ensures c.if-not-same_row.false-raw)
     ∙ sym (matrix-rows s.args.a.now s.args.m s.args.b.now s.args.n)
 
-add-same-row-3 : tie.Need-overflow-add-same-row-3
+add-same-row-3 : tie.Need-overflow_add-i-2
 add-same-row-3 c = search rules
 
-add-same-row-4 : tie.Need-overflow-add-same-row-4
+add-same-row-4 : tie.Need-overflow_add-j-2
 add-same-row-4 c = search rules
 
-same-row-requires-3 : tie.Need-same-row-requires-3
+same-row-requires-3 : tie.Need-same_row-requires-3
 same-row-requires-3 c κs = search rules
 
-returns-3 : tie.Need-returns-3
+returns-3 : tie.Need-returns
 returns-3 c =
-    let s = c.before.before.before.before.before in
-    c.same-row3.ensures ∙ first_holds _ (yes c.before.before.same-row2.ensures c.before.if2.false)
-    ∙ first_holds _ (yes c.before.before.before.before.same_row.ensures c.before.before.before.if1.false)
+    let s = c in
+    c.same_row-3.ensures ∙ first_holds _ (yes c.same_row-2.ensures c.if-not-same_row-2.false-raw)
+    ∙ first_holds _ (yes c.same_row.ensures c.if-not-same_row.false-raw)
     ∙ sym (matrix-rows s.args.a.now s.args.m s.args.b.now s.args.n)
 
-pub same-matrix-spec : {M : Type 1} → statement M
-same-matrix-spec =
+pub same_matrix_spec : {M : Type 1} → statement M
+same_matrix_spec =
     tie.close
     (tie.spec
     mul-i

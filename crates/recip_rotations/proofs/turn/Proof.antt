@@ -12,48 +12,48 @@ use Rattle.recip_rotations.proofs.Blocks.{laid-self, laid-transpose}
 use Rattle.recip_rotations.proofs.turn.Statement.{statement}
 use Rattle.recip_rotations.proofs.turn.Tie as tie
 
-abbrev invariant-loop : tie.invariant-loop
+abbrev invariant-loop : tie.invariant-loop-k
 invariant-loop out₀ count is-transpose k₀ out k = (k ≤ count) × (length out ≡ length out₀) × (out ≡ laid (map transpose (matrices_from out₀ 0 k)) out₀)
 
-abbrev decreases-loop : tie.decreases-loop
+abbrev decreases-loop : tie.decreases-loop-k
 decreases-loop out₀ count is-transpose k₀ out k = count - k
 
-returns : tie.Need-returns invariant-loop decreases-loop
+returns : tie.Need-returns-then-not-is_transpose invariant-loop decreases-loop
 returns c =
-    let a = c.before.args in
-    laid-self a.out.now a.count (search rules) ∙ ap (λ t. laid (turned t (matrices_from a.out.now 0 a.count)) a.out.now) (sym (not-true a.is-transpose c.if1.true))
+    let a = c.args in
+    laid-self a.out.now a.count (search rules) ∙ ap (λ t. laid (turned t (matrices_from a.out.now 0 a.count)) a.out.now) (sym (not-true a.is_transpose c.if-not-is_transpose.true-raw))
 
-loop-holds : tie.Need-loop-init invariant-loop decreases-loop
+loop-holds : tie.Need-loop-k-init invariant-loop decreases-loop
 loop-holds c = (search rules, search rules, refl)
 
-mul-transpose-at : tie.Need-overflow-mul-transpose-at invariant-loop decreases-loop
+mul-transpose-at : tie.Need-overflow_mul-k invariant-loop decreases-loop
 mul-transpose-at c = search rules
 
-transpose-at-requires : tie.Need-transpose-at-requires invariant-loop decreases-loop
+transpose-at-requires : tie.Need-transpose_at-requires invariant-loop decreases-loop
 transpose-at-requires c κs = search rules
 
-add-k : tie.Need-overflow-add-k invariant-loop decreases-loop
+add-k : tie.Need-overflow_add-k invariant-loop decreases-loop
 add-k c = search rules
 
-loop-less : tie.Need-loop-smaller invariant-loop decreases-loop
+loop-less : tie.Need-loop-k-smaller invariant-loop decreases-loop
 loop-less c = search rules
 
-loop-again : tie.Need-loop-preserved invariant-loop decreases-loop
+loop-again : tie.Need-loop-k-preserved invariant-loop decreases-loop
 loop-again c =
-    let s = c.before.before.before.before.before.before in
-    let l = c.before.before.before.before.loop in
-    (search rules, search rules, c.before.transpose-at.ensures ∙ laid-transpose s.args.out.now l.k (search rules) l.invariant.2)
+    let s = c in
+    let l = c.loop-k in
+    (search rules, search rules, c.transpose_at.ensures ∙ laid-transpose s.args.out.now l.k (search rules) l.invariant.2)
 
-same_length : tie.Need-same-length invariant-loop decreases-loop
+same_length : tie.Need-shape_of-out invariant-loop decreases-loop
 same_length c = search rules
 
-returns-2 : tie.Need-returns-2 invariant-loop decreases-loop
+returns-2 : tie.Need-returns invariant-loop decreases-loop
 returns-2 c =
-    let a = c.before.before.before.args in
-    let l = c.before.loop in
+    let a = c.args in
+    let l = c.loop-k in
     let e : l.k ≡ a.count = search rules in
     l.invariant.2 ∙ ap (λ n. laid (map transpose (matrices_from a.out.now 0 n)) a.out.now) e
-    ∙ ap (λ t. laid (turned t (matrices_from a.out.now 0 a.count)) a.out.now) (sym (not-false a.is-transpose c.before.before.if1.false))
+    ∙ ap (λ t. laid (turned t (matrices_from a.out.now 0 a.count)) a.out.now) (sym (not-false a.is_transpose c.if-not-is_transpose.false-raw))
 
 pub turn_spec : {M : Type 1} → statement M
 turn_spec =

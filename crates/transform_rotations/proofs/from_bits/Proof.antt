@@ -20,24 +20,24 @@ off n h = le_trans (abs-add (pos n) (neg_ℤ (pos 2251799813685248))) (omega ari
 off-fits : (n : ℕ) → n < 2 ^ 52 → T (fits64 (pos n -ℤ pos 2251799813685248))
 off-fits n h = size_fits (pos n -ℤ pos 2251799813685248) (lt_of_le_of_lt (off n h) (lit< tt))
 
-returns : tie.Need-returns
+returns : tie.Need-returns-then-bits-lt4841369599423283200
 returns c = search rules
 
-cast-result : tie.Need-overflow-cast-result
+cast-result : tie.Need-overflow_cast-result
 cast-result c = search rules
 
-sub-result : tie.Need-overflow-sub-result
+sub-result : tie.Need-overflow_sub-result
 sub-result c =
-    let n = c.before.before.args.bits - 4841369599423283200 in
+    let n = c.args.bits - 4841369599423283200 in
     fits-of (ap (λ k. k -ℤ pos 2251799813685248) (to_z_pos w64 {n = n} (search rules))) (off-fits n (search rules))
 
-returns-2 : tie.Need-returns-2
+returns-2 : tie.Need-returns-then-n-lt4503599627370496
 returns-2 c =
-    let n = c.before.before.args.bits - 4841369599423283200 in
+    let n = c.args.bits - 4841369599423283200 in
     rw (held_of (ap (λ k. k -ℤ pos 2251799813685248) (to_z_pos w64 {n = n} (search rules))) (off-fits n (search rules))) (off n (search rules))
 
-returns-3 : tie.Need-returns-3
+returns-3 : tie.Need-returns
 returns-3 c = search rules
 
-pub from-bits-spec : {M : Type 1} → statement M
-from-bits-spec = tie.close (tie.spec returns cast-result sub-result returns-2 returns-3)
+pub from_bits_spec : {M : Type 1} → statement M
+from_bits_spec = tie.close (tie.spec returns cast-result sub-result returns-2 returns-3)

@@ -9,27 +9,27 @@ use Rattle.transform_rotations.proofs.Found.{found}
 use Rattle.transform_rotations.proofs.nint_entry.Statement.{statement}
 use Rattle.transform_rotations.proofs.nint_entry.Tie as tie
 
-guess-requires : tie.Need-guess-requires
+guess-requires : tie.Need-guess-n-requires
 guess-requires c κs = search rules
 
-to-f64-requires : tie.Need-to-f64-requires
+to-f64-requires : tie.Need-to_f64-requires
 to-f64-requires c κs = search rules
 
-returns : tie.Need-returns
+returns : tie.Need-returns-then-to_f64-x
 returns c =
-    let s = c.before.before.before in
-    let n = c.before.before.guess.result in
-    let size = c.before.before.guess.ensures in
+    let s = c in
+    let n = c.guess-n.result in
+    let size = c.guess-n.ensures in
     let h = held_of refl (size_fits n (lt_of_le_of_lt size (lit< tt))) in
-    let e = c.before.to-f64.ensures ∙ ap (of_int binary64) h in
-    h ∙ sym (found s.args.x n size (holds s.well_formed.0.1) (holds (ap (λ y. eq y s.args.x) (sym e) ∙ c.if1.true)))
+    let e = c.to_f64.ensures ∙ ap (of_int binary64) h in
+    h ∙ sym (found s.args.x n size (holds s.well_formed.0.1) (holds (ap (λ y. eq y s.args.x) (sym e) ∙ c.if-to_f64-x.true)))
 
 nint-requires : tie.Need-nint-requires
 nint-requires c κs = search rules
 
-returns-2 : tie.Need-returns-2
+returns-2 : tie.Need-returns
 returns-2 c = search rules
 
-pub nint-entry-spec : {M : Type 1} → statement M
-nint-entry-spec =
+pub nint_entry_spec : {M : Type 1} → statement M
+nint_entry_spec =
     tie.close (tie.spec guess-requires to-f64-requires returns nint-requires returns-2)

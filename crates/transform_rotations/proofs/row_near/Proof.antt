@@ -10,50 +10,50 @@ use borrow.Author.Rules.{rules}
 use Rattle.transform_rotations.proofs.row_near.Statement.{statement}
 use Rattle.transform_rotations.proofs.row_near.Tie as tie
 
-array-copy-out-near : tie.Need-array-copy-out-near
+array-copy-out-near : tie.Need-bounds-n-0
 array-copy-out-near c = search rules
 
-array-read-near : tie.Need-array-read-near
+array-read-near : tie.Need-bounds-a-0
 array-read-near c = search rules
 
 near-requires : tie.Need-near-requires
 near-requires c κs = search rules
 
-array-copy-out-near-2 : tie.Need-array-copy-out-near-2
+array-copy-out-near-2 : tie.Need-bounds-n-1
 array-copy-out-near-2 c = search rules
 
-array-read-near-2 : tie.Need-array-read-near-2
+array-read-near-2 : tie.Need-bounds-a-1
 array-read-near-2 c = search rules
 
 near-requires-2 : tie.Need-near-requires-2
 near-requires-2 c κs = search rules
 
-array-copy-out-near-3 : tie.Need-array-copy-out-near-3
+array-copy-out-near-3 : tie.Need-bounds-n-2
 array-copy-out-near-3 c = search rules
 
-array-read-near-3 : tie.Need-array-read-near-3
+array-read-near-3 : tie.Need-bounds-a-2
 array-read-near-3 c = search rules
 
 near-requires-3 : tie.Need-near-requires-3
 near-requires-3 c κs = search rules
 
-all-three-requires : tie.Need-all-three-requires
+all-three-requires : tie.Need-all_three-requires
 all-three-requires c κs = search rules
 
 returns : tie.Need-returns
 returns c =
-    let z = c.before in
-    let y = z.before.before in
-    let x = y.before.before in
-    let n = x.before.before.args.t1 in
-    let a = x.before.before.args.t2 in
-    let e0 = x.near.ensures ∙ ap (λ k. near k (get_or a 0 nan)) (held-is (along n X) x.before.near-arg.given) in
-    let e1 = y.near2.ensures ∙ ap (λ k. near k (get_or a 1 nan)) (held-is (along n Y) y.before.near-arg2.given) in
-    let e2 = z.near3.ensures ∙ ap (λ k. near k (get_or a 2 nan)) (held-is (along n Z) z.before.near-arg3.given) in
-    c.All-three.ensures ∙ (λ i. e0 i && (e1 i && e2 i))
+    let z = c in
+    let y = z in
+    let x = y in
+    let n = x.args.n in
+    let a = x.args.a in
+    let e0 = x.near.ensures ∙ ap (λ k. near k (get_or a 0 nan)) (held-is (along n X) x.near-arg-1.given) in
+    let e1 = y.near-2.ensures ∙ ap (λ k. near k (get_or a 1 nan)) (held-is (along n Y) y.near-arg-2-1.given) in
+    let e2 = z.near-3.ensures ∙ ap (λ k. near k (get_or a 2 nan)) (held-is (along n Z) z.near-arg-3-1.given) in
+    c.all_three.ensures ∙ (λ i. e0 i && (e1 i && e2 i))
 
-pub row-near-spec : {M : Type 1} → statement M
-row-near-spec =
+pub row_near_spec : {M : Type 1} → statement M
+row_near_spec =
     tie.close
     (tie.spec
     array-copy-out-near

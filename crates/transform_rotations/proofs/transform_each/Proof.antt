@@ -24,83 +24,83 @@ ended m n t h e = let z : m % 9 ≡ 0 = eqb→eq (m % 9) 0 t in omega (arith, di
 never : false ≡ true → ⊥
 never e = let z : ◌≡◌ {A = ℕ} 0 1 = cc in omega arith
 
-abbrev invariant-loop : tie.invariant-loop
+abbrev invariant-loop : tie.invariant-loop-n
 invariant-loop rotations q-inv q d out₀ count n₀ out n = (n ≤ count) × (length out ≡ length out₀) × Turned (transform_by (float_matrix q-inv) (float_matrix q) (float_vector d)) rotations count n out
 
-abbrev decreases-loop : tie.decreases-loop
+abbrev decreases-loop : tie.decreases-loop-n
 decreases-loop rotations q-inv q d out₀ count n₀ out n = count - n
 
-loop-holds : tie.Need-loop-init invariant-loop decreases-loop
+loop-holds : tie.Need-loop-n-init invariant-loop decreases-loop
 loop-holds c =
     let a = c.args in
-    (search rules, refl, turned_none (transform_by (float_matrix a.q-inv) (float_matrix a.q) (float_vector a.d)) a.rotations.now (length a.rotations.now / 9) a.out.now)
+    (search rules, refl, turned_none (transform_by (float_matrix a.q_inv) (float_matrix a.q) (float_vector a.d)) a.rotations.now (length a.rotations.now / 9) a.out.now)
 
-rotation-at-requires : tie.Need-rotation-at-requires invariant-loop decreases-loop
+rotation-at-requires : tie.Need-rotation_at-requires invariant-loop decreases-loop
 rotation-at-requires c κs = search rules
 
-transform-requires : tie.Need-transform-requires invariant-loop decreases-loop
+transform-requires : tie.Need-transform-m-requires invariant-loop decreases-loop
 transform-requires c κs = search rules
 
-nint-matrix-requires : tie.Need-nint-matrix-requires invariant-loop decreases-loop
+nint-matrix-requires : tie.Need-nint_matrix-rounded-requires invariant-loop decreases-loop
 nint-matrix-requires c κs = search rules
 
-all-near-requires : tie.Need-all-near-requires invariant-loop decreases-loop
+all-near-requires : tie.Need-all_near-requires invariant-loop decreases-loop
 all-near-requires c κs = search rules
 
-same_length : tie.Need-same-length invariant-loop decreases-loop
+same_length : tie.Need-shape_of-out-then-not-all_near invariant-loop decreases-loop
 same_length c = search rules
 
-returns : tie.Need-returns invariant-loop decreases-loop
+returns : tie.Need-returns-then-not-all_near invariant-loop decreases-loop
 returns c =
-    let s = c.before.before.before.before.before.before.before in
-    let l = c.before.before.before.before.before.before.loop in
-    let g = transform_by (float_matrix s.args.q-inv) (float_matrix s.args.q) (float_vector s.args.d) in
+    let s = c in
+    let l = c.loop-n in
+    let g = transform_by (float_matrix s.args.q_inv) (float_matrix s.args.q) (float_vector s.args.d) in
     let m = matrix_at s.args.rotations.now l.n in
-    let e = c.before.before.before.transform.ensures ∙ ap (λ r. rows (transform_over (float_matrix s.args.q-inv) (float_matrix s.args.q) (float_vector s.args.d) (float_matrix r))) c.before.before.before.before.rotation-at.ensures in
-    let f = near-whole (g m) e c.before.before.nint-matrix.ensures c.before.all_Near.ensures in
-    (broken g s.args.rotations.now (length s.args.rotations.now / 9) l.n (search rules) l.invariant.2 (no f c.if1.true), λ h. absurd (never h))
+    let e = c.transform-m.ensures ∙ ap (λ r. rows (transform_over (float_matrix s.args.q_inv) (float_matrix s.args.q) (float_vector s.args.d) (float_matrix r))) c.rotation_at.ensures in
+    let f = near-whole (g m) e c.nint_matrix-rounded.ensures c.all_near.ensures in
+    (broken g s.args.rotations.now (length s.args.rotations.now / 9) l.n (search rules) l.invariant.2 (no f c.if-not-all_near.true-raw), λ h. absurd (never h))
 
-mul-store : tie.Need-overflow-mul-store invariant-loop decreases-loop
+mul-store : tie.Need-overflow_mul-n invariant-loop decreases-loop
 mul-store c = search rules
 
 store-requires : tie.Need-store-requires invariant-loop decreases-loop
 store-requires c κs = search rules
 
-add-n : tie.Need-overflow-add-n invariant-loop decreases-loop
+add-n : tie.Need-overflow_add-n invariant-loop decreases-loop
 add-n c = search rules
 
-loop-less : tie.Need-loop-smaller invariant-loop decreases-loop
+loop-less : tie.Need-loop-n-smaller invariant-loop decreases-loop
 loop-less c = search rules
 
-loop-again : tie.Need-loop-preserved invariant-loop decreases-loop
+loop-again : tie.Need-loop-n-preserved invariant-loop decreases-loop
 loop-again c =
-    let s = c.before.before.before.before.before.before.before.before.before.before in
-    let l = c.before.before.before.before.before.before.before.before.before.loop in
-    let g = transform_by (float_matrix s.args.q-inv) (float_matrix s.args.q) (float_vector s.args.d) in
+    let s = c in
+    let l = c.loop-n in
+    let g = transform_by (float_matrix s.args.q_inv) (float_matrix s.args.q) (float_vector s.args.d) in
     let m = matrix_at s.args.rotations.now l.n in
-    let near = c.before.before.before.before in
-    let e = near.before.before.transform.ensures ∙ ap (λ r. rows (transform_over (float_matrix s.args.q-inv) (float_matrix s.args.q) (float_vector s.args.d) (float_matrix r))) near.before.before.before.rotation-at.ensures in
-    let f = near-whole (g m) e near.before.nint-matrix.ensures near.all_Near.ensures in
-    let k = ap (λ k. sets l.out (l.n * 9) (entries (matrix_of k) [])) (rounded-rows (g m) e near.before.nint-matrix.ensures) in (
+    let near = c in
+    let e = near.transform-m.ensures ∙ ap (λ r. rows (transform_over (float_matrix s.args.q_inv) (float_matrix s.args.q) (float_vector s.args.d) (float_matrix r))) near.rotation_at.ensures in
+    let f = near-whole (g m) e near.nint_matrix-rounded.ensures near.all_near.ensures in
+    let k = ap (λ k. sets l.out (l.n * 9) (entries (matrix_of k) [])) (rounded-rows (g m) e near.nint_matrix-rounded.ensures) in (
       search rules,
       search rules,
-      turned_on g s.args.rotations.now (length s.args.rotations.now / 9) l.n (search rules) l.invariant.2 (search rules) (yes f c.before.before.before.if1.false) (c.before.store.ensures ∙ k),
+      turned_on g s.args.rotations.now (length s.args.rotations.now / 9) l.n (search rules) l.invariant.2 (search rules) (yes f c.if-not-all_near.false-raw) (c.store.ensures ∙ k),
     )
 
-same-length-2 : tie.Need-same-length-2 invariant-loop decreases-loop
+same-length-2 : tie.Need-shape_of-out invariant-loop decreases-loop
 same-length-2 c = search rules
 
-returns-2 : tie.Need-returns-2 invariant-loop decreases-loop
+returns-2 : tie.Need-returns invariant-loop decreases-loop
 returns-2 c =
-    let s = c.before.before in
-    let l = c.before.loop in
-    let g = transform_by (float_matrix s.args.q-inv) (float_matrix s.args.q) (float_vector s.args.d) in
+    let s = c in
+    let l = c.loop-n in
+    let g = transform_by (float_matrix s.args.q_inv) (float_matrix s.args.q) (float_vector s.args.d) in
     let n = length s.args.rotations.now in
     let over : n / 9 ≤ l.n = search rules in
     (all_whole_lem g s.args.rotations.now (n / 9) l.n over l.invariant.2, λ _. all_listed g s.args.rotations.now (n / 9) l.n over l.invariant.2 (ended n l.n s.requires.1.0 over (search rules)))
 
-pub transform-each-spec : {M : Type 1} → statement M
-transform-each-spec =
+pub transform_each_spec : {M : Type 1} → statement M
+transform_each_spec =
     tie.close
     (tie.spec
     invariant-loop

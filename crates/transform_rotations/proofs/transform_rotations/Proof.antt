@@ -9,48 +9,48 @@ use borrow.Author.Rules.{rules}
 use Rattle.transform_rotations.proofs.transform_rotations.Statement.{statement}
 use Rattle.transform_rotations.proofs.transform_rotations.Tie as tie
 
-transform-tests-requires : tie.Need-transform-tests-requires
+transform-tests-requires : tie.Need-transform_tests-requires
 transform-tests-requires c κs = search rules
 
-enum_told : tie.Need-enum-told
+enum_told : tie.Need-enum_told-1
 enum_told c = search rules
 
-enum-known-r : tie.Need-enum-known-r
+enum-known-r : tie.Need-enum_known-r
 enum-known-r c = search rules
 
 fill-requires : tie.Need-fill-requires
 fill-requires c κs = search rules
 
-same_length : tie.Need-same-length
+same_length : tie.Need-shape_of-out-in-Accepted
 same_length c = search rules
 
-returns : tie.Need-returns
+returns : tie.Need-returns-in-Accepted
 unfolding transform_answer transform_written
 returns c =
-    let t = c.before.before.before in
-    let s = t.before.before in
+    let t = c.before.before in
+    let s = t in
     let w = transformed_list (vector_of s.args.d) (matrix_of s.args.q) (matrices s.args.rotations.now) in
-    let e : Accepted ≡ transform_tests s.args.rotations.now s.args.d s.args.q (length s.args.out.now) = sym c.enum_told.given.1 ∙ t.transform-tests.ensures.0 in
-    (ap answer_for e, t.transform-tests.ensures.1 c.enum_told.given.1 ∙ ap (λ t. output_of t (length s.args.out.now) w) e)
+    let e : Accepted ≡ transform_tests s.args.rotations.now s.args.d s.args.q (length s.args.out.now) = sym c.in-Accepted.is ∙ t.transform_tests.ensures.0 in
+    (ap answer_for e, t.transform_tests.ensures.1 c.in-Accepted.is ∙ ap (λ t. output_of t (length s.args.out.now) w) e)
 
-same-length-2 : tie.Need-same-length-2
+same-length-2 : tie.Need-shape_of-out-in-Refused
 same-length-2 c = search rules
 
-returns-2 : tie.Need-returns-2
+returns-2 : tie.Need-returns-in-Refused
 unfolding transform_answer transform_written
 returns-2 c =
-    let r = c.before.before.before.before in
-    let t = r.before.before.before in
-    let s = t.before.before in
+    let r = c in
+    let t = r.before.before.before.before.before in
+    let s = t in
     let w = transformed_list (vector_of s.args.d) (matrix_of s.args.q) (matrices s.args.rotations.now) in
-    let e : Refused _ ≡ transform_tests s.args.rotations.now s.args.d s.args.q (length s.args.out.now) = sym r.r.given.1 ∙ t.transform-tests.ensures.0 in
-    let left = t.transform-tests.new.1.1.1.0 in
+    let e : Refused _ ≡ transform_tests s.args.rotations.now s.args.d s.args.q (length s.args.out.now) = sym r.in-Refused.is ∙ t.transform_tests.ensures.0 in
+    let left = t.transform_tests.new.out in
     let n : length left ≡ length s.args.out.now = search rules in
-    let f : _ ≡ replicate (length left) (negsuc 0) = c.before.fill.ensures in
+    let f : _ ≡ replicate (length left) (negsuc 0) = c.fill.ensures in
     (ap answer_for e, f ∙ ap (λ n. replicate n (negsuc 0)) n ∙ ap (λ t. output_of t (length s.args.out.now) w) e)
 
-pub transform-rotations-spec : {M : Type 1} → statement M
-transform-rotations-spec =
+pub transform_rotations_spec : {M : Type 1} → statement M
+transform_rotations_spec =
     tie.close
     (tie.spec
     transform-tests-requires

@@ -17,49 +17,49 @@ use Rattle.transform_rotations.proofs.transform_tests.Tie as tie
 never : {r : Refusal} → Refused r ≡ Accepted → ⊥
 never e = let z : ◌≡◌ {A = ℕ} 0 1 = cc in omega arith
 
-input-tests-requires : tie.Need-input-tests-requires
+input-tests-requires : tie.Need-input_tests-requires
 input-tests-requires c κs = search rules
 
-enum_told : tie.Need-enum-told
+enum_told : tie.Need-enum_told-1
 enum_told c = search rules
 
-transform-all-requires : tie.Need-transform-all-requires
+transform-all-requires : tie.Need-transform_all-requires
 transform-all-requires c κs =
-    let s = c.before.before.before.before in
-    let a = input-accepted s.args.rotations.now s.args.d s.args.q (length s.args.out.now) (sym c.before.before.before.input-tests.ensures ∙ c.before.enum_told.given.1) in
+    let s = c in
+    let a = input-accepted s.args.rotations.now s.args.d s.args.q (length s.args.out.now) (sym c.input_tests.ensures ∙ c.in-Accepted.is) in
     (a.places, (a.whole, a.entries))
 
-same_length : tie.Need-same-length
+same_length : tie.Need-shape_of-out-then-transform_all
 same_length c = search rules
 
-returns : tie.Need-returns
+returns : tie.Need-returns-then-transform_all
 unfolding transform_tests
 returns c =
-    let e = sym c.before.before.before.before.before.before.input-tests.ensures ∙ c.before.before.before.before.enum_told.given.1 in
-    let w = sym c.before.before.transform-all.ensures.0 ∙ c.if1.true in
-    (sym (ap₂ (λ t b. after t (require b SymmetryBroken Accepted)) e w), λ _. c.before.before.transform-all.ensures.1 c.if1.true)
+    let e = sym c.input_tests.ensures ∙ c.in-Accepted.is in
+    let w = sym c.transform_all.ensures.0 ∙ c.if-transform_all.true in
+    (sym (ap₂ (λ t b. after t (require b SymmetryBroken Accepted)) e w), λ _. c.transform_all.ensures.1 c.if-transform_all.true)
 
-enum-known-r : tie.Need-enum-known-r
+enum-known-r : tie.Need-enum_known-r
 enum-known-r c = search rules
 
-same-length-2 : tie.Need-same-length-2
+same-length-2 : tie.Need-shape_of-out
 same-length-2 c = search rules
 
-returns-2 : tie.Need-returns-2
+returns-2 : tie.Need-returns-else-transform_all
 unfolding transform_tests
 returns-2 c =
-    let e = sym c.before.before.before.before.before.before.input-tests.ensures ∙ c.before.before.before.before.enum_told.given.1 in
-    let w = sym c.before.before.transform-all.ensures.0 ∙ c.if1.false in
+    let e = sym c.input_tests.ensures ∙ c.in-Accepted.is in
+    let w = sym c.transform_all.ensures.0 ∙ c.if-transform_all.false in
     (sym (ap₂ (λ t b. after t (require b SymmetryBroken Accepted)) e w), λ h. absurd (never h))
 
-returns-3 : tie.Need-returns-3
+returns-3 : tie.Need-returns-in-Refused
 unfolding transform_tests
 returns-3 c =
-    let e = sym c.before.before.before.input-tests.ensures ∙ c.before.r.given.1 in
-    (sym (ap (λ t. after t (require (all_whole (vector_of c.before.before.before.before.args.d) (matrix_of c.before.before.before.before.args.q) (matrices c.before.before.before.before.args.rotations.now)) SymmetryBroken Accepted)) e), λ h. absurd (never h))
+    let e = sym c.input_tests.ensures ∙ c.in-Refused.is in
+    (sym (ap (λ t. after t (require (all_whole (vector_of c.args.d) (matrix_of c.args.q) (matrices c.args.rotations.now)) SymmetryBroken Accepted)) e), λ h. absurd (never h))
 
-pub transform-tests-spec : {M : Type 1} → statement M
-transform-tests-spec =
+pub transform_tests_spec : {M : Type 1} → statement M
+transform_tests_spec =
     tie.close
     (tie.spec
     input-tests-requires

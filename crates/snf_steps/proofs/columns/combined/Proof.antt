@@ -15,78 +15,75 @@ use borrow.Author.Rules.{rules}
 use Rattle.snf_steps.proofs.columns.combined.Statement.{statement}
 use Rattle.snf_steps.proofs.columns.combined.Tie as tie
 
-gcd-is : (c : tie.After-extended-gcd) → let z = c.before in division_of c.extended-gcd.result ≡ extended_gcd z.args.a z.args.b
-gcd-is c = let z = c.before in c.extended-gcd.ensures ∙ ap₂ extended_gcd (to_z-of_z z.ranges.a) (to_z-of_z z.ranges.b)
+gcd-is : (c : tie.After-extended_gcd) → let z = c.before in division_of c.extended_gcd.result ≡ extended_gcd z.args.a z.args.b
+gcd-is c = let z = c in c.extended_gcd.ensures ∙ ap₂ extended_gcd (to_z-of_z z.ranges.a) (to_z-of_z z.ranges.b)
 
-fits-is : (c : tie.After-set-zero-fits) → let z = c.before.before.before.before.before.before in c.set-zero-fits.result ≡ set_zero_fits z.args.a z.args.b c.before.before.before.g.given.0.0.r
+fits-is : (c : tie.After-set_zero_fits) → let z = c.before.before.before.before in c.set_zero_fits.result ≡ set_zero_fits z.args.a z.args.b c.in-Done.g.r
 fits-is c =
-    let z = c.before.before.before.before.before.before in
-    let g = c.before.before.before.g.given.0.0 in
-    let er : held g.r ≡ g.r = search rules in
-    c.set-zero-fits.ensures ∙ (λ k. set_zero_fits (to_z-of_z z.ranges.a k) (to_z-of_z z.ranges.b k) (er k))
+    let z = c in
+    let er : held c.in-Done.g.r ≡ c.in-Done.g.r = search rules in
+    c.set_zero_fits.ensures ∙ (λ k. set_zero_fits (to_z-of_z z.ranges.a k) (to_z-of_z z.ranges.b k) (er k))
 
-extended-gcd-requires : tie.Need-extended-gcd-requires
+extended-gcd-requires : tie.Need-extended_gcd-requires
 extended-gcd-requires c κs = search rules
 
-enum-known-g : tie.Need-enum-known-g
+enum-known-g : tie.Need-enum_known-g
 enum-known-g c = search rules
 
-enum_told : tie.Need-enum-told
+enum_told : tie.Need-enum_told-1
 enum_told c = search rules
 
-no-combination-requires : tie.Need-no-combination-requires
+no-combination-requires : tie.Need-no_combination-requires
 no-combination-requires c κs = search rules
 
-returns : tie.Need-returns
+returns : tie.Need-returns-in_default
 returns c =
-    let a = c.before.before.before.before.args in
-    c.no-combination.ensures ∙ ap (λ g. g then combination a.a a.b) (ap division_of (sym c.before.enum_told.given.1) ∙ gcd-is c.before.before.before)
+    let a = c.args in
+    c.no_combination.ensures ∙ ap (λ g. g then combination a.a a.b) (ap division_of (sym c.in_default.is) ∙ gcd-is c.before.before)
 
-set-zero-fits-requires : tie.Need-set-zero-fits-requires
+set-zero-fits-requires : tie.Need-set_zero_fits-requires
 set-zero-fits-requires c κs = search rules
 
-no-combination-requires-2 : tie.Need-no-combination-requires-2
+no-combination-requires-2 : tie.Need-no_combination-requires-then-not-set_zero_fits
 no-combination-requires-2 c κs = search rules
 
-returns-2 : tie.Need-returns-2
+returns-2 : tie.Need-returns-then-not-set_zero_fits
 returns-2 c =
-    let d = c.before.before.before.before.before in
-    let a = d.before.before.before.args in
-    let g = d.g.given.0.0 in
-    c.no-combination2.ensures
-    ∙ (λ k. provided (sym (no (fits-is c.before.before) c.before.if1.true) k) (record { s = g.s; t = g.t; v = quot_z (neg_ℤ a.b) g.r; u = quot_z a.a g.r }))
-    ∙ ap (λ g. g then combination a.a a.b) (ap division_of (sym d.g.given.1) ∙ gcd-is d.before.before)
+    let d = c in
+    let a = d.args in
+    c.no_combination-then-not-set_zero_fits.ensures
+    ∙ (λ k. provided (sym (no (fits-is c.before.before) c.if-not-set_zero_fits.true-raw) k) (record { s = d.in-Done.g.s; t = d.in-Done.g.t; v = quot_z (neg_ℤ a.b) d.in-Done.g.r; u = quot_z a.a d.in-Done.g.r }))
+    ∙ ap (λ g. g then combination a.a a.b) (ap division_of (sym d.in-Done.is) ∙ gcd-is d.before.before.before.before.before)
 
-neg-quotient-requires : tie.Need-neg-quotient-requires
+neg-quotient-requires : tie.Need-neg_quotient-requires
 neg-quotient-requires c κs =
-    let f = c.before.before in
-    let z = f.before.before.before.before.before.before in
-    set-zero-negative (held z.args.a) (held z.args.b) (held f.before.before.before.g.given.0.0.r) (holds (yes f.set-zero-fits.ensures c.before.if1.false))
+    let f = c in
+    let z = f in
+    set-zero-negative (held z.args.a) (held z.args.b) (held f.in-Done.g.r) (holds (yes f.set_zero_fits.ensures c.if-not-set_zero_fits.false-raw))
 
 quotient-requires : tie.Need-quotient-requires
 quotient-requires c κs =
-    let f = c.before.before.before.before in
-    let z = f.before.before.before.before.before.before in
-    set-zero-divides (held z.args.a) (held z.args.b) (held f.before.before.before.g.given.0.0.r) (holds (yes f.set-zero-fits.ensures c.before.before.before.if1.false))
+    let f = c in
+    let z = f in
+    set-zero-divides (held z.args.a) (held z.args.b) (held f.in-Done.g.r) (holds (yes f.set_zero_fits.ensures c.if-not-set_zero_fits.false-raw))
 
-returns-3 : tie.Need-returns-3
+returns-3 : tie.Need-returns
 returns-3 c =
-    let d = c.before.before.before.before.before.before.before.before.before in
+    let d = c in
     let f = c.before.before.before.before.before.before in
-    let z = d.before.before.before in
+    let z = d in
     let a = z.args in
-    let g = d.g.given.0.0 in
-    let er : held g.r ≡ g.r = search rules in
-    let es : held g.s ≡ g.s = search rules in
-    let et : held g.t ≡ g.t = search rules in
-    let y = yes (fits-is f) c.before.before.before.before.before.if1.false in
-    let v = held-quotient a.b g.r (set-zero-negative a.a a.b g.r (holds y)) (c.before.before.before.neg-quotient.ensures ∙ ap₂ (λ b r. quot_z (neg_ℤ b) r) (to_z-of_z z.ranges.b) er) in
-    let u = set-zero-quotient a.a a.b g.r (holds y) (c.before.quotient.ensures ∙ ap₂ quot_z (to_z-of_z z.ranges.a) er) in
+    let er : held d.in-Done.g.r ≡ d.in-Done.g.r = search rules in
+    let es : held d.in-Done.g.s ≡ d.in-Done.g.s = search rules in
+    let et : held d.in-Done.g.t ≡ d.in-Done.g.t = search rules in
+    let y = yes (fits-is f) c.if-not-set_zero_fits.false-raw in
+    let v = held-quotient a.b d.in-Done.g.r (set-zero-negative a.a a.b d.in-Done.g.r (holds y)) (c.neg_quotient.ensures ∙ ap₂ (λ b r. quot_z (neg_ℤ b) r) (to_z-of_z z.ranges.b) er) in
+    let u = set-zero-quotient a.a a.b d.in-Done.g.r (holds y) (c.quotient.ensures ∙ ap₂ quot_z (to_z-of_z z.ranges.a) er) in
     (λ k. provided (sym y k) (record { s = es k; t = et k; v = v k; u = u k }))
-    ∙ ap (λ g. g then combination a.a a.b) (ap division_of (sym d.g.given.1) ∙ gcd-is d.before.before)
+    ∙ ap (λ g. g then combination a.a a.b) (ap division_of (sym d.in-Done.is) ∙ gcd-is d.before.before.before.before.before.before.before.before.before)
 
-pub combined-spec : {M : Type 1} → statement M
-combined-spec =
+pub combined_spec : {M : Type 1} → statement M
+combined_spec =
     tie.close
     (tie.spec
     extended-gcd-requires

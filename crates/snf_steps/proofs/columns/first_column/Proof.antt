@@ -18,61 +18,60 @@ low true true false i e = let p : i ≡ 2 = cc in omega arith
 low true false z i e = let p : i ≡ 1 = cc in omega arith
 low false y z i e = let p : i ≡ 0 = cc in omega arith
 
-pivot-is : (c : tie.After-search-first-pivot) → pivot_of c.search-first-pivot.result ≡ search_first_pivot (matrix_at c.before.before.before.before.before.args.s.a 0)
-pivot-is c = c.search-first-pivot.ensures ∙ ap (λ m. search_first_pivot (matrix_of m)) c.before.nested.ensures
+pivot-is : (c : tie.After-search_first_pivot) → pivot_of c.search_first_pivot.result ≡ search_first_pivot (matrix_at c.args.s.a 0)
+pivot-is c = c.search_first_pivot.ensures ∙ ap (λ m. search_first_pivot (matrix_of m)) c.nested.ensures
 
-returns : tie.Need-returns
+returns : tie.Need-returns-then-s-eq0
 returns c =
-    let s = c.before.before.args.s in
-    passed (fitting s.fits) (matrices_of s) first_column (flag_off s.fits c.if1.true)
+    let s = c.args.s in
+    passed (fitting s.fits) (matrices_of s) first_column (flag_off s.fits c.if-s-eq0.true)
 
 nested-requires : tie.Need-nested-requires
 nested-requires c κs = search rules
 
-search-first-pivot-requires : tie.Need-search-first-pivot-requires
+search-first-pivot-requires : tie.Need-search_first_pivot-requires
 search-first-pivot-requires c κs = search rules
 
-enum-known-i : tie.Need-enum-known-i
+enum-known-i : tie.Need-enum_known-i
 enum-known-i c = search rules
 
-enum_told : tie.Need-enum-told
+enum_told : tie.Need-enum_told-1
 enum_told c = search rules
 
-returns-2 : tie.Need-returns-2
+returns-2 : tie.Need-returns-in_default
 unfolding first_column
 returns-2 c =
-    let s = c.before.before.before.before.before.before.before.args.s in
-    let p = ap pivot_of (sym c.enum_told.given.1) ∙ pivot-is c.before.before in
+    let s = c.args.s in
+    let p = ap pivot_of (sym c.in_default.is) ∙ pivot-is c.before in
     kept (fitting s.fits) (matrices_of s) first_column (ap (λ v. clear_from v (matrices_of s)) (sym p))
 
-to-top-requires : tie.Need-to-top-requires
+to-top-requires : tie.Need-to_top-requires
 to-top-requires c κs =
-    let m = (matrices_of c.before.before.before.before.before.before.before.before.args.s).a in
-    low (is_zero m.a) (is_zero m.d) (is_zero m.g) c.before.i.given.0.0
-    (ap pivot_of (sym c.before.i.given.1) ∙ pivot-is c.before.before.before)
+    let m = (matrices_of c.args.s).a in
+    low (is_zero m.a) (is_zero m.d) (is_zero m.g) c.in-Row.i
+    (ap pivot_of (sym c.in-Row.is) ∙ pivot-is c.before)
 
-zero-first-column-requires : tie.Need-zero-first-column-requires
+zero-first-column-requires : tie.Need-zero_first_column-requires
 zero-first-column-requires c κs = search rules
 
-zero-first-column-requires-2 : tie.Need-zero-first-column-requires-2
+zero-first-column-requires-2 : tie.Need-zero_first_column-requires-2
 zero-first-column-requires-2 c κs = search rules
 
-returns-3 : tie.Need-returns-3
+returns-3 : tie.Need-returns
 unfolding first_column
 returns-3 c =
-    let d = c.before.before.before.before in
-    let s = d.before.before.before.before.before.before.before.args.s in
+    let d = c in
+    let s = d.args.s in
     let x = matrices_of s in
-    let i = d.i.given.0.0 in
-    let p = ap pivot_of (sym d.i.given.1) ∙ pivot-is d.before.before in
-    let n = flag-on s.fits d.before.before.before.before.before.if1.false in
+    let p = ap pivot_of (sym d.in-Row.is) ∙ pivot-is d.before.before.before.before in
+    let n = flag-on s.fits d.if-s-eq0.false in
     made (fitting s.fits) x first_column n
-    (c.zero-first-column2.ensures ∙ ap (λ r. r then zero_first_column 2) (c.before.zero-first-column.ensures ∙ ap (λ r. r then zero_first_column 1) c.before.before.to-top.ensures)
-    ∙ ap (λ (t : Bool). provided t x then to_top i then zero_first_column 1 then zero_first_column 2) n
+    (c.zero_first_column-2.ensures ∙ ap (λ r. r then zero_first_column 2) (c.zero_first_column.ensures ∙ ap (λ r. r then zero_first_column 1) c.to_top.ensures)
+    ∙ ap (λ (t : Bool). provided t x then to_top d.in-Row.i then zero_first_column 1 then zero_first_column 2) n
     ∙ ap (λ v. clear_from v x) p)
 
-pub first-column-spec : {M : Type 1} → statement M
-first-column-spec =
+pub first_column_spec : {M : Type 1} → statement M
+first_column_spec =
     tie.close
     (tie.spec
     returns

@@ -11,26 +11,26 @@ use borrow.Author.Rules.{rules}
 use Rattle.snf_steps.proofs.columns.to_top.Statement.{statement}
 use Rattle.snf_steps.proofs.columns.to_top.Tie as tie
 
-returns : tie.Need-returns
+returns : tie.Need-returns-then-i-eq0
 returns c =
-    let a = c.before.args in
+    let a = c.args in
     let x = matrices_of a.s in
-    kept (fitting a.s.fits) x (to_top a.i) (ap (λ (i : ℕ). to_top i x) c.if1.true)
+    kept (fitting a.s.fits) x (to_top a.i) (ap (λ (i : ℕ). to_top i x) c.if-i-eq0.true)
 
-elementary-swap-rows-requires : tie.Need-elementary-swap-rows-requires
+elementary-swap-rows-requires : tie.Need-elementary_swap_rows-requires
 elementary-swap-rows-requires c κs = search rules
 
 multiply-requires : tie.Need-multiply-requires
 multiply-requires c κs = search rules
 
-returns-2 : tie.Need-returns-2
+returns-2 : tie.Need-returns
 returns-2 c =
-    let a = c.before.before.before.args in
+    let a = c.args in
     let x = matrices_of a.s in
     c.multiply.ensures
-    ∙ same_step (fitting a.s.fits) x (multiply (matrix_of c.before.elementary-swap-rows.result)) (to_top a.i)
-    (λ k. pick (sym (ne_eqb a.i 0 c.before.before.if1.false) k) (ok x) (multiply (matrix_of (c.before.elementary-swap-rows.ensures k)) x))
+    ∙ same_step (fitting a.s.fits) x (multiply (matrix_of c.elementary_swap_rows.result)) (to_top a.i)
+    (λ k. pick (sym (ne_eqb a.i 0 c.if-i-eq0.false) k) (ok x) (multiply (matrix_of (c.elementary_swap_rows.ensures k)) x))
 
-pub to-top-spec : {M : Type 1} → statement M
-to-top-spec =
+pub to_top_spec : {M : Type 1} → statement M
+to_top_spec =
     tie.close (tie.spec returns elementary-swap-rows-requires multiply-requires returns-2)

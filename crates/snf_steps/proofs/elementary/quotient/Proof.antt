@@ -4,7 +4,7 @@ use Rattle.snf_steps.proofs.Fitting.{divisible}
 use Rattle.snf_steps.proofs.elementary.quotient.Statement.{statement}
 use Rattle.snf_steps.proofs.elementary.quotient.Tie as tie
 
-div-result : tie.Need-nonzero-div-result
+div-result : tie.Need-nonzero_div-result
 div-result c =
     let d = divisible c.args.a c.args.d c.requires in
     rw (to_z-of_z c.ranges.a, to_z-of_z c.ranges.d) (size-bits c.args.d c.ranges.d d.nonzero, d.fits)
@@ -12,5 +12,5 @@ div-result c =
 returns : tie.Need-returns
 returns c = rw (to_z-of_z c.ranges.a, to_z-of_z c.ranges.d) (to_z-of_z (divisible c.args.a c.args.d c.requires).fits)
 
-pub quotient-spec : {M : Type 1} → statement M
-quotient-spec = tie.close (tie.spec div-result returns)
+pub quotient_spec : {M : Type 1} → statement M
+quotient_spec = tie.close (tie.spec div-result returns)

@@ -18,60 +18,60 @@ use borrow.Author.Rules.{rules}
 use Rattle.snf_steps.proofs.finalize.finalize_disturb.Statement.{statement}
 use Rattle.snf_steps.proofs.finalize.finalize_disturb.Tie as tie
 
-fits-is : (c : tie.After-quotient-fits) → let a = c.before.args in c.quotient_fits.result ≡ quotient_fits a.y a.x
-fits-is c = c.quotient_fits.ensures ∙ ap₂ quotient_fits (to_z-of_z c.before.ranges.y) (to_z-of_z c.before.ranges.x)
+fits-is : (c : tie.After-quotient_fits) → let a = c.args in c.quotient_fits.result ≡ quotient_fits a.y a.x
+fits-is c = c.quotient_fits.ensures ∙ ap₂ quotient_fits (to_z-of_z c.ranges.y) (to_z-of_z c.ranges.x)
 
-multiple-is : (c : tie.After-is-multiple) → let a = c.before.before.before.args in c.is-multiple.result ≡ is_zero (rem_z a.y a.x)
-multiple-is c = let z = c.before.before.before in c.is-multiple.ensures ∙ ap₂ (λ (y x : ℤ). is_zero (rem_z y x)) (to_z-of_z z.ranges.y) (to_z-of_z z.ranges.x)
+multiple-is : (c : tie.After-is_multiple) → let a = c.args in c.is_multiple.result ≡ is_zero (rem_z a.y a.x)
+multiple-is c = let z = c in c.is_multiple.ensures ∙ ap₂ (λ (y x : ℤ). is_zero (rem_z y x)) (to_z-of_z z.ranges.y) (to_z-of_z z.ranges.x)
 
-quotient-fits-requires : tie.Need-quotient-fits-requires
+quotient-fits-requires : tie.Need-quotient_fits-requires
 quotient-fits-requires c κs = search rules
 
 overflowed-requires : tie.Need-overflowed-requires
 overflowed-requires c κs = search rules
 
-returns : tie.Need-returns
+returns : tie.Need-returns-then-not-quotient_fits
 unfolding finalize_disturb
 returns c =
-    let a = c.before.before.before.args in
+    let a = c.args in
     let x = three_of a.s in
     c.overflowed.ensures
     ∙ refused (fitting a.s.fits) x (finalize_disturb a.i a.j a.x a.y)
-    (λ k. provided (sym (no (fits-is c.before.before) c.before.if1.true) k) (is_zero (rem_z a.y a.x)) then λ b. when (not b) (on_columns (multiply (matrix_of (elementary_disturb_rows a.i a.j)))) x)
+    (λ k. provided (sym (no (fits-is c.before.before) c.if-not-quotient_fits.true-raw) k) (is_zero (rem_z a.y a.x)) then λ b. when (not b) (on_columns (multiply (matrix_of (elementary_disturb_rows a.i a.j)))) x)
 
-is-multiple-requires : tie.Need-is-multiple-requires
-is-multiple-requires c κs = holds (yes c.before.quotient_fits.ensures c.if1.false)
+is-multiple-requires : tie.Need-is_multiple-requires
+is-multiple-requires c κs = holds (yes c.quotient_fits.ensures c.if-not-quotient_fits.false-raw)
 
-returns-2 : tie.Need-returns-2
+returns-2 : tie.Need-returns-then-is_multiple
 unfolding finalize_disturb
 returns-2 c =
-    let d = c.before.before in
-    let a = d.before.before.args in
+    let d = c in
+    let a = d.args in
     let x = three_of a.s in
-    let m = sym (multiple-is c.before) ∙ c.if2.true in
+    let m = sym (multiple-is c.before) ∙ c.if-is_multiple.true in
     kept (fitting a.s.fits) x (finalize_disturb a.i a.j a.x a.y)
-    (λ k. provided (yes (fits-is d.before) d.if1.false k) (m k) then λ b. when (not b) (on_columns (multiply (matrix_of (elementary_disturb_rows a.i a.j)))) x)
+    (λ k. provided (yes (fits-is d.before.before.before) d.if-not-quotient_fits.false-raw k) (m k) then λ b. when (not b) (on_columns (multiply (matrix_of (elementary_disturb_rows a.i a.j)))) x)
 
-elementary-disturb-rows-requires : tie.Need-elementary-disturb-rows-requires
+elementary-disturb-rows-requires : tie.Need-elementary_disturb_rows-requires
 elementary-disturb-rows-requires c κs = search rules
 
-on-columns-requires : tie.Need-on-columns-requires
+on-columns-requires : tie.Need-on_columns-requires
 on-columns-requires c κs = search rules
 
-returns-3 : tie.Need-returns-3
+returns-3 : tie.Need-returns
 unfolding finalize_disturb
 returns-3 c =
-    let d = c.before.before.before.before in
-    let a = d.before.before.args in
+    let d = c in
+    let a = d.args in
     let x = three_of a.s in
-    let m = sym (multiple-is c.before.before.before) ∙ c.before.before.if2.false in
-    let l = c.before.elementary-disturb-rows in
-    c.on-columns.ensures
+    let m = sym (multiple-is c.before.before.before) ∙ c.if-is_multiple.false in
+    let l = c.elementary_disturb_rows in
+    c.on_columns.ensures
     ∙ same_step (fitting a.s.fits) x (on_columns (multiply (matrix_of l.result))) (finalize_disturb a.i a.j a.x a.y)
-    (λ k. provided (sym (yes (fits-is d.before) d.if1.false) k) (sym m k) then λ b. when (not b) (on_columns (multiply (matrix_of (l.ensures k)))) x)
+    (λ k. provided (sym (yes (fits-is d.before.before.before.before.before) d.if-not-quotient_fits.false-raw) k) (sym m k) then λ b. when (not b) (on_columns (multiply (matrix_of (l.ensures k)))) x)
 
-pub finalize-disturb-spec : {M : Type 1} → statement M
-finalize-disturb-spec =
+pub finalize_disturb_spec : {M : Type 1} → statement M
+finalize_disturb_spec =
     tie.close
     (tie.spec
     quotient-fits-requires

@@ -16,60 +16,60 @@ use borrow.Author.Rules.{rules}
 use Rattle.snf_steps.proofs.finalize.flip_pq.Statement.{statement}
 use Rattle.snf_steps.proofs.finalize.flip_pq.Tie as tie
 
-fits-is : (c : tie.After-det-fits) → c.det-fits.result ≡ det_fits (matrix_at c.before.before.before.args.s.p 0)
-fits-is c = c.det-fits.ensures ∙ ap (λ m. det_fits (matrix_of m)) c.before.nested.ensures
+fits-is : (c : tie.After-det_fits) → c.det_fits.result ≡ det_fits (matrix_at c.args.s.p 0)
+fits-is c = c.det_fits.ensures ∙ ap (λ m. det_fits (matrix_of m)) c.nested-p.ensures
 
-sign-is : (c : tie.After-det-i) → lt_z (held c.det-i.result) (pos 0) ≡ lt_z (det (matrix_at c.before.before.before.before.before.args.s.p 0)) (pos 0)
+sign-is : (c : tie.After-det_i) → lt_z (held c.det_i.result) (pos 0) ≡ lt_z (det (matrix_at c.args.s.p 0)) (pos 0)
 sign-is c =
-    let e : held c.det-i.result ≡ c.det-i.result = search rules in
-    ap (λ z. lt_z z (pos 0)) (e ∙ c.det-i.ensures ∙ ap (λ m. det (matrix_of m)) c.before.before.before.nested.ensures)
+    let e : held c.det_i.result ≡ c.det_i.result = search rules in
+    ap (λ z. lt_z z (pos 0)) (e ∙ c.det_i.ensures ∙ ap (λ m. det (matrix_of m)) c.nested-p.ensures)
 
-nested-requires : tie.Need-nested-requires
+nested-requires : tie.Need-nested-p-requires
 nested-requires c κs = search rules
 
-det-fits-requires : tie.Need-det-fits-requires
+det-fits-requires : tie.Need-det_fits-requires
 det-fits-requires c κs = search rules
 
 overflowed-requires : tie.Need-overflowed-requires
 overflowed-requires c κs = search rules
 
-returns : tie.Need-returns
+returns : tie.Need-returns-then-not-det_fits
 unfolding flip_pq
 returns c =
-    let s = c.before.before.before.before.before.args.s in
+    let s = c.args.s in
     let x = three_of s in
     c.overflowed.ensures
-    ∙ refused (fitting s.fits) x flip_pq (λ k. provided (sym (no (fits-is c.before.before) c.before.if1.true) k) (lt_z (det x.p) (pos 0)) then λ b. when b negate_pq x)
+    ∙ refused (fitting s.fits) x flip_pq (λ k. provided (sym (no (fits-is c.before.before) c.if-not-det_fits.true-raw) k) (lt_z (det x.p) (pos 0)) then λ b. when b negate_pq x)
 
-det-i-requires : tie.Need-det-i-requires
-det-i-requires c κs = holds (yes c.before.det-fits.ensures c.if1.false)
+det-i-requires : tie.Need-det_i-requires
+det-i-requires c κs = holds (yes c.det_fits.ensures c.if-not-det_fits.false-raw)
 
-negate-pq-requires : tie.Need-negate-pq-requires
+negate-pq-requires : tie.Need-negate_pq-requires
 negate-pq-requires c κs = search rules
 
-returns-2 : tie.Need-returns-2
+returns-2 : tie.Need-returns-then-det_i-lt0
 unfolding flip_pq
 returns-2 c =
-    let d = c.before.before.before in
-    let s = d.before.before.before.before.args.s in
+    let d = c in
+    let s = d.args.s in
     let x = three_of s in
-    let negative : lt_z (held c.before.before.det-i.result) (pos 0) ≡ true = search rules in
+    let negative : lt_z (held c.det_i.result) (pos 0) ≡ true = search rules in
     let t = sym (sign-is c.before.before) ∙ negative in
-    c.negate-pq.ensures
-    ∙ same_step (fitting s.fits) x negate_pq flip_pq (λ k. provided (sym (yes (fits-is d.before) d.if1.false) k) (sym t k) then λ b. when b negate_pq x)
+    c.negate_pq.ensures
+    ∙ same_step (fitting s.fits) x negate_pq flip_pq (λ k. provided (sym (yes (fits-is d.before.before.before.before) d.if-not-det_fits.false-raw) k) (sym t k) then λ b. when b negate_pq x)
 
-returns-3 : tie.Need-returns-3
+returns-3 : tie.Need-returns
 unfolding flip_pq
 returns-3 c =
-    let d = c.before.before in
-    let s = d.before.before.before.before.args.s in
+    let d = c in
+    let s = d.args.s in
     let x = three_of s in
-    let positive : lt_z (held c.before.det-i.result) (pos 0) ≡ false = search rules in
+    let positive : lt_z (held c.det_i.result) (pos 0) ≡ false = search rules in
     let t = sym (sign-is c.before) ∙ positive in
-    kept (fitting s.fits) x flip_pq (λ k. provided (yes (fits-is d.before) d.if1.false k) (t k) then λ b. when b negate_pq x)
+    kept (fitting s.fits) x flip_pq (λ k. provided (yes (fits-is d.before.before.before) d.if-not-det_fits.false-raw k) (t k) then λ b. when b negate_pq x)
 
-pub flip-pq-spec : {M : Type 1} → statement M
-flip-pq-spec =
+pub flip_pq_spec : {M : Type 1} → statement M
+flip_pq_spec =
     tie.close
     (tie.spec
     nested-requires

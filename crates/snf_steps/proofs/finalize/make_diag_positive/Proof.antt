@@ -19,45 +19,45 @@ row1 s = make_positive 1 s.a.e s
 abbrev row2 : Triple → Result Triple
 row2 s = make_positive 2 s.a.i s
 
-array-copy-out-make-positive : tie.Need-array-copy-out-make-positive
+array-copy-out-make-positive : tie.Need-bounds-a-0
 array-copy-out-make-positive c = search rules
 
-make-positive-requires : tie.Need-make-positive-requires
+make-positive-requires : tie.Need-make_positive-t-requires
 make-positive-requires c κs = search rules
 
-array-copy-out-make-positive-2 : tie.Need-array-copy-out-make-positive-2
+array-copy-out-make-positive-2 : tie.Need-bounds-b-4
 array-copy-out-make-positive-2 c = search rules
 
-make-positive-requires-2 : tie.Need-make-positive-requires-2
+make-positive-requires-2 : tie.Need-make_positive-u-requires
 make-positive-requires-2 c κs = search rules
 
-array-copy-out-make-positive-3 : tie.Need-array-copy-out-make-positive-3
+array-copy-out-make-positive-3 : tie.Need-bounds-c-8
 array-copy-out-make-positive-3 c = search rules
 
-make-positive-requires-3 : tie.Need-make-positive-requires-3
+make-positive-requires-3 : tie.Need-make_positive-requires
 make-positive-requires-3 c κs = search rules
 
 returns : tie.Need-returns
 unfolding make_diag_positive
 returns c =
-    let d = c.before.before.before in
-    let e = d.before.before.before in
-    let s = e.before.before.before.args.s in
-    let t = e.make-positive.result in
-    let u = d.make-positive2.result in
+    let d = c in
+    let e = d in
+    let s = e.args.s in
+    let t = e.make_positive-t.result in
+    let u = d.make_positive-u.result in
     let x = three_of s in
     let y = three_of t in
     let z = three_of u in
     let x0 : held x.a.a ≡ x.a.a = search rules in
     let y1 : held y.a.e ≡ y.a.e = search rules in
     let z2 : held z.a.i ≡ z.a.i = search rules in
-    c.make-positive3.ensures ∙ reading (fitting u.fits) z (λ s. s.a.i) (make_positive 2) z2
-    ∙ ap (λ r. r then row2) (d.make-positive2.ensures ∙ reading (fitting t.fits) y (λ s. s.a.e) (make_positive 1) y1)
-    ∙ ap (λ r. r then row1 then row2) (e.make-positive.ensures ∙ reading (fitting s.fits) x (λ s. s.a.a) (make_positive 0) x0)
+    c.make_positive.ensures ∙ reading (fitting u.fits) z (λ s. s.a.i) (make_positive 2) z2
+    ∙ ap (λ r. r then row2) (d.make_positive-u.ensures ∙ reading (fitting t.fits) y (λ s. s.a.e) (make_positive 1) y1)
+    ∙ ap (λ r. r then row1 then row2) (e.make_positive-t.ensures ∙ reading (fitting s.fits) x (λ s. s.a.a) (make_positive 0) x0)
     ∙ more-steps (triple_of s) row0 (λ r. r then row1 then row2) refl
 
-pub make-diag-positive-spec : {M : Type 1} → statement M
-make-diag-positive-spec =
+pub make_diag_positive_spec : {M : Type 1} → statement M
+make_diag_positive_spec =
     tie.close
     (tie.spec
     array-copy-out-make-positive

@@ -15,30 +15,30 @@ use borrow.Author.Rules.{rules}
 use Rattle.snf_steps.proofs.finalize.make_positive.Statement.{statement}
 use Rattle.snf_steps.proofs.finalize.make_positive.Tie as tie
 
-elementary-flip-sign-row-requires : tie.Need-elementary-flip-sign-row-requires
+elementary-flip-sign-row-requires : tie.Need-elementary_flip_sign_row-requires
 elementary-flip-sign-row-requires c κs = search rules
 
-on-rows-requires : tie.Need-on-rows-requires
+on-rows-requires : tie.Need-on_rows-requires
 on-rows-requires c κs = search rules
 
-returns : tie.Need-returns
+returns : tie.Need-returns-then-x-lt0
 returns c =
-    let z = c.before.before.before in
+    let z = c in
     let a = z.args in
     let x = three_of a.s in
-    let t : lt_z a.x (pos 0) ≡ true = rw (to_z-of_z z.ranges.x) at c.before.before.if1.true in
-    let l = c.before.elementary-flip-sign-row in
-    c.on-rows.ensures
+    let t : lt_z a.x (pos 0) ≡ true = rw (to_z-of_z z.ranges.x) at c.if-x-lt0.true in
+    let l = c.elementary_flip_sign_row in
+    c.on_rows.ensures
     ∙ same_step (fitting a.s.fits) x (on_rows (multiply (matrix_of l.result))) (make_positive a.i a.x) (λ k. when (sym t k) (on_rows (multiply (matrix_of (l.ensures k)))) x)
 
-returns-2 : tie.Need-returns-2
+returns-2 : tie.Need-returns
 returns-2 c =
-    let z = c.before in
+    let z = c in
     let a = z.args in
     let x = three_of a.s in
-    let t : lt_z a.x (pos 0) ≡ false = rw (to_z-of_z z.ranges.x) at c.if1.false in
+    let t : lt_z a.x (pos 0) ≡ false = rw (to_z-of_z z.ranges.x) at c.if-x-lt0.false in
     kept (fitting a.s.fits) x (make_positive a.i a.x) (λ k. when (t k) (on_rows (multiply (matrix_of (elementary_flip_sign_row a.i)))) x)
 
-pub make-positive-spec : {M : Type 1} → statement M
-make-positive-spec =
+pub make_positive_spec : {M : Type 1} → statement M
+make_positive_spec =
     tie.close (tie.spec elementary-flip-sign-row-requires on-rows-requires returns returns-2)

@@ -10,26 +10,26 @@ use borrow.Author.Rules.{rules}
 use Rattle.snf_steps.proofs.finalize.order.Statement.{statement}
 use Rattle.snf_steps.proofs.finalize.order.Tie as tie
 
-swap-diag-elems-requires : tie.Need-swap-diag-elems-requires
+swap-diag-elems-requires : tie.Need-swap_diag_elems-requires
 swap-diag-elems-requires c κs = search rules
 
-returns : tie.Need-returns
+returns : tie.Need-returns-then-x-y
 returns c =
-    let z = c.before.before in
+    let z = c in
     let a = z.args in
     let x = three_of a.s in
-    let test = rw (to_z-of_z z.ranges.y, to_z-of_z z.ranges.x) at c.before.if1.true in
+    let test = rw (to_z-of_z z.ranges.y, to_z-of_z z.ranges.x) at c.if-x-y.true in
     let t : lt_z a.y a.x ≡ true = search rules in
-    c.swap-diag-elems.ensures ∙ same_step (fitting a.s.fits) x (swap_diag_elems a.i a.j) (order a.i a.j a.x a.y) (λ k. when (sym t k) (swap_diag_elems a.i a.j) x)
+    c.swap_diag_elems.ensures ∙ same_step (fitting a.s.fits) x (swap_diag_elems a.i a.j) (order a.i a.j a.x a.y) (λ k. when (sym t k) (swap_diag_elems a.i a.j) x)
 
-returns-2 : tie.Need-returns-2
+returns-2 : tie.Need-returns
 returns-2 c =
-    let z = c.before in
+    let z = c in
     let a = z.args in
     let x = three_of a.s in
-    let test = rw (to_z-of_z z.ranges.y, to_z-of_z z.ranges.x) at c.if1.false in
+    let test = rw (to_z-of_z z.ranges.y, to_z-of_z z.ranges.x) at c.if-x-y.false in
     let t : lt_z a.y a.x ≡ false = search rules in
     kept (fitting a.s.fits) x (order a.i a.j a.x a.y) (λ k. when (t k) (swap_diag_elems a.i a.j) x)
 
-pub order-spec : {M : Type 1} → statement M
-order-spec = tie.close (tie.spec swap-diag-elems-requires returns returns-2)
+pub order_spec : {M : Type 1} → statement M
+order_spec = tie.close (tie.spec swap-diag-elems-requires returns returns-2)

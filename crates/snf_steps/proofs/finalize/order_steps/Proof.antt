@@ -8,33 +8,33 @@ use borrow.Author.Rules.{rules}
 use Rattle.snf_steps.proofs.finalize.order_steps.Statement.{statement}
 use Rattle.snf_steps.proofs.finalize.order_steps.Tie as tie
 
-finalize-sort-requires : tie.Need-finalize-sort-requires
+finalize-sort-requires : tie.Need-finalize_sort-requires
 finalize-sort-requires c κs = search rules
 
 disturb01-requires : tie.Need-disturb01-requires
 disturb01-requires c κs = search rules
 
-first-left-requires : tie.Need-first-left-requires
+first-left-requires : tie.Need-first_left-t-requires
 first-left-requires c κs = search rules
 
-finalize-sort-requires-2 : tie.Need-finalize-sort-requires-2
+finalize-sort-requires-2 : tie.Need-finalize_sort-requires-2
 finalize-sort-requires-2 c κs = search rules
 
 disturb12-requires : tie.Need-disturb12-requires
 disturb12-requires c κs = search rules
 
-second-left-requires : tie.Need-second-left-requires
+second-left-requires : tie.Need-second_left-requires
 second-left-requires c κs = search rules
 
 returns : tie.Need-returns
 unfolding put_in_order
 returns c =
-    let s = c.before.before.before.before.before.before.args.s in
-    let e : triple_of c.second-left.result ≡ (triple_of s then finalize_sort then disturb01 then leaving first then finalize_sort then disturb12 then leaving second) = cc in
+    let s = c.args.s in
+    let e : triple_of c.second_left.result ≡ (triple_of s then finalize_sort then disturb01 then leaving first then finalize_sort then disturb12 then leaving second) = cc in
     e ∙ more-steps (triple_of s) finalize_sort (λ r. r then disturb01 then leaving first then finalize_sort then disturb12 then leaving second) refl
 
-pub order-steps-spec : {M : Type 1} → statement M
-order-steps-spec =
+pub order_steps_spec : {M : Type 1} → statement M
+order_steps_spec =
     tie.close
     (tie.spec
     finalize-sort-requires

@@ -12,17 +12,17 @@ use Rattle.snf_steps.proofs.finalize.put_in_order.Tie as tie
 settled-requires : tie.Need-settled-requires
 settled-requires c κs = search rules
 
-returns : tie.Need-returns
+returns : tie.Need-returns-then-settled
 returns c =
-    let v = c.before in
-    let s = v.before.before.args.s in
-    kept (fitting s.fits) (three_of s) put_in_order (settled-kept (three_of s) (holds (sym v.settled.ensures ∙ c.if1.true)))
+    let v = c in
+    let s = v.args.s in
+    kept (fitting s.fits) (three_of s) put_in_order (settled-kept (three_of s) (holds (sym v.settled.ensures ∙ c.if-settled.true)))
 
-order-steps-requires : tie.Need-order-steps-requires
+order-steps-requires : tie.Need-order_steps-requires
 order-steps-requires c κs = search rules
 
-returns-2 : tie.Need-returns-2
+returns-2 : tie.Need-returns
 returns-2 c = search rules
 
-pub put-in-order-spec : {M : Type 1} → statement M
-put-in-order-spec = tie.close (tie.spec settled-requires returns order-steps-requires returns-2)
+pub put_in_order_spec : {M : Type 1} → statement M
+put_in_order_spec = tie.close (tie.spec settled-requires returns order-steps-requires returns-2)

@@ -3,10 +3,10 @@ use Rattle.snf_steps.proofs.Fitting.{product-fits, less-fits}
 use Rattle.snf_steps.proofs.gcd.less.Statement.{statement}
 use Rattle.snf_steps.proofs.gcd.less.Tie as tie
 
-mul-result : tie.Need-overflow-mul-result
+mul-result : tie.Need-overflow_mul-result
 mul-result c = rw (to_z-of_z c.ranges.q, to_z-of_z c.ranges.y) (product-fits c.args.x c.args.q c.args.y c.requires)
 
-sub-result : tie.Need-overflow-sub-result
+sub-result : tie.Need-overflow_sub-result
 sub-result c =
     let f = product-fits c.args.x c.args.q c.args.y c.requires in
     rw (to_z-of_z c.ranges.x, to_z-of_z c.ranges.q, to_z-of_z c.ranges.y, to_z-of_z f) (less-fits c.args.x c.args.q c.args.y c.requires)
@@ -16,5 +16,5 @@ returns c =
     let f = product-fits c.args.x c.args.q c.args.y c.requires in
     rw (to_z-of_z c.ranges.x, to_z-of_z c.ranges.q, to_z-of_z c.ranges.y, to_z-of_z f) (to_z-of_z (less-fits c.args.x c.args.q c.args.y c.requires))
 
-pub less-spec : {M : Type 1} → statement M
-less-spec = tie.close (tie.spec mul-result sub-result returns)
+pub less_spec : {M : Type 1} → statement M
+less_spec = tie.close (tie.spec mul-result sub-result returns)

@@ -9,27 +9,27 @@ use borrow.Author.Tests.{not-false}
 use Rattle.snf_steps.proofs.gcd.less_fits.Statement.{statement}
 use Rattle.snf_steps.proofs.gcd.less_fits.Tie as tie
 
-mul-fits-requires : tie.Need-mul-fits-requires
+mul-fits-requires : tie.Need-mul_fits-requires
 mul-fits-requires c κs = search rules
 
-returns : tie.Need-returns
+returns : tie.Need-returns-then-not-mul_fits
 returns c =
-    let s = c.before.before in
-    ends (c.before.mul-fits.ensures ∙ ap₂ (λ q y. fits64 (q *ℤ y)) (to_z-of_z s.ranges.q) (to_z-of_z s.ranges.y)) _ c.if1.true
+    let s = c in
+    ends (c.mul_fits.ensures ∙ ap₂ (λ q y. fits64 (q *ℤ y)) (to_z-of_z s.ranges.q) (to_z-of_z s.ranges.y)) _ c.if-not-mul_fits.true-raw
 
-mul-sub-fits : tie.Need-overflow-mul-sub-fits
-mul-sub-fits c = test_fits _ c.before.mul-fits.ensures (not-false _ c.if1.false)
+mul-sub-fits : tie.Need-overflow_mul-q
+mul-sub-fits c = test_fits _ c.mul_fits.ensures (not-false _ c.if-not-mul_fits.false-raw)
 
-sub-fits-requires : tie.Need-sub-fits-requires
+sub-fits-requires : tie.Need-sub_fits-requires
 sub-fits-requires c κs = search rules
 
-returns-2 : tie.Need-returns-2
+returns-2 : tie.Need-returns
 returns-2 c =
-    let s = c.before.before.before in
+    let s = c in
     let m = ap₂ ◌*ℤ◌ (to_z-of_z s.ranges.q) (to_z-of_z s.ranges.y) in
-    let f = test_fits _ c.before.before.mul-fits.ensures (not-false _ c.before.if1.false) in
-    goes_on (c.before.before.mul-fits.ensures ∙ ap fits64 m) c.before.if1.false
-    (c.sub-fits.ensures ∙ ap₂ (λ x p. fits64 (x -ℤ p)) (to_z-of_z s.ranges.x) (to_z-of_z f ∙ m))
+    let f = test_fits _ c.mul_fits.ensures (not-false _ c.if-not-mul_fits.false-raw) in
+    goes_on (c.mul_fits.ensures ∙ ap fits64 m) c.if-not-mul_fits.false-raw
+    (c.sub_fits.ensures ∙ ap₂ (λ x p. fits64 (x -ℤ p)) (to_z-of_z s.ranges.x) (to_z-of_z f ∙ m))
 
-pub less-fits-spec : {M : Type 1} → statement M
-less-fits-spec = tie.close (tie.spec mul-fits-requires returns mul-sub-fits sub-fits-requires returns-2)
+pub less_fits_spec : {M : Type 1} → statement M
+less_fits_spec = tie.close (tie.spec mul-fits-requires returns mul-sub-fits sub-fits-requires returns-2)

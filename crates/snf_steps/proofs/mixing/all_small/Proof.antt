@@ -6,33 +6,33 @@ use borrow.Author.Rules.{rules}
 use Rattle.snf_steps.proofs.mixing.all_small.Statement.{statement}
 use Rattle.snf_steps.proofs.mixing.all_small.Tie as tie
 
-small-combination-requires : tie.Need-small-combination-requires
+small-combination-requires : tie.Need-small_combination-requires
 small-combination-requires c κs = search rules
 
-returns : tie.Need-returns
+returns : tie.Need-returns-then-not-small_combination
 returns c =
-    let s = c.before.before in
-    ends c.before.small-combination.ensures (small_matrix (matrix_of s.args.a) && small_matrix (matrix_of s.args.p)) c.if1.true
+    let s = c in
+    ends c.small_combination.ensures (small_matrix (matrix_of s.args.a) && small_matrix (matrix_of s.args.p)) c.if-not-small_combination.true-raw
 
-matrix-within-requires : tie.Need-matrix-within-requires
+matrix-within-requires : tie.Need-matrix_within-requires
 matrix-within-requires c κs = search rules
 
-returns-2 : tie.Need-returns-2
+returns-2 : tie.Need-returns-then-not-matrix_within
 returns-2 c =
-    let t = c.before.before.before in
-    let s = t.before in
-    goes_on t.small-combination.ensures c.before.before.if1.false (ends c.before.matrix-within.ensures (small_matrix (matrix_of s.args.p)) c.if2.true)
+    let t = c in
+    let s = t in
+    goes_on t.small_combination.ensures c.if-not-small_combination.false-raw (ends c.matrix_within.ensures (small_matrix (matrix_of s.args.p)) c.if-not-matrix_within.true-raw)
 
-matrix-within-requires-2 : tie.Need-matrix-within-requires-2
+matrix-within-requires-2 : tie.Need-matrix_within-requires-2
 matrix-within-requires-2 c κs = search rules
 
-returns-3 : tie.Need-returns-3
+returns-3 : tie.Need-returns
 returns-3 c =
-    let a = c.before.before in
-    goes_on a.before.before.small-combination.ensures a.before.if1.false (goes_on a.matrix-within.ensures c.before.if2.false c.matrix-within2.ensures)
+    let a = c in
+    goes_on a.small_combination.ensures a.if-not-small_combination.false-raw (goes_on a.matrix_within.ensures c.if-not-matrix_within.false-raw c.matrix_within-2.ensures)
 
-pub all-small-spec : {M : Type 1} → statement M
-all-small-spec =
+pub all_small_spec : {M : Type 1} → statement M
+all_small_spec =
     tie.close
     (tie.spec
     small-combination-requires

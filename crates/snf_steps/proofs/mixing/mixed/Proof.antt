@@ -33,26 +33,26 @@ module _ (z : tie.Start) where
   eu = search rules
 
   -- at the rows that the tests say
-  at : (i j : ℕ) → i ≡ z.args.i → j ≡ z.args.j → combination_matrix i j (numbers_of z.args.c) · matrix_of z.args.t4 ≡ combination_matrix z.args.i z.args.j (numbers_of z.args.c) · matrix_of z.args.t4
-  at i j e f n = combination_matrix (e n) (f n) (numbers_of z.args.c) · matrix_of z.args.t4
+  at : (i j : ℕ) → i ≡ z.args.i → j ≡ z.args.j → combination_matrix i j (numbers_of z.args.c) · matrix_of z.args.m ≡ combination_matrix z.args.i z.args.j (numbers_of z.args.c) · matrix_of z.args.m
+  at i j e f n = combination_matrix (e n) (f n) (numbers_of z.args.c) · matrix_of z.args.m
 
 -- rows p and q
 module _ (z : tie.Start) (p q : Axis) where
   abbrev x : List ℤ
-  x = get_or z.args.t4 (number p) []
+  x = get_or z.args.m (number p) []
 
   abbrev y : List ℤ
-  y = get_or z.args.t4 (number q) []
+  y = get_or z.args.m (number q) []
 
   first_small : T (small (held z.args.c.s) && small (held z.args.c.t)) × T (small_row (along x)) × T (small_row (along y))
   first_small =
       let k = z.args.c in
-      (held_small (es z) (et z) (and_l (small k.s && small k.t) (small k.v && small k.u) z.pre.2), rows-small z.args.t4 z.pre.3 p, rows-small z.args.t4 z.pre.3 q)
+      (held_small (es z) (et z) (and_l (small k.s && small k.t) (small k.v && small k.u) z.requires.2), rows-small z.args.m z.requires.3 p, rows-small z.args.m z.requires.3 q)
 
   second-small : T (small (held z.args.c.v) && small (held z.args.c.u)) × T (small_row (along x)) × T (small_row (along y))
   second-small =
       let k = z.args.c in
-      (held_small (ev z) (eu z) (and_r (small k.s && small k.t) (small k.v && small k.u) z.pre.2), rows-small z.args.t4 z.pre.3 p, rows-small z.args.t4 z.pre.3 q)
+      (held_small (ev z) (eu z) (and_r (small k.s && small k.t) (small k.v && small k.u) z.requires.2), rows-small z.args.m z.requires.3 p, rows-small z.args.m z.requires.3 q)
 
   first-row : {r : List ℤ} → r ≡ items (vector (λ k. held z.args.c.s *ℤ along x k +ℤ held z.args.c.t *ℤ along y k)) → r ≡ items (vector (λ k. z.args.c.s *ℤ along x k +ℤ z.args.c.t *ℤ along y k))
   first-row = held-row z.args.c.s z.args.c.t x y (es z) (et z)
@@ -60,62 +60,62 @@ module _ (z : tie.Start) (p q : Axis) where
   second-row : {r : List ℤ} → r ≡ items (vector (λ k. held z.args.c.v *ℤ along x k +ℤ held z.args.c.u *ℤ along y k)) → r ≡ items (vector (λ k. z.args.c.v *ℤ along x k +ℤ z.args.c.u *ℤ along y k))
   second-row = held-row z.args.c.v z.args.c.u x y (ev z) (eu z)
 
-array-copy-out-x : tie.Need-array-copy-out-x
+array-copy-out-x : tie.Need-bounds-m-0
 array-copy-out-x c = search rules
 
-array-copy-out-y : tie.Need-array-copy-out-y
+array-copy-out-y : tie.Need-bounds-m-1
 array-copy-out-y c = search rules
 
-array-copy-out-z : tie.Need-array-copy-out-z
+array-copy-out-z : tie.Need-bounds-m-2
 array-copy-out-z c = search rules
 
-mix-rows-requires : tie.Need-mix-rows-requires
+mix-rows-requires : tie.Need-mix_rows-requires
 mix-rows-requires c κs = first_small c.before.before.before.before.before.before Y Z
 
-mix-rows-requires-2 : tie.Need-mix-rows-requires-2
+mix-rows-requires-2 : tie.Need-mix_rows-requires-then-i-ne0
 mix-rows-requires-2 c κs = second-small c.before.before.before.before.before.before.before.before.before Y Z
 
-returns : tie.Need-returns
+returns : tie.Need-returns-then-i-ne0
 returns c =
     let z = c.before.before.before.before.before.before.before.before.before.before in
-    let m = z.args.t4 in
-    let x = first-row z Y Z c.before.before.before.mix-rows.ensures in
-    let y = second-row z Y Z c.mix-rows2.ensures in
+    let m = z.args.m in
+    let x = first-row z Y Z c.mix_rows.ensures in
+    let y = second-row z Y Z c.mix_rows-then-i-ne0.ensures in
     (λ n. matrix_of (get_or m 0 [] ∷ x n ∷ y n ∷ [])) ∙ sym (combine-12 z.args.c.s z.args.c.t z.args.c.v z.args.c.u (matrix_of m))
-    ∙ at z 1 2 (omega (arith, z.requires.0, z.requires.1, c.before.before.before.before.before.before.if1.true)) (omega (arith, z.requires.0, z.requires.1, c.before.before.before.before.before.before.if1.true))
+    ∙ at z 1 2 (omega (arith, z.requires.0, z.requires.1, c.if-i-ne0.true)) (omega (arith, z.requires.0, z.requires.1, c.if-i-ne0.true))
 
-mix-rows-requires-3 : tie.Need-mix-rows-requires-3
+mix-rows-requires-3 : tie.Need-mix_rows-requires-then-j-eq1
 mix-rows-requires-3 c κs = first_small c.before.before.before.before.before.before.before X Y
 
-mix-rows-requires-4 : tie.Need-mix-rows-requires-4
+mix-rows-requires-4 : tie.Need-mix_rows-requires-then-j-eq1-2
 mix-rows-requires-4 c κs = second-small c.before.before.before.before.before.before.before.before.before.before X Y
 
-returns-2 : tie.Need-returns-2
+returns-2 : tie.Need-returns-then-j-eq1
 returns-2 c =
     let z = c.before.before.before.before.before.before.before.before.before.before.before in
-    let m = z.args.t4 in
-    let x = first-row z X Y c.before.before.before.mix-rows3.ensures in
-    let y = second-row z X Y c.mix-rows4.ensures in
+    let m = z.args.m in
+    let x = first-row z X Y c.mix_rows-then-j-eq1.ensures in
+    let y = second-row z X Y c.mix_rows-then-j-eq1-2.ensures in
     (λ n. matrix_of (x n ∷ y n ∷ get_or m 2 [] ∷ [])) ∙ sym (combine-01 z.args.c.s z.args.c.t z.args.c.v z.args.c.u (matrix_of m))
-    ∙ at z 0 1 (omega (arith, z.requires.0, z.requires.1, c.before.before.before.before.before.before.before.if1.false, c.before.before.before.before.before.before.if2.true)) (omega (arith, z.requires.0, z.requires.1, c.before.before.before.before.before.before.before.if1.false, c.before.before.before.before.before.before.if2.true))
+    ∙ at z 0 1 (omega (arith, z.requires.0, z.requires.1, c.if-i-ne0.false, c.if-j-eq1.true)) (omega (arith, z.requires.0, z.requires.1, c.if-i-ne0.false, c.if-j-eq1.true))
 
-mix-rows-requires-5 : tie.Need-mix-rows-requires-5
+mix-rows-requires-5 : tie.Need-mix_rows-requires-2
 mix-rows-requires-5 c κs = first_small c.before.before.before.before.before.before.before X Z
 
-mix-rows-requires-6 : tie.Need-mix-rows-requires-6
+mix-rows-requires-6 : tie.Need-mix_rows-requires-3
 mix-rows-requires-6 c κs = second-small c.before.before.before.before.before.before.before.before.before.before X Z
 
-returns-3 : tie.Need-returns-3
+returns-3 : tie.Need-returns
 returns-3 c =
     let z = c.before.before.before.before.before.before.before.before.before.before.before in
-    let m = z.args.t4 in
-    let x = first-row z X Z c.before.before.before.mix-rows5.ensures in
-    let y = second-row z X Z c.mix-rows6.ensures in
+    let m = z.args.m in
+    let x = first-row z X Z c.mix_rows-2.ensures in
+    let y = second-row z X Z c.mix_rows-3.ensures in
     (λ n. matrix_of (x n ∷ get_or m 1 [] ∷ y n ∷ [])) ∙ sym (combine-02 z.args.c.s z.args.c.t z.args.c.v z.args.c.u (matrix_of m))
-    ∙ at z 0 2 (omega (arith, z.requires.0, z.requires.1, c.before.before.before.before.before.before.before.if1.false, c.before.before.before.before.before.before.if2.false)) (omega (arith, z.requires.0, z.requires.1, c.before.before.before.before.before.before.before.if1.false, c.before.before.before.before.before.before.if2.false))
+    ∙ at z 0 2 (omega (arith, z.requires.0, z.requires.1, c.if-i-ne0.false, c.if-j-eq1.false)) (omega (arith, z.requires.0, z.requires.1, c.if-i-ne0.false, c.if-j-eq1.false))
 
-pub mixed-spec : {M : Type 1} → statement M
-mixed-spec =
+pub mixed_spec : {M : Type 1} → statement M
+mixed_spec =
     tie.close
     (tie.spec
     array-copy-out-x

@@ -6,11 +6,11 @@ use borrow.Author.Rules.{rules}
 use Rattle.snf_steps.proofs.stages.columns_of.Statement.{statement}
 use Rattle.snf_steps.proofs.stages.columns_of.Tie as tie
 
-transposed-requires : tie.Need-transposed-requires
+transposed-requires : tie.Need-transposed-t-requires
 transposed-requires c κs = search rules
 
 returns : tie.Need-returns
-returns c = let s = c.before.before.before.args.s in ap (λ l. provided (fitting s.fits) (record { a = matrix_at l 0; p = (three_of s).q })) c.transposed.ensures
+returns c = let s = c.args.s in ap (λ l. provided (fitting s.fits) (record { a = matrix_at l 0; p = (three_of s).q })) c.transposed-t.ensures
 
-pub columns-of-spec : {M : Type 1} → statement M
-columns-of-spec = tie.close (tie.spec transposed-requires returns)
+pub columns_of_spec : {M : Type 1} → statement M
+columns_of_spec = tie.close (tie.spec transposed-requires returns)

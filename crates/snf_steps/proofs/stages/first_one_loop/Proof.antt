@@ -9,38 +9,38 @@ use borrow.Author.Rules.{rules}
 use Rattle.snf_steps.proofs.stages.first_one_loop.Statement.{statement}
 use Rattle.snf_steps.proofs.stages.first_one_loop.Tie as tie
 
-rows-of-requires : tie.Need-rows-of-requires
+rows-of-requires : tie.Need-rows_of-requires
 rows-of-requires c κs = search rules
 
-first-column-requires : tie.Need-first-column-requires
+first-column-requires : tie.Need-first_column-requires
 first-column-requires c κs = search rules
 
-with-rows-requires : tie.Need-with-rows-requires
+with-rows-requires : tie.Need-with_rows-t-requires
 with-rows-requires c κs = search rules
 
-columns-of-requires : tie.Need-columns-of-requires
+columns-of-requires : tie.Need-columns_of-requires
 columns-of-requires c κs = search rules
 
-first-column-requires-2 : tie.Need-first-column-requires-2
+first-column-requires-2 : tie.Need-first_column-requires-2
 first-column-requires-2 c κs = search rules
 
-with-columns-requires : tie.Need-with-columns-requires
+with-columns-requires : tie.Need-with_columns-requires
 with-columns-requires c κs = search rules
 
 returns : tie.Need-returns
 unfolding one_loop
 returns c =
-    let t = c.before.before.before in
-    let s = t.before.before.before.args.s in
-    let u = t.before.first-column.result in
-    let v = c.before.first-column2.result in
-    let w = t.with_rows.result in
-    let rows = t.with_rows.ensures ∙ part_step rows_of with_rows first_column (fitting s.fits) (fitting u.fits) (three_of s) (matrices_of u) (t.before.first-column.ensures ∙ ap (λ r. r then first_column) t.before.before.rows-of.ensures) in
-    c.with-columns.ensures ∙ part_step columns_of with_columns first_column (fitting w.fits) (fitting v.fits) (three_of w) (matrices_of v) (c.before.first-column2.ensures ∙ ap (λ r. r then first_column) c.before.before.columns_of.ensures)
+    let t = c in
+    let s = t.args.s in
+    let u = t.first_column.result in
+    let v = c.first_column-2.result in
+    let w = t.with_rows-t.result in
+    let rows = t.with_rows-t.ensures ∙ part_step rows_of with_rows first_column (fitting s.fits) (fitting u.fits) (three_of s) (matrices_of u) (t.first_column.ensures ∙ ap (λ r. r then first_column) t.rows_of.ensures) in
+    c.with_columns.ensures ∙ part_step columns_of with_columns first_column (fitting w.fits) (fitting v.fits) (three_of w) (matrices_of v) (c.first_column-2.ensures ∙ ap (λ r. r then first_column) c.columns_of.ensures)
     ∙ ap (λ r. r then on_columns first_column) rows ∙ two_steps (triple_of s) (on_rows first_column) (on_columns first_column)
 
-pub first-one-loop-spec : {M : Type 1} → statement M
-first-one-loop-spec =
+pub first_one_loop_spec : {M : Type 1} → statement M
+first_one_loop_spec =
     tie.close
     (tie.spec
     rows-of-requires

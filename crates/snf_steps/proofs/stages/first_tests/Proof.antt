@@ -21,110 +21,110 @@ abbrev by : (d y z : ℤ) → Triple → (zero fits-y multiple-y fits-z multiple
 by d y z x zero fits-y multiple-y fits-z multiple-z =
     pick zero (through x) (provided fits-y multiple-y then λ b. pick b (provided fits-z multiple-z then λ c. pick c (first_finalize d y z x) (again x)) (again x))
 
-zeros : (c : tie.After-both-zero) → let s = c.before in c.both_zero.result ≡ is_zero s.args.y && is_zero s.args.z
-zeros c = let s = c.before in c.both_zero.ensures ∙ (λ i. is_zero (to_z-of_z s.ranges.y i) && is_zero (to_z-of_z s.ranges.z i))
+zeros : (c : tie.After-both_zero) → let s = c.before in c.both_zero.result ≡ is_zero s.args.y && is_zero s.args.z
+zeros c = let s = c in c.both_zero.ensures ∙ (λ i. is_zero (to_z-of_z s.ranges.y i) && is_zero (to_z-of_z s.ranges.z i))
 
-left : (c : tie.After-both-zero) → let s = c.before in c.both_zero.result ≡ false → false ≡ is_zero s.args.y && is_zero s.args.z
+left : (c : tie.After-both_zero) → let s = c in c.both_zero.result ≡ false → false ≡ is_zero s.args.y && is_zero s.args.z
 left c e = sym (sym (zeros c) ∙ e)
 
-y-fits : (c : tie.After-quotient-fits) → let s = c.before.before.before in c.quotient_fits.result ≡ quotient_fits s.args.y s.args.d
-y-fits c = let s = c.before.before.before in c.quotient_fits.ensures ∙ ap₂ quotient_fits (to_z-of_z s.ranges.y) (to_z-of_z s.ranges.d)
+y-fits : (c : tie.After-quotient_fits) → let s = c.before.before.before in c.quotient_fits.result ≡ quotient_fits s.args.y s.args.d
+y-fits c = let s = c in c.quotient_fits.ensures ∙ ap₂ quotient_fits (to_z-of_z s.ranges.y) (to_z-of_z s.ranges.d)
 
-y-multiple : (c : tie.After-is-multiple) → let s = c.before.before.before.before.before in c.is-multiple.result ≡ is_zero (rem_z s.args.y s.args.d)
-y-multiple c = let s = c.before.before.before.before.before in c.is-multiple.ensures ∙ ap₂ (λ y d. is_zero (rem_z y d)) (to_z-of_z s.ranges.y) (to_z-of_z s.ranges.d)
+y-multiple : (c : tie.After-is_multiple) → let s = c.before.before.before.before.before in c.is_multiple.result ≡ is_zero (rem_z s.args.y s.args.d)
+y-multiple c = let s = c in c.is_multiple.ensures ∙ ap₂ (λ y d. is_zero (rem_z y d)) (to_z-of_z s.ranges.y) (to_z-of_z s.ranges.d)
 
-z-fits : (c : tie.After-quotient-fits2) → let s = c.before.before.before.before.before.before.before in c.quotient-fits2.result ≡ quotient_fits s.args.z s.args.d
-z-fits c = let s = c.before.before.before.before.before.before.before in c.quotient-fits2.ensures ∙ ap₂ quotient_fits (to_z-of_z s.ranges.z) (to_z-of_z s.ranges.d)
+z-fits : (c : tie.After-quotient_fits-2) → let s = c.before.before.before.before.before.before.before in c.quotient_fits-2.result ≡ quotient_fits s.args.z s.args.d
+z-fits c = let s = c in c.quotient_fits-2.ensures ∙ ap₂ quotient_fits (to_z-of_z s.ranges.z) (to_z-of_z s.ranges.d)
 
-z-multiple : (c : tie.After-is-multiple2) → let s = c.before.before.before.before.before.before.before.before.before in c.is-multiple2.result ≡ is_zero (rem_z s.args.z s.args.d)
-z-multiple c = let s = c.before.before.before.before.before.before.before.before.before in c.is-multiple2.ensures ∙ ap₂ (λ z d. is_zero (rem_z z d)) (to_z-of_z s.ranges.z) (to_z-of_z s.ranges.d)
+z-multiple : (c : tie.After-is_multiple-2) → let s = c.before.before.before.before.before.before.before.before.before in c.is_multiple-2.result ≡ is_zero (rem_z s.args.z s.args.d)
+z-multiple c = let s = c in c.is_multiple-2.ensures ∙ ap₂ (λ z d. is_zero (rem_z z d)) (to_z-of_z s.ranges.z) (to_z-of_z s.ranges.d)
 
-both-zero-requires : tie.Need-both-zero-requires
+both-zero-requires : tie.Need-both_zero-requires
 both-zero-requires c κs = search rules
 
-returns : tie.Need-returns
+returns : tie.Need-returns-then-both_zero
 returns c =
-    let s = c.before.before in
+    let s = c in
     let a = s.args in
     kept (fitting a.s.fits) (three_of a.s) (first_tests a.d a.y a.z)
-    (λ k. by a.d a.y a.z (three_of a.s) ((sym (zeros c.before) ∙ c.if1.true) k) (quotient_fits a.y a.d) (is_zero (rem_z a.y a.d)) (quotient_fits a.z a.d) (is_zero (rem_z a.z a.d)))
+    (λ k. by a.d a.y a.z (three_of a.s) ((sym (zeros c.before) ∙ c.if-both_zero.true) k) (quotient_fits a.y a.d) (is_zero (rem_z a.y a.d)) (quotient_fits a.z a.d) (is_zero (rem_z a.z a.d)))
 
-quotient-fits-requires : tie.Need-quotient-fits-requires
+quotient-fits-requires : tie.Need-quotient_fits-requires
 quotient-fits-requires c κs = search rules
 
 stopped-requires : tie.Need-stopped-requires
 stopped-requires c κs = search rules
 
-returns-2 : tie.Need-returns-2
+returns-2 : tie.Need-returns-then-not-quotient_fits
 returns-2 c =
     let y = c.before.before in
     let o = y.before.before in
-    let a = o.before.args in
+    let a = o.args in
     c.stopped.ensures ∙ refused (fitting a.s.fits) (three_of a.s) (first_tests a.d a.y a.z)
-    (λ k. by a.d a.y a.z (three_of a.s) (left o y.before.if1.false k) (sym (no (y-fits y) c.before.if2.true) k) (is_zero (rem_z a.y a.d)) (quotient_fits a.z a.d) (is_zero (rem_z a.z a.d)))
+    (λ k. by a.d a.y a.z (three_of a.s) (left o y.if-both_zero.false k) (sym (no (y-fits y) c.if-not-quotient_fits.true-raw) k) (is_zero (rem_z a.y a.d)) (quotient_fits a.z a.d) (is_zero (rem_z a.z a.d)))
 
-is-multiple-requires : tie.Need-is-multiple-requires
-is-multiple-requires c κs = holds (yes c.before.quotient_fits.ensures c.if2.false)
+is-multiple-requires : tie.Need-is_multiple-requires
+is-multiple-requires c κs = holds (yes c.quotient_fits.ensures c.if-not-quotient_fits.false-raw)
 
-returns-3 : tie.Need-returns-3
+returns-3 : tie.Need-returns-then-not-is_multiple
 returns-3 c =
     let m = c.before in
     let y = m.before.before in
     let o = y.before.before in
-    let a = o.before.args in
+    let a = o.args in
     kept (fitting a.s.fits) (three_of a.s) (first_tests a.d a.y a.z)
-    (λ k. by a.d a.y a.z (three_of a.s) (sym (left o y.before.if1.false) k) (yes (y-fits y) m.before.if2.false k) (no (y-multiple m) c.if3.true k) (quotient_fits a.z a.d) (is_zero (rem_z a.z a.d)))
+    (λ k. by a.d a.y a.z (three_of a.s) (sym (left o y.if-both_zero.false) k) (yes (y-fits y) m.if-not-quotient_fits.false-raw k) (no (y-multiple m) c.if-not-is_multiple.true-raw k) (quotient_fits a.z a.d) (is_zero (rem_z a.z a.d)))
 
-quotient-fits-requires-2 : tie.Need-quotient-fits-requires-2
+quotient-fits-requires-2 : tie.Need-quotient_fits-requires-2
 quotient-fits-requires-2 c κs = search rules
 
-stopped-requires-2 : tie.Need-stopped-requires-2
+stopped-requires-2 : tie.Need-stopped-requires-then-not-quotient_fits-2
 stopped-requires-2 c κs = search rules
 
-returns-4 : tie.Need-returns-4
+returns-4 : tie.Need-returns-then-not-quotient_fits-2
 returns-4 c =
     let z = c.before.before in
     let m = z.before.before in
     let y = m.before.before in
     let o = y.before.before in
-    let a = o.before.args in
-    c.stopped2.ensures ∙ refused (fitting a.s.fits) (three_of a.s) (first_tests a.d a.y a.z)
-    (λ k. by a.d a.y a.z (three_of a.s) (left o y.before.if1.false k) (sym (yes (y-fits y) m.before.if2.false) k) (sym (yes (y-multiple m) z.before.if3.false) k) (sym (no (z-fits z) c.before.if4.true) k) (is_zero (rem_z a.z a.d)))
+    let a = o.args in
+    c.stopped-then-not-quotient_fits-2.ensures ∙ refused (fitting a.s.fits) (three_of a.s) (first_tests a.d a.y a.z)
+    (λ k. by a.d a.y a.z (three_of a.s) (left o y.if-both_zero.false k) (sym (yes (y-fits y) m.if-not-quotient_fits.false-raw) k) (sym (yes (y-multiple m) z.if-not-is_multiple.false-raw) k) (sym (no (z-fits z) c.if-not-quotient_fits-2.true-raw) k) (is_zero (rem_z a.z a.d)))
 
-is-multiple-requires-2 : tie.Need-is-multiple-requires-2
-is-multiple-requires-2 c κs = holds (yes c.before.quotient-fits2.ensures c.if4.false)
+is-multiple-requires-2 : tie.Need-is_multiple-requires-2
+is-multiple-requires-2 c κs = holds (yes c.quotient_fits-2.ensures c.if-not-quotient_fits-2.false-raw)
 
-returns-5 : tie.Need-returns-5
+returns-5 : tie.Need-returns-then-not-is_multiple-2
 returns-5 c =
     let n = c.before in
     let z = n.before.before in
     let m = z.before.before in
     let y = m.before.before in
     let o = y.before.before in
-    let a = o.before.args in
+    let a = o.args in
     kept (fitting a.s.fits) (three_of a.s) (first_tests a.d a.y a.z)
-    (λ k. by a.d a.y a.z (three_of a.s) (sym (left o y.before.if1.false) k) (yes (y-fits y) m.before.if2.false k) (yes (y-multiple m) z.before.if3.false k) (yes (z-fits z) n.before.if4.false k) (no (z-multiple n) c.if5.true k))
+    (λ k. by a.d a.y a.z (three_of a.s) (sym (left o y.if-both_zero.false) k) (yes (y-fits y) m.if-not-quotient_fits.false-raw k) (yes (y-multiple m) z.if-not-is_multiple.false-raw k) (yes (z-fits z) n.if-not-quotient_fits-2.false-raw k) (no (z-multiple n) c.if-not-is_multiple-2.true-raw k))
 
-first-finalize-requires : tie.Need-first-finalize-requires
+first-finalize-requires : tie.Need-first_finalize-requires
 first-finalize-requires c κs = search rules
 
-returns-6 : tie.Need-returns-6
+returns-6 : tie.Need-returns
 returns-6 c =
     let n = c.before.before in
     let z = n.before.before in
     let m = z.before.before in
     let y = m.before.before in
     let o = y.before.before in
-    let s = o.before in
+    let s = o in
     let a = s.args in
     let x = three_of a.s in
-    c.first-finalize.ensures
+    c.first_finalize.ensures
     ∙ same_step (fitting a.s.fits) x (first_finalize (held a.d) (held a.y) (held a.z)) (first_tests a.d a.y a.z)
     ((λ k. first_finalize (to_z-of_z s.ranges.d k) (to_z-of_z s.ranges.y k) (to_z-of_z s.ranges.z k) x)
-    ∙ (λ k. by a.d a.y a.z x (left o y.before.if1.false k) (sym (yes (y-fits y) m.before.if2.false) k) (sym (yes (y-multiple m) z.before.if3.false) k) (sym (yes (z-fits z) n.before.if4.false) k) (sym (yes (z-multiple n) c.before.if5.false) k)))
+    ∙ (λ k. by a.d a.y a.z x (left o y.if-both_zero.false k) (sym (yes (y-fits y) m.if-not-quotient_fits.false-raw) k) (sym (yes (y-multiple m) z.if-not-is_multiple.false-raw) k) (sym (yes (z-fits z) n.if-not-quotient_fits-2.false-raw) k) (sym (yes (z-multiple n) c.if-not-is_multiple-2.false-raw) k)))
 
-pub first-tests-spec : {M : Type 1} → statement M
-first-tests-spec =
+pub first_tests_spec : {M : Type 1} → statement M
+first_tests_spec =
     tie.close
     (tie.spec
     both-zero-requires

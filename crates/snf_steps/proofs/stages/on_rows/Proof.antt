@@ -10,21 +10,21 @@ use borrow.Author.Rules.{rules}
 use Rattle.snf_steps.proofs.stages.on_rows.Statement.{statement}
 use Rattle.snf_steps.proofs.stages.on_rows.Tie as tie
 
-rows-of-requires : tie.Need-rows-of-requires
+rows-of-requires : tie.Need-rows_of-requires
 rows-of-requires c κs = search rules
 
 multiply-requires : tie.Need-multiply-requires
 multiply-requires c κs = search rules
 
-with-rows-requires : tie.Need-with-rows-requires
+with-rows-requires : tie.Need-with_rows-requires
 with-rows-requires c κs = search rules
 
 returns : tie.Need-returns
 returns c =
-    let a = c.before.before.before.args in
-    let u = c.before.multiply.result in
+    let a = c.args in
+    let u = c.multiply.result in
     let f = multiply (matrix_of a.l) in
-    c.with_rows.ensures ∙ part_step rows_of with_rows f (fitting a.s.fits) (fitting u.fits) (three_of a.s) (matrices_of u) (c.before.multiply.ensures ∙ ap (λ r. r then f) c.before.before.rows-of.ensures)
+    c.with_rows.ensures ∙ part_step rows_of with_rows f (fitting a.s.fits) (fitting u.fits) (three_of a.s) (matrices_of u) (c.multiply.ensures ∙ ap (λ r. r then f) c.rows_of.ensures)
 
-pub on-rows-spec : {M : Type 1} → statement M
-on-rows-spec = tie.close (tie.spec rows-of-requires multiply-requires with-rows-requires returns)
+pub on_rows_spec : {M : Type 1} → statement M
+on_rows_spec = tie.close (tie.spec rows-of-requires multiply-requires with-rows-requires returns)

@@ -78,7 +78,7 @@ one_of c r true m = ⊎_elim (λ e. inl (e, tt)) inr (cases m)
 one_of c r false m = inr m
 
 module _ {A B : Type 0} (q : A → Bool) (h : A → B) where
-  pub kept_in : {l : List A} {a : A} → a ∈ l → T (q a) → h a ∈ kept_by q h l
+  pub kept_in : {a : A} {l : List A} → a ∈ l → T (q a) → h a ∈ kept_by q h l
   kept_in {a = a} (here {x = x} {xs = l} e) t = one_in (q x) (inl (ap h e, subst (λ x. T (q x)) e t))
   kept_in (there {x = x} m) t = one_in (q x) (inr (kept_in m t))
 

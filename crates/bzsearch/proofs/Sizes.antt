@@ -1,4 +1,5 @@
 -- The limits of what a search is made from, as sizes.
+use mir.Syntax.{w64}
 use mathlib.Core.Path.{◌≡◌, sym, subst}
 use mathlib.Core.List.{List, [], ◌∷◌}
 use Prim.Native.Nat.{ℕ, zero, suc, ◌≤◌, zero-le}
@@ -30,7 +31,7 @@ module _ (d : List ℤ) (t : T (diagonal_fits d)) where
   side-sized Z = side-small d t Z
 
   pub side-held : (k : Axis) → held (along d k) ≡ along d k
-  side-held k = to_z-of_z (sfits-abs (lt_of_le_of_lt (side-sized k) (lit< tt)))
+  side-held k = to_z-of_z {w = w64} (sfits-abs (lt_of_le_of_lt (side-sized k) (lit< tt)))
 
   pub held-sized : (k : Axis) → nat_abs (held (along d k)) ≤ 256
   held-sized k = rw (side-held k) (side-sized k)

@@ -20,20 +20,20 @@ module _ (s : tie.Start) (k : Axis) where
 clipped-requires : tie.Need-clipped-requires
 clipped-requires c κs = search rules
 
-fft-order-requires : tie.Need-fft-order-requires
+fft-order-requires : tie.Need-fft_order-requires
 fft-order-requires c κs = clip c.before.before.before.before X c.clipped.ensures
 
 clipped-requires-2 : tie.Need-clipped-requires-2
 clipped-requires-2 c κs = search rules
 
-fft-order-requires-2 : tie.Need-fft-order-requires-2
-fft-order-requires-2 c κs = clip c.before.before.before.before.before.before Y c.clipped2.ensures
+fft-order-requires-2 : tie.Need-fft_order-requires-2
+fft-order-requires-2 c κs = clip c.before.before.before.before.before.before Y c.clipped-2.ensures
 
 clipped-requires-3 : tie.Need-clipped-requires-3
 clipped-requires-3 c κs = search rules
 
-fft-order-requires-3 : tie.Need-fft-order-requires-3
-fft-order-requires-3 c κs = clip c.before.before.before.before.before.before.before.before Z c.clipped3.ensures
+fft-order-requires-3 : tie.Need-fft_order-requires-3
+fft-order-requires-3 c κs = clip c.before.before.before.before.before.before.before.before Z c.clipped-3.ensures
 
 upwards-requires : tie.Need-upwards-requires
 upwards-requires c κs = span-at c.before.before.before.before.before.before.before.before.before X
@@ -44,24 +44,24 @@ upwards-requires-2 c κs = span-at c.before.before.before.before.before.before.b
 upwards-requires-3 : tie.Need-upwards-requires-3
 upwards-requires-3 c κs = span-at c.before.before.before.before.before.before.before.before.before.before.before Z
 
-is-near-requires : tie.Need-is-near-requires
+is-near-requires : tie.Need-is_near-requires
 is-near-requires c κs = search rules
 
 returns : tie.Need-returns
 returns c =
-    let p = c.before.before.before.before.before.before.before.before in
-    let q = c.before.before.before.before.before.before in
-    let r = c.before.before.before.before in
-    let u = c.before.before.before.upwards.ensures in
-    let v = c.before.before.upwards2.ensures in
-    let w = c.before.upwards3.ensures in
-    let x = p.fft-order.ensures.0 ∙ ap fft_order p.before.clipped.ensures in
-    let y = q.fft-order2.ensures.0 ∙ ap fft_order q.before.clipped2.ensures in
-    let z = r.fft-order3.ensures.0 ∙ ap fft_order r.before.clipped3.ensures in
-    (λ i. record { x = x i; y = y i; z = z i }, (λ i. record { x = u.0 i; y = v.0 i; z = w.0 i }, (c.is-near.ensures, record { x = p.fft-order.ensures.1; y = q.fft-order2.ensures.1; z = r.fft-order3.ensures.1; u = u.1; v = v.1; w = w.1 })))
+    let p = c in
+    let q = c in
+    let r = c in
+    let u = c.upwards.ensures in
+    let v = c.upwards-2.ensures in
+    let w = c.upwards-3.ensures in
+    let x = p.fft_order.ensures.0 ∙ ap fft_order p.clipped.ensures in
+    let y = q.fft_order-2.ensures.0 ∙ ap fft_order q.clipped-2.ensures in
+    let z = r.fft_order-3.ensures.0 ∙ ap fft_order r.clipped-3.ensures in
+    (λ i. record { x = x i; y = y i; z = z i }, (λ i. record { x = u.0 i; y = v.0 i; z = w.0 i }, (c.is_near.ensures, record { x = p.fft_order.ensures.1; y = q.fft_order-2.ensures.1; z = r.fft_order-3.ensures.1; u = u.1; v = v.1; w = w.1 })))
 
-pub boxes-of-spec : {M : Type 1} → statement M
-boxes-of-spec =
+pub boxes_of_spec : {M : Type 1} → statement M
+boxes_of_spec =
     tie.close
     (tie.spec
     clipped-requires

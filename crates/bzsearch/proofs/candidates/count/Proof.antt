@@ -10,46 +10,46 @@ use Rattle.bzsearch.proofs.Spans.{count_none, reach, top-fits, reach-count, reac
 use Rattle.bzsearch.proofs.candidates.count.Statement.{statement}
 use Rattle.bzsearch.proofs.candidates.count.Tie as tie
 
-returns : tie.Need-returns
+returns : tie.Need-returns-then-hi-lo
 returns c =
-    let s = c.before in
-    (count_none s.args.lo s.args.hi (lt_z_yes (holds (rw (to_z-of_z s.ranges.lo, to_z-of_z s.ranges.hi) at c.if1.true))), lit≤ tt)
+    let s = c in
+    (count_none s.args.lo s.args.hi (lt_z_yes (holds (rw (to_z-of_z s.ranges.lo, to_z-of_z s.ranges.hi) at c.if-hi-lo.true))), lit≤ tt)
 
-module _ (c : tie.Else1) where
+module _ (c : tie.Else-hi-lo) where
   abbrev lo : ℤ
-  lo = c.before.args.lo
+  lo = c.args.lo
 
   abbrev hi : ℤ
-  hi = c.before.args.hi
+  hi = c.args.hi
 
   low : negsuc 15 ≤ℤ lo
-  low = le_z_yes c.before.requires.0
+  low = le_z_yes c.requires.0
 
   high : hi ≤ℤ pos 16
-  high = le_z_yes c.before.requires.1
+  high = le_z_yes c.requires.1
 
   ordered : lo ≤ℤ hi
-  ordered = lt_z_no (fails (rw (to_z-of_z c.before.ranges.lo, to_z-of_z c.before.ranges.hi) at c.if1.false))
+  ordered = lt_z_no (fails (rw (to_z-of_z c.ranges.lo, to_z-of_z c.ranges.hi) at c.if-hi-lo.false))
 
   top : held hi +ℤ pos 1 ≡ hi +ℤ pos 1
-  top = ap (λ z. z +ℤ pos 1) (to_z-of_z c.before.ranges.hi)
+  top = ap (λ z. z +ℤ pos 1) (to_z-of_z c.ranges.hi)
 
   steps : held (held hi +ℤ pos 1) -ℤ held lo ≡ reach lo hi
-  steps = ap₂ ◌-ℤ◌ (held_of top (top-fits lo hi low high ordered)) (to_z-of_z c.before.ranges.lo)
+  steps = ap₂ ◌-ℤ◌ (held_of top (top-fits lo hi low high ordered)) (to_z-of_z c.ranges.lo)
 
   result : held (held (held hi +ℤ pos 1) -ℤ held lo) ≡ reach lo hi
   result = held_of steps (reach-fits lo hi low high ordered)
 
-add-result : tie.Need-overflow-add-result
+add-result : tie.Need-overflow_add-result
 add-result c = fits-of (top c) (top-fits (lo c) (hi c) (low c) (high c) (ordered c))
 
-sub-result : tie.Need-overflow-sub-result
+sub-result : tie.Need-overflow_sub-result
 sub-result c = fits-of (steps c) (reach-fits (lo c) (hi c) (low c) (high c) (ordered c))
 
-cast-result : tie.Need-overflow-cast-result
+cast-result : tie.Need-overflow_cast-result
 cast-result c = rw (result c) (reach-sign (lo c) (hi c) (low c) (high c) (ordered c), omega (arith, reach_few (lo c) (hi c) (low c) (high c) (ordered c)))
 
-returns-2 : tie.Need-returns-2
+returns-2 : tie.Need-returns
 returns-2 c = rw (result c) (reach-count (lo c) (hi c) (low c) (high c) (ordered c), reach_few (lo c) (hi c) (low c) (high c) (ordered c))
 
 pub count_spec : {M : Type 1} → statement M

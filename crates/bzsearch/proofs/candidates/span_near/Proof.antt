@@ -5,18 +5,18 @@ use Rattle.bzsearch.proofs.Spans.{first-test, second-test}
 use Rattle.bzsearch.proofs.candidates.span_near.Statement.{statement}
 use Rattle.bzsearch.proofs.candidates.span_near.Tie as tie
 
-sub-if1 : tie.Need-overflow-sub-if1
+sub-if1 : tie.Need-overflow_sub-t-3
 sub-if1 c = search rules
 
-returns : tie.Need-returns
+returns : tie.Need-returns-then-s
 returns c =
-    let s = c.before.before.before.before.before.args.s in
+    let s = c.args.s in
     second-test (negsuc 1) (pos 2) s.lo s.hi (held-is s.lo (search rules)) (held-is s.hi (search rules)) (search rules)
 
-returns-2 : tie.Need-returns-2
+returns-2 : tie.Need-returns-else-s
 returns-2 c =
-    let s = c.before.before.before.args.s in
-    first-test (negsuc 1) (pos 2) s.lo s.hi (held-is s.lo (search rules)) (held-is s.hi (search rules)) c.if1.false
+    let s = c.args.s in
+    first-test (negsuc 1) (pos 2) s.lo s.hi (held-is s.lo (search rules)) (held-is s.hi (search rules)) c.if-s.false
 
-pub span-near-spec : {M : Type 1} → statement M
-span-near-spec = tie.close (tie.spec sub-if1 returns returns-2)
+pub span_near_spec : {M : Type 1} → statement M
+span_near_spec = tie.close (tie.spec sub-if1 returns returns-2)

@@ -13,7 +13,7 @@ norm-requires : tie.Need-norm-requires
 norm-requires c κs = search rules
 
 returns : tie.Need-returns
-returns c = ap (λ n. div binary64 n c.before.before.args.det) (c.norm.ensures ∙ ap (λ l. norm (float_vector l)) c.before.cross.ensures)
+returns c = ap (λ n. div binary64 n c.args.det) (c.norm.ensures ∙ ap (λ l. norm (float_vector l)) c.cross.ensures)
 
-pub dual-length-spec : {M : Type 1} → statement M
-dual-length-spec = tie.close (tie.spec cross-requires norm-requires returns)
+pub dual_length_spec : {M : Type 1} → statement M
+dual_length_spec = tie.close (tie.spec cross-requires norm-requires returns)

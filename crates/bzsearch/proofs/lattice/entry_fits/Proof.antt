@@ -11,5 +11,5 @@ abs-requires c κs = search rules
 returns : tie.Need-returns
 returns c = ap₂ le c.abs.ensures million-literal
 
-pub entry-fits-spec : {M : Type 1} → statement M
-entry-fits-spec = tie.close (tie.spec abs-requires returns)
+pub entry_fits_spec : {M : Type 1} → statement M
+entry_fits_spec = tie.close (tie.spec abs-requires returns)

@@ -9,23 +9,23 @@ use Rattle.bzsearch.proofs.Literals.{zero-literal}
 use Rattle.bzsearch.proofs.lattice.is_singular.Statement.{statement}
 use Rattle.bzsearch.proofs.lattice.is_singular.Tie as tie
 
-det-d-requires : tie.Need-det-d-requires
+det-d-requires : tie.Need-det_d-det-requires
 det-d-requires c κs = search rules
 
-returns : tie.Need-returns
+returns : tie.Need-returns-then-det
 unfolding singular lattice_det
-returns c = let m = float_matrix c.before.before.args.m in ap (λ (t : Bool). t || not (finite (lattice_det m))) (sym c.if1.true ∙ ap₂ eq c.before.det-d.ensures zero-literal)
+returns c = let m = float_matrix c.args.m in ap (λ (t : Bool). t || not (finite (lattice_det m))) (sym c.if-det.true ∙ ap₂ eq c.det_d-det.ensures zero-literal)
 
-is-finite-requires : tie.Need-is-finite-requires
+is-finite-requires : tie.Need-is_finite-requires
 is-finite-requires c κs = search rules
 
-returns-2 : tie.Need-returns-2
+returns-2 : tie.Need-returns
 unfolding singular lattice_det
 returns-2 c =
-    let s = c.before.before.before in
+    let s = c in
     let m = float_matrix s.args.m in
-    let e = c.before.before.det-d.ensures in
-    ap not (c.is_finite.ensures ∙ ap finite e) ∙ ap (λ (t : Bool). t || not (finite (lattice_det m))) (sym c.before.if1.false ∙ ap₂ eq e zero-literal)
+    let e = c.det_d-det.ensures in
+    ap not (c.is_finite.ensures ∙ ap finite e) ∙ ap (λ (t : Bool). t || not (finite (lattice_det m))) (sym c.if-det.false ∙ ap₂ eq e zero-literal)
 
-pub is-singular-spec : {M : Type 1} → statement M
-is-singular-spec = tie.close (tie.spec det-d-requires returns is-finite-requires returns-2)
+pub is_singular_spec : {M : Type 1} → statement M
+is_singular_spec = tie.close (tie.spec det-d-requires returns is-finite-requires returns-2)

@@ -7,5 +7,5 @@ use Rattle.bzsearch.proofs.lattice.squares_from_0.Tie as tie
 returns : tie.Need-returns
 returns c = ap (λ z. add binary64 (add binary64 (add binary64 z (mul binary64 c.args.x c.args.x)) (mul binary64 c.args.y c.args.y)) (mul binary64 c.args.z c.args.z)) zero-literal
 
-pub squares-from-0-spec : {M : Type 1} → statement M
-squares-from-0-spec = tie.close (tie.spec returns)
+pub squares_from_0_spec : {M : Type 1} → statement M
+squares_from_0_spec = tie.close (tie.spec returns)

@@ -7,5 +7,5 @@ use Rattle.bzsearch.proofs.search.coordinate.Tie as tie
 returns : tie.Need-returns
 returns c = ap (λ t. div binary64 c.args.a (mul binary64 t c.args.d)) two-literal
 
-pub coordinate-spec : {M : Type 1} → statement M
-coordinate-spec = tie.close (tie.spec returns)
+pub coordinate_spec : {M : Type 1} → statement M
+coordinate_spec = tie.close (tie.spec returns)

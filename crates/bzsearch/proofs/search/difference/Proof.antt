@@ -20,41 +20,41 @@ module _ {m n : List ℤ} (f : Sized 16 m) (g : Sized 4096 n) (k : ℕ) where
   exact : held (held (get_or m k (pos 0)) -ℤ held (get_or n k (pos 0))) ≡ get_or m k (pos 0) -ℤ get_or n k (pos 0)
   exact = plain-is (search (plain, p-sized) depth 12) tt
 
-array-copy-out-t7 : tie.Need-array-copy-out-t7
+array-copy-out-t7 : tie.Need-bounds-m-0
 array-copy-out-t7 c = search rules
 
-array-copy-out-t10 : tie.Need-array-copy-out-t10
+array-copy-out-t10 : tie.Need-bounds-n-0
 array-copy-out-t10 c = search rules
 
-sub-t11 : tie.Need-overflow-sub-t11
-sub-t11 c = let s = c.before.before in fits s.requires.0 s.requires.1 0
+sub-t11 : tie.Need-overflow_sub-result
+sub-t11 c = let s = c in fits s.requires.0 s.requires.1 0
 
-array-copy-out-t14 : tie.Need-array-copy-out-t14
+array-copy-out-t14 : tie.Need-bounds-m-1
 array-copy-out-t14 c = search rules
 
-array-copy-out-t17 : tie.Need-array-copy-out-t17
+array-copy-out-t17 : tie.Need-bounds-n-1
 array-copy-out-t17 c = search rules
 
-sub-t18 : tie.Need-overflow-sub-t18
-sub-t18 c = let s = c.before.before.before.before in fits s.requires.0 s.requires.1 1
+sub-t18 : tie.Need-overflow_sub-result-2
+sub-t18 c = let s = c in fits s.requires.0 s.requires.1 1
 
-array-copy-out-t21 : tie.Need-array-copy-out-t21
+array-copy-out-t21 : tie.Need-bounds-m-2
 array-copy-out-t21 c = search rules
 
-array-copy-out-t24 : tie.Need-array-copy-out-t24
+array-copy-out-t24 : tie.Need-bounds-n-2
 array-copy-out-t24 c = search rules
 
-sub-t25 : tie.Need-overflow-sub-t25
-sub-t25 c = let s = c.before.before.before.before.before.before in fits s.requires.0 s.requires.1 2
+sub-t25 : tie.Need-overflow_sub-result-3
+sub-t25 c = let s = c in fits s.requires.0 s.requires.1 2
 
 returns : tie.Need-returns
 returns c =
-    let s = c.before.before.before.before.before.before in
+    let s = c in
     let at = exact s.requires.0 s.requires.1 in
     λ i. at 0 i ∷ at 1 i ∷ at 2 i ∷ []
 
-pub difference-spec : {M : Type 1} → statement M
-difference-spec =
+pub difference_spec : {M : Type 1} → statement M
+difference_spec =
     tie.close
     (tie.spec
     array-copy-out-t7

@@ -24,64 +24,64 @@ module _ {a b : List ℤ} {det : ℤ} (f : Sized 1000 a) (g : Sized 1000 b) (h :
       → held r ≡ det *ℤ cross integers (get_or a m (pos 0)) (get_or b m (pos 0)) (get_or a n (pos 0)) (get_or b n (pos 0))
   cofactor m n r ok e = held-is r ok ∙ e ∙ (λ i. h i *ℤ cross integers (entry-held f m tt i) (entry-held g m tt i) (entry-held f n tt i) (entry-held g n tt i))
 
-array-copy-out-cofactor-over : tie.Need-array-copy-out-cofactor-over
+array-copy-out-cofactor-over : tie.Need-bounds-a-1
 array-copy-out-cofactor-over c = search rules
 
-array-copy-out-cofactor-over-2 : tie.Need-array-copy-out-cofactor-over-2
+array-copy-out-cofactor-over-2 : tie.Need-bounds-b-1
 array-copy-out-cofactor-over-2 c = search rules
 
-array-copy-out-cofactor-over-3 : tie.Need-array-copy-out-cofactor-over-3
+array-copy-out-cofactor-over-3 : tie.Need-bounds-a-2
 array-copy-out-cofactor-over-3 c = search rules
 
-array-copy-out-cofactor-over-4 : tie.Need-array-copy-out-cofactor-over-4
+array-copy-out-cofactor-over-4 : tie.Need-bounds-b-2
 array-copy-out-cofactor-over-4 c = search rules
 
-cofactor-over-requires : tie.Need-cofactor-over-requires
-cofactor-over-requires c κs = let s = c.before.before.before.before in asks s.requires.0 s.requires.1.0 (to_z-of_z s.ranges.det) s.requires.1.1 1 2
+cofactor-over-requires : tie.Need-cofactor_over-requires
+cofactor-over-requires c κs = let s = c in asks s.requires.0 s.requires.1.0 (to_z-of_z s.ranges.det) s.requires.1.1 1 2
 
-array-copy-out-cofactor-over-5 : tie.Need-array-copy-out-cofactor-over-5
+array-copy-out-cofactor-over-5 : tie.Need-bounds-a-2-2
 array-copy-out-cofactor-over-5 c = search rules
 
-array-copy-out-cofactor-over-6 : tie.Need-array-copy-out-cofactor-over-6
+array-copy-out-cofactor-over-6 : tie.Need-bounds-b-2-2
 array-copy-out-cofactor-over-6 c = search rules
 
-array-copy-out-cofactor-over-7 : tie.Need-array-copy-out-cofactor-over-7
+array-copy-out-cofactor-over-7 : tie.Need-bounds-a-0
 array-copy-out-cofactor-over-7 c = search rules
 
-array-copy-out-cofactor-over-8 : tie.Need-array-copy-out-cofactor-over-8
+array-copy-out-cofactor-over-8 : tie.Need-bounds-b-0
 array-copy-out-cofactor-over-8 c = search rules
 
-cofactor-over-requires-2 : tie.Need-cofactor-over-requires-2
-cofactor-over-requires-2 c κs = let s = c.before.before.before.before.before.before.before.before.before in asks s.requires.0 s.requires.1.0 (to_z-of_z s.ranges.det) s.requires.1.1 2 0
+cofactor-over-requires-2 : tie.Need-cofactor_over-requires-2
+cofactor-over-requires-2 c κs = let s = c in asks s.requires.0 s.requires.1.0 (to_z-of_z s.ranges.det) s.requires.1.1 2 0
 
-array-copy-out-cofactor-over-9 : tie.Need-array-copy-out-cofactor-over-9
+array-copy-out-cofactor-over-9 : tie.Need-bounds-a-0-2
 array-copy-out-cofactor-over-9 c = search rules
 
-array-copy-out-cofactor-over-10 : tie.Need-array-copy-out-cofactor-over-10
+array-copy-out-cofactor-over-10 : tie.Need-bounds-b-0-2
 array-copy-out-cofactor-over-10 c = search rules
 
-array-copy-out-cofactor-over-11 : tie.Need-array-copy-out-cofactor-over-11
+array-copy-out-cofactor-over-11 : tie.Need-bounds-a-1-2
 array-copy-out-cofactor-over-11 c = search rules
 
-array-copy-out-cofactor-over-12 : tie.Need-array-copy-out-cofactor-over-12
+array-copy-out-cofactor-over-12 : tie.Need-bounds-b-1-2
 array-copy-out-cofactor-over-12 c = search rules
 
-cofactor-over-requires-3 : tie.Need-cofactor-over-requires-3
-cofactor-over-requires-3 c κs = let s = c.before.before.before.before.before.before.before.before.before.before.before.before.before.before in asks s.requires.0 s.requires.1.0 (to_z-of_z s.ranges.det) s.requires.1.1 0 1
+cofactor-over-requires-3 : tie.Need-cofactor_over-requires-3
+cofactor-over-requires-3 c κs = let s = c in asks s.requires.0 s.requires.1.0 (to_z-of_z s.ranges.det) s.requires.1.1 0 1
 
 returns : tie.Need-returns
 returns c =
-    let y = c.before.before.before.before.before in
-    let x = y.before.before.before.before.before in
-    let s = x.before.before.before.before.before in
+    let y = c in
+    let x = y in
+    let s = x in
     let at = cofactor s.requires.0 s.requires.1.0 (to_z-of_z s.ranges.det) in
-    let f0 = at 1 2 x.cofactor-over.result x.cofactor-over.type-inv x.cofactor-over.ensures in
-    let f1 = at 2 0 y.cofactor-over2.result y.cofactor-over2.type-inv y.cofactor-over2.ensures in
-    let f2 = at 0 1 c.cofactor-over3.result c.cofactor-over3.type-inv c.cofactor-over3.ensures in
+    let f0 = at 1 2 x.cofactor_over.result x.cofactor_over.type_inv x.cofactor_over.ensures in
+    let f1 = at 2 0 y.cofactor_over-2.result y.cofactor_over-2.type_inv y.cofactor_over-2.ensures in
+    let f2 = at 0 1 c.cofactor_over-3.result c.cofactor_over-3.type_inv c.cofactor_over-3.ensures in
     λ i. f0 i ∷ f1 i ∷ f2 i ∷ []
 
-pub inverse-row-spec : {M : Type 1} → statement M
-inverse-row-spec =
+pub inverse_row_spec : {M : Type 1} → statement M
+inverse_row_spec =
     tie.close
     (tie.spec
     array-copy-out-cofactor-over

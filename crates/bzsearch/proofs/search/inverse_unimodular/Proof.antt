@@ -24,51 +24,51 @@ asks m e f s u j k = rw (e, f) (at j, (at k, unit_size m u))
     at Y = column-sized m s Y
     at Z = column-sized m s Z
 
-det-i-requires : tie.Need-det-i-requires
+det-i-requires : tie.Need-det_i-det-requires
 det-i-requires c κs = det-fits (matrix_of c.args.q) c.requires.0
 
-transpose-i-requires : tie.Need-transpose-i-requires
+transpose-i-requires : tie.Need-transpose_i-t-requires
 transpose-i-requires c κs = search rules
 
-array-copy-out-x : tie.Need-array-copy-out-x
+array-copy-out-x : tie.Need-bounds-t-0
 array-copy-out-x c = search rules
 
-array-copy-out-y : tie.Need-array-copy-out-y
+array-copy-out-y : tie.Need-bounds-t-1
 array-copy-out-y c = search rules
 
-array-copy-out-z : tie.Need-array-copy-out-z
+array-copy-out-z : tie.Need-bounds-t-2
 array-copy-out-z c = search rules
 
-inverse-row-requires : tie.Need-inverse-row-requires
+inverse-row-requires : tie.Need-inverse_row-requires
 inverse-row-requires c κs =
-    let r = c.before.before.before in
-    let s = r.before.before in
-    asks (matrix_of s.args.q) r.transpose-i.ensures (held-is r.before.det-i.result r.before.det-i.type-inv ∙ r.before.det-i.ensures) s.requires.0 s.requires.1 Y Z
+    let r = c in
+    let s = r in
+    asks (matrix_of s.args.q) r.transpose_i-t.ensures (held-is r.det_i-det.result r.det_i-det.type_inv ∙ r.det_i-det.ensures) s.requires.0 s.requires.1 Y Z
 
-inverse-row-requires-2 : tie.Need-inverse-row-requires-2
+inverse-row-requires-2 : tie.Need-inverse_row-requires-2
 inverse-row-requires-2 c κs =
-    let r = c.before.before.before.before in
-    let s = r.before.before in
-    asks (matrix_of s.args.q) r.transpose-i.ensures (held-is r.before.det-i.result r.before.det-i.type-inv ∙ r.before.det-i.ensures) s.requires.0 s.requires.1 Z X
+    let r = c in
+    let s = r in
+    asks (matrix_of s.args.q) r.transpose_i-t.ensures (held-is r.det_i-det.result r.det_i-det.type_inv ∙ r.det_i-det.ensures) s.requires.0 s.requires.1 Z X
 
-inverse-row-requires-3 : tie.Need-inverse-row-requires-3
+inverse-row-requires-3 : tie.Need-inverse_row-requires-3
 inverse-row-requires-3 c κs =
-    let r = c.before.before.before.before.before in
-    let s = r.before.before in
-    asks (matrix_of s.args.q) r.transpose-i.ensures (held-is r.before.det-i.result r.before.det-i.type-inv ∙ r.before.det-i.ensures) s.requires.0 s.requires.1 X Y
+    let r = c in
+    let s = r in
+    asks (matrix_of s.args.q) r.transpose_i-t.ensures (held-is r.det_i-det.result r.det_i-det.type_inv ∙ r.det_i-det.ensures) s.requires.0 s.requires.1 X Y
 
 returns : tie.Need-returns
 returns c =
-    let r = c.before.before.before.before.before.before in
-    let t = r.transpose-i.ensures in
-    let d = held-is r.before.det-i.result r.before.det-i.type-inv ∙ r.before.det-i.ensures in
-    let f0 = c.before.before.inverse-row.ensures ∙ (λ i. inverse_row (get_or (t i) 1 []) (get_or (t i) 2 []) (d i)) in
-    let f1 = c.before.inverse-row2.ensures ∙ (λ i. inverse_row (get_or (t i) 2 []) (get_or (t i) 0 []) (d i)) in
-    let f2 = c.inverse-row3.ensures ∙ (λ i. inverse_row (get_or (t i) 0 []) (get_or (t i) 1 []) (d i)) in
-    (λ i. f0 i ∷ f1 i ∷ f2 i ∷ []) ∙ ap rows (sym (inverse-entries (matrix_of r.before.before.args.q)))
+    let r = c in
+    let t = r.transpose_i-t.ensures in
+    let d = held-is r.det_i-det.result r.det_i-det.type_inv ∙ r.det_i-det.ensures in
+    let f0 = c.inverse_row.ensures ∙ (λ i. inverse_row (get_or (t i) 1 []) (get_or (t i) 2 []) (d i)) in
+    let f1 = c.inverse_row-2.ensures ∙ (λ i. inverse_row (get_or (t i) 2 []) (get_or (t i) 0 []) (d i)) in
+    let f2 = c.inverse_row-3.ensures ∙ (λ i. inverse_row (get_or (t i) 0 []) (get_or (t i) 1 []) (d i)) in
+    (λ i. f0 i ∷ f1 i ∷ f2 i ∷ []) ∙ ap rows (sym (inverse-entries (matrix_of r.args.q)))
 
-pub inverse-unimodular-spec : {M : Type 1} → statement M
-inverse-unimodular-spec =
+pub inverse_unimodular_spec : {M : Type 1} → statement M
+inverse_unimodular_spec =
     tie.close
     (tie.spec
     det-i-requires

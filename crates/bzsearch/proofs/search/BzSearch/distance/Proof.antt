@@ -10,14 +10,14 @@ use Rattle.bzsearch.proofs.search.BzSearch.distance.Tie as tie
 shift-requires : tie.Need-shift-requires
 shift-requires c κs = search rules
 
-length-squared-requires : tie.Need-length-squared-requires
+length-squared-requires : tie.Need-length_squared-requires
 length-squared-requires c κs = search rules
 
 returns : tie.Need-returns
 unfolding distance
 returns c =
-    let s = c.before.before.before in
-    c.length-squared.ensures ∙ ap (λ v. length_squared (apply_over floats (float_nine s.args.self.rec_lattice) (float_vector v))) c.before.shift.ensures
+    let s = c in
+    c.length_squared.ensures ∙ ap (λ v. length_squared (apply_over floats (float_nine s.args.self.rec_lattice) (float_vector v))) c.shift.ensures
 
-pub distance-spec : {M : Type 1} → statement M
-distance-spec = tie.close (tie.spec shift-requires length-squared-requires returns)
+pub distance_spec : {M : Type 1} → statement M
+distance_spec = tie.close (tie.spec shift-requires length-squared-requires returns)

@@ -2,14 +2,14 @@ use borrow.Author.Rules.{rules}
 use Rattle.bzsearch.proofs.search.BzSearch.least_rest.Statement.{statement}
 use Rattle.bzsearch.proofs.search.BzSearch.least_rest.Tie as tie
 
-returns : tie.Need-returns
-returns c = rw c.if1.true
+returns : tie.Need-returns-then-b
+returns c = rw c.if-b.true
 
-least-box-requires : tie.Need-least-box-requires
+least-box-requires : tie.Need-least_box-requires
 least-box-requires c κs = search rules
 
-returns-2 : tie.Need-returns-2
-returns-2 c = rw c.before.before.before.before.if1.false c.least-box.ensures
+returns-2 : tie.Need-returns
+returns-2 c = rw c.if-b.false c.least_box.ensures
 
-pub least-rest-spec : {M : Type 1} → statement M
-least-rest-spec = tie.close (tie.spec returns least-box-requires returns-2)
+pub least_rest_spec : {M : Type 1} → statement M
+least_rest_spec = tie.close (tie.spec returns least-box-requires returns-2)

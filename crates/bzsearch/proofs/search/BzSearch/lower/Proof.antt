@@ -9,20 +9,20 @@ use borrow.Author.Rules.{rules}
 use Rattle.bzsearch.proofs.search.BzSearch.lower.Statement.{statement}
 use Rattle.bzsearch.proofs.search.BzSearch.lower.Tie as tie
 
-distance-requires : tie.Need-distance-requires
+distance-requires : tie.Need-distance-x-requires
 distance-requires c κs = search rules
 
-returns : tie.Need-returns
+returns : tie.Need-returns-then-x-below
 returns c =
-    let s = c.before.before.before.args in
-    let test : lt c.before.before.distance.result (sub binary64 s.least s.self.tolerance) ≡ true = search rules in
-    lowered (search_of s.self) (float_vector s.s0) s.least (vector_of s.m) c.before.before.distance.ensures test
+    let s = c.args in
+    let test : lt c.distance-x.result (sub binary64 s.least s.self.tolerance) ≡ true = search rules in
+    lowered (search_of s.self) (float_vector s.s0) s.least (vector_of s.m) c.distance-x.ensures test
 
-returns-2 : tie.Need-returns-2
+returns-2 : tie.Need-returns-else-x-below
 returns-2 c =
-    let s = c.before.before.before.args in
-    let test : lt c.before.before.distance.result (sub binary64 s.least s.self.tolerance) ≡ false = search rules in
-    lowered (search_of s.self) (float_vector s.s0) s.least (vector_of s.m) c.before.before.distance.ensures test
+    let s = c.args in
+    let test : lt c.distance-x.result (sub binary64 s.least s.self.tolerance) ≡ false = search rules in
+    lowered (search_of s.self) (float_vector s.s0) s.least (vector_of s.m) c.distance-x.ensures test
 
 pub lower_spec : {M : Type 1} → statement M
 lower_spec = tie.close (tie.spec distance-requires returns returns-2)

@@ -18,49 +18,49 @@ span_of k s0 w r = span (get_or s0 (number k) nan) (add binary64 (mul binary64 r
 distance-requires : tie.Need-distance-requires
 distance-requires c κs = sized-items origin zero-le zero-le zero-le
 
-sqrt-requires : tie.Need-sqrt-requires
+sqrt-requires : tie.Need-sqrt-r-requires
 sqrt-requires c κs = search rules
 
-array-read-span-of : tie.Need-array-read-span-of
+array-read-span-of : tie.Need-bounds-s0-0
 array-read-span-of c = search rules
 
-array-read-span-of-2 : tie.Need-array-read-span-of-2
+array-read-span-of-2 : tie.Need-bounds-w-0
 array-read-span-of-2 c = search rules
 
-span-of-requires : tie.Need-span-of-requires
+span-of-requires : tie.Need-span_of-requires
 span-of-requires c κs = search rules
 
-array-read-span-of-3 : tie.Need-array-read-span-of-3
+array-read-span-of-3 : tie.Need-bounds-s0-1
 array-read-span-of-3 c = search rules
 
-array-read-span-of-4 : tie.Need-array-read-span-of-4
+array-read-span-of-4 : tie.Need-bounds-w-1
 array-read-span-of-4 c = search rules
 
-span-of-requires-2 : tie.Need-span-of-requires-2
+span-of-requires-2 : tie.Need-span_of-requires-2
 span-of-requires-2 c κs = search rules
 
-array-read-span-of-5 : tie.Need-array-read-span-of-5
+array-read-span-of-5 : tie.Need-bounds-s0-2
 array-read-span-of-5 c = search rules
 
-array-read-span-of-6 : tie.Need-array-read-span-of-6
+array-read-span-of-6 : tie.Need-bounds-w-2
 array-read-span-of-6 c = search rules
 
-span-of-requires-3 : tie.Need-span-of-requires-3
+span-of-requires-3 : tie.Need-span_of-requires-3
 span-of-requires-3 c κs = search rules
 
 returns : tie.Need-returns
 unfolding search_range distance
 returns c =
-    let q = c.before.before.before.before in
-    let s = q.before.before.before in
-    let r = q.sqrt.ensures ∙ ap (λ d. sqrt_of (add binary64 d s.args.self.tolerance)) q.before.before.distance.ensures in
-    let x = c.before.before.Span-of.ensures ∙ ap (span_of X s.args.t2 s.args.self.dual_lengths) r in
-    let y = c.before.span-of2.ensures ∙ ap (span_of Y s.args.t2 s.args.self.dual_lengths) r in
-    let z = c.span-of3.ensures ∙ ap (span_of Z s.args.t2 s.args.self.dual_lengths) r in
+    let q = c in
+    let s = q in
+    let r = q.sqrt-r.ensures ∙ ap (λ d. sqrt_of (add binary64 d s.args.self.tolerance)) q.distance.ensures in
+    let x = c.span_of.ensures ∙ ap (span_of X s.args.s0 s.args.self.dual_lengths) r in
+    let y = c.span_of-2.ensures ∙ ap (span_of Y s.args.s0 s.args.self.dual_lengths) r in
+    let z = c.span_of-3.ensures ∙ ap (span_of Z s.args.s0 s.args.self.dual_lengths) r in
     λ i. record { x = x i; y = y i; z = z i }
 
-pub search-range-spec : {M : Type 1} → statement M
-search-range-spec =
+pub search_range_spec : {M : Type 1} → statement M
+search_range_spec =
     tie.close
     (tie.spec
     distance-requires

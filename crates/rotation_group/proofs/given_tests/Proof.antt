@@ -10,41 +10,41 @@ use Rattle.rotation_group.specs.ReciprocalGroup.{given_tests}
 use Rattle.rotation_group.proofs.given_tests.Statement.{statement}
 use Rattle.rotation_group.proofs.given_tests.Tie as tie
 
-input-tests-requires : tie.Need-input-tests-requires
+input-tests-requires : tie.Need-input_tests-requires
 input-tests-requires c κs = search rules
 
-enum_told : tie.Need-enum-told
+enum_told : tie.Need-enum_told-1
 enum_told c = search rules
 
-is-group-requires : tie.Need-is-group-requires
+is-group-requires : tie.Need-is_group-requires
 is-group-requires c κs =
-    let s = c.before.before.before in
-    let a = input-accepted s.args.rotations.now s.args.places (sym c.before.before.input-tests.ensures ∙ c.enum_told.given.1) in
+    let s = c in
+    let a = input-accepted s.args.rotations.now s.args.places (sym c.input_tests.ensures ∙ c.in-Accepted.is) in
     (a.1, a.2)
 
-returns : tie.Need-returns
+returns : tie.Need-returns-then-is_group
 unfolding given_tests
 returns c =
-    let e = sym c.before.before.before.before.input-tests.ensures ∙ c.before.before.enum_told.given.1 in
-    sym (ap₂ (λ t b. after t (require b NotGroup Accepted)) e (sym c.before.is-group.ensures ∙ c.if1.true))
+    let e = sym c.input_tests.ensures ∙ c.in-Accepted.is in
+    sym (ap₂ (λ t b. after t (require b NotGroup Accepted)) e (sym c.is_group.ensures ∙ c.if-is_group.true))
 
-enum-known-r : tie.Need-enum-known-r
+enum-known-r : tie.Need-enum_known-r
 enum-known-r c = search rules
 
-returns-2 : tie.Need-returns-2
+returns-2 : tie.Need-returns-else-is_group
 unfolding given_tests
 returns-2 c =
-    let e = sym c.before.before.before.before.input-tests.ensures ∙ c.before.before.enum_told.given.1 in
-    sym (ap₂ (λ t b. after t (require b NotGroup Accepted)) e (sym c.before.is-group.ensures ∙ c.if1.false))
+    let e = sym c.input_tests.ensures ∙ c.in-Accepted.is in
+    sym (ap₂ (λ t b. after t (require b NotGroup Accepted)) e (sym c.is_group.ensures ∙ c.if-is_group.false))
 
-returns-3 : tie.Need-returns-3
+returns-3 : tie.Need-returns-in-Refused
 unfolding given_tests
 returns-3 c =
-    let l = c.before.before.before.before.args.rotations.now in
-    sym (ap (λ t. after t (require (is_group (matrices l)) NotGroup Accepted)) (sym c.before.before.before.input-tests.ensures ∙ c.before.r.given.1))
+    let l = c.args.rotations.now in
+    sym (ap (λ t. after t (require (is_group (matrices l)) NotGroup Accepted)) (sym c.input_tests.ensures ∙ c.in-Refused.is))
 
-pub given-tests-spec : {M : Type 1} → statement M
-given-tests-spec =
+pub given_tests_spec : {M : Type 1} → statement M
+given_tests_spec =
     tie.close
     (tie.spec
     input-tests-requires

@@ -5,42 +5,42 @@ use Rattle.rotation_group.proofs.Outcome.{refused-answer, refused-written, group
 use Rattle.rotation_group.proofs.reciprocal_group.Statement.{statement}
 use Rattle.rotation_group.proofs.reciprocal_group.Tie as tie
 
-given-tests-requires : tie.Need-given-tests-requires
+given-tests-requires : tie.Need-given_tests-requires
 given-tests-requires c κs = search rules
 
-enum_told : tie.Need-enum-told
+enum_told : tie.Need-enum_told-1
 enum_told c = search rules
 
-reciprocal-rotations-requires : tie.Need-reciprocal-rotations-requires
+reciprocal-rotations-requires : tie.Need-reciprocal_rotations-requires
 reciprocal-rotations-requires c κs = search rules
 
-enum-known-r : tie.Need-enum-known-r
+enum-known-r : tie.Need-enum_known-r
 enum-known-r c = search rules
 
 fill-requires : tie.Need-fill-requires
 fill-requires c κs = search rules
 
-same_length : tie.Need-same-length
+same_length : tie.Need-shape_of-out-in-Accepted
 same_length c = search rules
 
-returns : tie.Need-returns
+returns : tie.Need-returns-in-Accepted
 returns c =
-    let a = c.before.before.before.before.before.before.args in
-    let e = sym c.before.before.before.before.before.given-tests.ensures ∙ c.before.before.before.enum_told.given.1 in
-    let r = c.before.reciprocal-rotations.ensures in
-    (r.0 ∙ group-answer a.rotations.now a.is-time-reversal (length a.out.now) e, r.1 ∙ group-written a.rotations.now a.is-time-reversal (length a.out.now) e)
+    let a = c.args in
+    let e = sym c.given_tests.ensures ∙ c.in-Accepted.is in
+    let r = c.reciprocal_rotations.ensures in
+    (r.0 ∙ group-answer a.rotations.now a.is_time_reversal (length a.out.now) e, r.1 ∙ group-written a.rotations.now a.is_time_reversal (length a.out.now) e)
 
-same-length-2 : tie.Need-same-length-2
+same-length-2 : tie.Need-shape_of-out-in-Refused
 same-length-2 c = search rules
 
-returns-2 : tie.Need-returns-2
+returns-2 : tie.Need-returns-in-Refused
 returns-2 c =
-    let a = c.before.before.before.before.before.before.before.args in
-    let e = sym c.before.before.before.before.before.before.given-tests.ensures ∙ c.before.before.before.before.r.given.1 in
-    (refused-answer a.rotations.now a.is-time-reversal (length a.out.now) e, c.before.fill.ensures ∙ refused-written a.rotations.now a.is-time-reversal (length a.out.now) e)
+    let a = c.args in
+    let e = sym c.given_tests.ensures ∙ c.in-Refused.is in
+    (refused-answer a.rotations.now a.is_time_reversal (length a.out.now) e, c.fill.ensures ∙ refused-written a.rotations.now a.is_time_reversal (length a.out.now) e)
 
-pub reciprocal-group-spec : {M : Type 1} → statement M
-reciprocal-group-spec =
+pub reciprocal_group_spec : {M : Type 1} → statement M
+reciprocal_group_spec =
     tie.close
     (tie.spec
     given-tests-requires

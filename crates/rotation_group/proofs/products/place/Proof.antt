@@ -9,48 +9,48 @@ use Rattle.recip_rotations.proofs.Same.{matrix-eq}
 use Rattle.rotation_group.proofs.products.place.Statement.{statement}
 use Rattle.rotation_group.proofs.products.place.Tie as tie
 
-abbrev invariant-loop : tie.invariant-loop
+abbrev invariant-loop : tie.invariant-loop-k
 invariant-loop list m n p count k₀ k = k ≤ length list / 9
 
-abbrev decreases-loop : tie.decreases-loop
+abbrev decreases-loop : tie.decreases-loop-k
 decreases-loop list m n p count k₀ k = length list / 9 - k
 
-product-requires : tie.Need-product-requires invariant-loop decreases-loop
+product-requires : tie.Need-product-p-requires invariant-loop decreases-loop
 product-requires c κs = search rules
 
-loop-holds : tie.Need-loop-init invariant-loop decreases-loop
+loop-holds : tie.Need-loop-k-init invariant-loop decreases-loop
 loop-holds c = search rules
 
-slice-aggregate-same-matrix : tie.Need-slice-aggregate-same-matrix invariant-loop decreases-loop
+slice-aggregate-same-matrix : tie.Need-slice_bounds-same_matrix-end invariant-loop decreases-loop
 slice-aggregate-same-matrix c = search rules
 
-same-matrix-requires : tie.Need-same-matrix-requires invariant-loop decreases-loop
+same-matrix-requires : tie.Need-same_matrix-requires invariant-loop decreases-loop
 same-matrix-requires c κs = search rules
 
-returns : tie.Need-returns invariant-loop decreases-loop
+returns : tie.Need-returns-then-same_matrix invariant-loop decreases-loop
 returns c =
-    let s = c.before.before.before.before.before.before in
-    let p = c.before.before.before.before.before.product in
-    let l = c.before.before.before.before.loop in
-    λ h. sym (ap (λ p. matrix_at p 0) p.ensures) ∙ matrix-eq (matrix_at p.result 0) (matrix_at s.args.list.now l.k) (holds (sym c.before.same-matrix.ensures ∙ c.if1.true))
+    let s = c in
+    let p = c.product-p in
+    let l = c.loop-k in
+    λ h. sym (ap (λ p. matrix_at p 0) p.ensures) ∙ matrix-eq (matrix_at p.result 0) (matrix_at s.args.list.now l.k) (holds (sym c.same_matrix.ensures ∙ c.if-same_matrix.true))
 
-add-k : tie.Need-overflow-add-k invariant-loop decreases-loop
+add-k : tie.Need-overflow_add-k invariant-loop decreases-loop
 add-k c = search rules
 
-loop-less : tie.Need-loop-smaller invariant-loop decreases-loop
+loop-less : tie.Need-loop-k-smaller invariant-loop decreases-loop
 loop-less c = search rules
 
-loop-again : tie.Need-loop-preserved invariant-loop decreases-loop
+loop-again : tie.Need-loop-k-preserved invariant-loop decreases-loop
 loop-again c = search rules
 
 never : {n : ℕ} → n < n → ⊥
 never h = omega arith
 
-returns-2 : tie.Need-returns-2 invariant-loop decreases-loop
+returns-2 : tie.Need-returns invariant-loop decreases-loop
 returns-2 c = λ h. absurd (never h)
 
-pub place-spec : {M : Type 1} → statement M
-place-spec =
+pub place_spec : {M : Type 1} → statement M
+place_spec =
     tie.close
     (tie.spec
     invariant-loop

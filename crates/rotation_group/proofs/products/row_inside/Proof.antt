@@ -11,44 +11,44 @@ use Rattle.rotation_group.proofs.Walking.{every-start, every-on, every-stop, eve
 use Rattle.rotation_group.proofs.products.row_inside.Statement.{statement}
 use Rattle.rotation_group.proofs.products.row_inside.Tie as tie
 
-abbrev invariant-loop : tie.invariant-loop
+abbrev invariant-loop : tie.invariant-loop-n
 invariant-loop list m count n₀ n = (n₀ ≡ 0) × (n ≤ length list / 9) × (every (λ x. among (matrix_at list m · x) (matrices list)) (matrices_from list n₀ (length list / 9 - n₀)) ≡ every (λ x. among (matrix_at list m · x) (matrices list)) (matrices_from list n (length list / 9 - n)))
 
-abbrev decreases-loop : tie.decreases-loop
+abbrev decreases-loop : tie.decreases-loop-n
 decreases-loop list m count n₀ n = length list / 9 - n
 
-loop-holds : tie.Need-loop-init invariant-loop decreases-loop
+loop-holds : tie.Need-loop-n-init invariant-loop decreases-loop
 loop-holds c = (search rules, search rules, refl)
 
-has-product-requires : tie.Need-has-product-requires invariant-loop decreases-loop
+has-product-requires : tie.Need-has_product-requires invariant-loop decreases-loop
 has-product-requires c κs = search rules
 
-returns : tie.Need-returns invariant-loop decreases-loop
+returns : tie.Need-returns-then-not-has_product invariant-loop decreases-loop
 returns c =
-    let s = c.before.before.before.before in
-    let l = c.before.before.before.loop in
-    sym (every-start s.args.list.now _ (length s.args.list.now / 9) (λ x. among (matrix_at s.args.list.now s.args.m · x) (matrices s.args.list.now)) l.invariant.0 ∙ l.invariant.2 ∙ every-stop s.args.list.now l.n (length s.args.list.now / 9) (λ x. among (matrix_at s.args.list.now s.args.m · x) (matrices s.args.list.now)) (search rules) (sym c.before.has-product.ensures ∙ not-true c.before.has-product.result c.if1.true))
+    let s = c in
+    let l = c.loop-n in
+    sym (every-start s.args.list.now _ (length s.args.list.now / 9) (λ x. among (matrix_at s.args.list.now s.args.m · x) (matrices s.args.list.now)) l.invariant.0 ∙ l.invariant.2 ∙ every-stop s.args.list.now l.n (length s.args.list.now / 9) (λ x. among (matrix_at s.args.list.now s.args.m · x) (matrices s.args.list.now)) (search rules) (sym c.has_product.ensures ∙ not-true c.has_product.result c.if-not-has_product.true-raw))
 
-add-n : tie.Need-overflow-add-n invariant-loop decreases-loop
+add-n : tie.Need-overflow_add-n invariant-loop decreases-loop
 add-n c = search rules
 
-loop-less : tie.Need-loop-smaller invariant-loop decreases-loop
+loop-less : tie.Need-loop-n-smaller invariant-loop decreases-loop
 loop-less c = search rules
 
-loop-again : tie.Need-loop-preserved invariant-loop decreases-loop
+loop-again : tie.Need-loop-n-preserved invariant-loop decreases-loop
 loop-again c =
-    let s = c.before.before.before.before in
-    let l = c.before.before.before.loop in
-    (l.invariant.0, search rules, l.invariant.2 ∙ every-on s.args.list.now l.n (length s.args.list.now / 9) (λ x. among (matrix_at s.args.list.now s.args.m · x) (matrices s.args.list.now)) (search rules) (sym c.before.has-product.ensures ∙ not-false c.before.has-product.result c.if1.false))
+    let s = c in
+    let l = c.loop-n in
+    (l.invariant.0, search rules, l.invariant.2 ∙ every-on s.args.list.now l.n (length s.args.list.now / 9) (λ x. among (matrix_at s.args.list.now s.args.m · x) (matrices s.args.list.now)) (search rules) (sym c.has_product.ensures ∙ not-false c.has_product.result c.if-not-has_product.false-raw))
 
-returns-2 : tie.Need-returns-2 invariant-loop decreases-loop
+returns-2 : tie.Need-returns invariant-loop decreases-loop
 returns-2 c =
-    let s = c.before.before in
-    let l = c.before.loop in
+    let s = c in
+    let l = c.loop-n in
     sym (every-start s.args.list.now _ (length s.args.list.now / 9) (λ x. among (matrix_at s.args.list.now s.args.m · x) (matrices s.args.list.now)) l.invariant.0 ∙ l.invariant.2 ∙ every-end s.args.list.now l.n (length s.args.list.now / 9) (λ x. among (matrix_at s.args.list.now s.args.m · x) (matrices s.args.list.now)) (search rules))
 
-pub row-inside-spec : {M : Type 1} → statement M
-row-inside-spec =
+pub row_inside_spec : {M : Type 1} → statement M
+row_inside_spec =
     tie.close
     (tie.spec
     invariant-loop

@@ -8,42 +8,42 @@ use Rattle.rotation_group.proofs.Marks.{known-set}
 use Rattle.rotation_group.proofs.products.row_kept.Statement.{statement}
 use Rattle.rotation_group.proofs.products.row_kept.Tie as tie
 
-slice-read-if1 : tie.Need-slice-read-if1
+slice-read-if1 : tie.Need-bounds-known-m
 slice-read-if1 c = search rules
 
-returns : tie.Need-returns
+returns : tie.Need-returns-then-known-m-ne0
 returns c =
-    let s = c.before.before.before in
+    let s = c in
     let l = s.args.list.now in
-    (sym (is_true (row_inside (matrices l) (matrix_at l s.args.m)) (s.requires.1.1.1.inside s.args.m c.if1.true)), s.requires.1.1.1)
+    (sym (is_true (row_inside (matrices l) (matrix_at l s.args.m)) (s.requires.1.1.1.inside s.args.m c.if-known-m-ne0.true)), s.requires.1.1.1)
 
-row-inside-requires : tie.Need-row-inside-requires
+row-inside-requires : tie.Need-row_inside-requires
 row-inside-requires c κs = search rules
 
-returns-2 : tie.Need-returns-2
+returns-2 : tie.Need-returns-then-not-row_inside
 returns-2 c =
-    let s = c.before.before.before.before.before in
-    (sym (no c.before.row_inside.ensures c.if2.true), s.requires.1.1.1)
+    let s = c in
+    (sym (no c.row_inside.ensures c.if-not-row_inside.true-raw), s.requires.1.1.1)
 
 mark-requires : tie.Need-mark-requires
 mark-requires c κs =
-    let s = c.before.before.before.before.before.before in
-    (search rules, (search rules, (search rules, (holds (yes c.before.before.row_inside.ensures c.before.if2.false), s.requires.1.1.1))))
+    let s = c in
+    (search rules, (search rules, (search rules, (holds (yes c.row_inside.ensures c.if-not-row_inside.false-raw), s.requires.1.1.1))))
 
-slice-write-known : tie.Need-slice-write-known
+slice-write-known : tie.Need-bounds-known-m-2
 slice-write-known c = search rules
 
-same_length : tie.Need-same-length
+same_length : tie.Need-shape_of-known
 same_length c = search rules
 
-returns-3 : tie.Need-returns-3
+returns-3 : tie.Need-returns
 returns-3 c =
-    let s = c.before.before.before.before.before.before.before.before.before in
-    let e = yes c.before.before.before.before.before.row_inside.ensures c.before.before.before.before.if2.false in
-    (sym e, known-set s.args.m 1 c.before.before.mark.ensures (holds e))
+    let s = c in
+    let e = yes c.row_inside.ensures c.if-not-row_inside.false-raw in
+    (sym e, known-set s.args.m 1 c.mark.ensures (holds e))
 
-pub row-kept-spec : {M : Type 1} → statement M
-row-kept-spec =
+pub row_kept_spec : {M : Type 1} → statement M
+row_kept_spec =
     tie.close
     (tie.spec
     slice-read-if1

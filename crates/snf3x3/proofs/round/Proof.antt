@@ -18,28 +18,28 @@ on : (t d : Bool) (y : Triple) → d ≡ true → (provided t y then second) ≡
 on true d y e = ap (λ (d' : Bool). pick d' (second y) (ok (record { done = d; left = y }))) (sym e)
 on false d y e = refl
 
-first-requires : tie.Need-first-requires
+first-requires : tie.Need-first-o-requires
 first-requires c κs = search rules
 
-returns : tie.Need-returns
+returns : tie.Need-returns-then-not-o
 unfolding round
 returns c =
-    let f = c.before.before in
-    let o = f.first.result in
-    kept (fitting o.left.fits) (record { done = o.done; left = three_of o.left }) through-or-left (ap (λ (d : Bool). pick d (second (three_of o.left)) (ok (record { done = o.done; left = three_of o.left }))) (not-true o.done c.if1.true))
-    ∙ ap (λ r. r then through-or-left) f.first.ensures ∙ two_steps (triple_of f.before.args.s) first through-or-left
+    let f = c in
+    let o = f.first-o.result in
+    kept (fitting o.left.fits) (record { done = o.done; left = three_of o.left }) through-or-left (ap (λ (d : Bool). pick d (second (three_of o.left)) (ok (record { done = o.done; left = three_of o.left }))) (not-true o.done c.if-not-o.true))
+    ∙ ap (λ r. r then through-or-left) f.first-o.ensures ∙ two_steps (triple_of f.args.s) first through-or-left
 
 second-requires : tie.Need-second-requires
 second-requires c κs = search rules
 
-returns-2 : tie.Need-returns-2
+returns-2 : tie.Need-returns
 unfolding round
 returns-2 c =
-    let f = c.before.before.before in
-    let o = f.first.result in
+    let f = c in
+    let o = f.first-o.result in
     c.second.ensures
-    ∙ on (fitting o.left.fits) o.done (three_of o.left) (not-false o.done c.before.if1.false)
-    ∙ ap (λ r. r then through-or-left) f.first.ensures ∙ two_steps (triple_of f.before.args.s) first through-or-left
+    ∙ on (fitting o.left.fits) o.done (three_of o.left) (not-false o.done c.if-not-o.false)
+    ∙ ap (λ r. r then through-or-left) f.first-o.ensures ∙ two_steps (triple_of f.args.s) first through-or-left
 
-pub round-spec : {M : Type 1} → statement M
-round-spec = tie.close (tie.spec first-requires returns second-requires returns-2)
+pub round_spec : {M : Type 1} → statement M
+round_spec = tie.close (tie.spec first-requires returns second-requires returns-2)

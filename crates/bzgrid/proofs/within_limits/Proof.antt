@@ -9,35 +9,35 @@ use Rattle.bzsearch.specs.Lattice.{lattice_fits}
 use Rattle.bzgrid.proofs.within_limits.Statement.{statement}
 use Rattle.bzgrid.proofs.within_limits.Tie as tie
 
-diagonal-fits-requires : tie.Need-diagonal-fits-requires
+diagonal-fits-requires : tie.Need-diagonal_fits-requires
 diagonal-fits-requires c κs = search rules
 
-returns : tie.Need-returns
+returns : tie.Need-returns-then-not-diagonal_fits
 returns c =
-    let s = c.before.before in
-    ends c.before.diagonal-fits.ensures (matrix_within 1000 (matrix_of s.args.q) && (shift_fits s.args.ps && lattice_fits (float_matrix s.args.lattice))) c.if1.true
+    let s = c in
+    ends c.diagonal_fits.ensures (matrix_within 1000 (matrix_of s.args.q) && (shift_fits s.args.ps && lattice_fits (float_matrix s.args.lattice))) c.if-not-diagonal_fits.true-raw
 
-matrix-within-requires : tie.Need-matrix-within-requires
+matrix-within-requires : tie.Need-matrix_within-requires
 matrix-within-requires c κs = search rules
 
-shift-fits-requires : tie.Need-shift-fits-requires
+shift-fits-requires : tie.Need-shift_fits-requires
 shift-fits-requires c κs = search rules
 
-lattice-fits-requires : tie.Need-lattice-fits-requires
+lattice-fits-requires : tie.Need-lattice_fits-requires
 lattice-fits-requires c κs = search rules
 
-all-three-requires : tie.Need-all-three-requires
+all-three-requires : tie.Need-all_three-requires
 all-three-requires c κs = search rules
 
-returns-2 : tie.Need-returns-2
+returns-2 : tie.Need-returns
 returns-2 c =
-    let z = c.before in
-    let y = z.before in
-    let x = y.before in
-    goes_on x.before.before.diagonal-fits.ensures x.before.if1.false (c.All-three.ensures ∙ (λ i. x.matrix-within.ensures i && (y.shift-fits.ensures i && z.lattice-fits.ensures i)))
+    let z = c in
+    let y = z in
+    let x = y in
+    goes_on x.diagonal_fits.ensures x.if-not-diagonal_fits.false-raw (c.all_three.ensures ∙ (λ i. x.matrix_within.ensures i && (y.shift_fits.ensures i && z.lattice_fits.ensures i)))
 
-pub within-limits-spec : {M : Type 1} → statement M
-within-limits-spec =
+pub within_limits_spec : {M : Type 1} → statement M
+within_limits_spec =
     tie.close
     (tie.spec
     diagonal-fits-requires

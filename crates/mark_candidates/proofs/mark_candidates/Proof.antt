@@ -14,18 +14,18 @@ use borrow.Author.Rules.{rules}
 use Rattle.mark_candidates.proofs.mark_candidates.Statement.{statement}
 use Rattle.mark_candidates.proofs.mark_candidates.Tie as tie
 
-mark-tests-requires : tie.Need-mark-tests-requires
+mark-tests-requires : tie.Need-mark_tests-requires
 mark-tests-requires c κs = search rules
 
-enum_told : tie.Need-enum-told
+enum_told : tie.Need-enum_told-1
 enum_told c = search rules
 
 -- what the tests answered
-tested : (c : tie.After-mark-tests) → let a = c.before.args in c.mark-tests.result ≡ mark_tests a.d a.q a.ps a.r.lowest a.r.highest a.point (length a.marks.now)
+tested : (c : tie.After-mark_tests) → let a = c.args in c.mark_tests.result ≡ mark_tests a.d a.q a.ps a.r.lowest a.r.highest a.point (length a.marks.now)
 tested c =
-    let s = c.before in
+    let s = c in
     let a = s.args in
-    c.mark-tests.ensures ∙ ap (λ p. mark_tests a.d a.q a.ps a.r.lowest a.r.highest p (length a.marks.now)) (to_z-of_z s.ranges.point)
+    c.mark_tests.ensures ∙ ap (λ p. mark_tests a.d a.q a.ps a.r.lowest a.r.highest p (length a.marks.now)) (to_z-of_z s.ranges.point)
 
 -- and what the call leaves
 abbrev Told : List ℤ → List (List ℤ) → List ℤ → List ℤ → List ℤ → ℤ → ℕ → Tested → List ℤ → Type 0
@@ -42,37 +42,37 @@ leaves d q ps lowest highest point n {t} {l} e w = (same, says)
     says : t ≡ Accepted → MarksSay d q ps lowest highest point l
     says a = subst (MarksSay d q ps lowest highest point) (sym (ap (λ m. m.marks) same)) (marks-say d q ps lowest highest point n (sym (ap (λ m. m.answer) same) ∙ a))
 
-mark-point-requires : tie.Need-mark-point-requires
-mark-point-requires c κs = sym c.before.before.before.mark-tests.ensures ∙ c.before.enum_told.given.1
+mark-point-requires : tie.Need-mark_point-requires
+mark-point-requires c κs = sym c.mark_tests.ensures ∙ c.in-Accepted.is
 
-enum-known-e : tie.Need-enum-known-e
+enum-known-e : tie.Need-enum_known-e
 enum-known-e c = search rules
 
 fill-requires : tie.Need-fill-requires
 fill-requires c κs = search rules
 
-same_length : tie.Need-same-length
+same_length : tie.Need-shape_of-marks-in-Accepted
 same_length c = search rules
 
-returns : tie.Need-returns
+returns : tie.Need-returns-in-Accepted
 returns c =
-    let t = c.before.before.before.before.before in
-    let s = t.before in
+    let t = c.before.before.before.before in
+    let s = t in
     let a = s.args in
-    leaves a.d a.q a.ps a.r.lowest a.r.highest a.point (length a.marks.now) (sym c.before.before.before.enum_told.given.1 ∙ tested t)
-    (c.before.mark-point.ensures ∙ ap (marks a.d a.q a.ps a.r.lowest a.r.highest) (to_z-of_z s.ranges.point))
+    leaves a.d a.q a.ps a.r.lowest a.r.highest a.point (length a.marks.now) (sym c.in-Accepted.is ∙ tested t)
+    (c.mark_point.ensures ∙ ap (marks a.d a.q a.ps a.r.lowest a.r.highest) (to_z-of_z s.ranges.point))
 
-same-length-2 : tie.Need-same-length-2
+same-length-2 : tie.Need-shape_of-marks-in-Refused
 same-length-2 c = search rules
 
-returns-2 : tie.Need-returns-2
+returns-2 : tie.Need-returns-in-Refused
 returns-2 c =
-    let t = c.before.before.before.before.before.before in
-    let a = t.before.args in
-    leaves a.d a.q a.ps a.r.lowest a.r.highest a.point (length a.marks.now) (sym c.before.before.before.before.e.given.1 ∙ tested t) c.before.fill.ensures
+    let t = c.before.before.before.before in
+    let a = t.args in
+    leaves a.d a.q a.ps a.r.lowest a.r.highest a.point (length a.marks.now) (sym c.in-Refused.is ∙ tested t) c.fill.ensures
 
-pub mark-candidates-spec : {M : Type 1} → statement M
-mark-candidates-spec =
+pub mark_candidates_spec : {M : Type 1} → statement M
+mark_candidates_spec =
     tie.close
     (tie.spec
     mark-tests-requires

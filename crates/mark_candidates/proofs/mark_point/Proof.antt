@@ -34,32 +34,32 @@ point c = point-inside c.args.point (size (sides_of c.args.d)) (within c).inside
 few : (c : tie.Start) → size (sides_of c.args.d) ≤ 65536
 few c = few-points c.args.d (within c).grid
 
-grid-of-requires : tie.Need-grid-of-requires
+grid-of-requires : tie.Need-grid_of-g-requires
 grid-of-requires c κs = (within c).grid
 
-cast-rests-of : tie.Need-overflow-cast-rests-of
-cast-rests-of c = held-natural c.before.ranges.point (point c.before).0
+cast-rests-of : tie.Need-overflow_cast-point
+cast-rests-of c = held-natural c.ranges.point (point c.before).0
 
-rests-of-requires : tie.Need-rests-of-requires
+rests-of-requires : tie.Need-rests_of-s-requires
 rests-of-requires c κs =
     let s = c.before in
-    let e = sym c.grid-of.ensures in (
+    let e = sym c.grid_of-g.ensures in (
       rw (to_z-of_z s.ranges.point) (subst (λ d. nat_abs s.args.point < size d) e (point s).1),
       (shift-sized s.args.ps (search rules) (within s).shift, ((within s).entries, (subst GridFits e (grid-fits s.args.d (within s).grid), subst (λ d. size d ≤ 65536) e (few s)))),
     )
 
-rested : (c : tie.After-rests-of) → let a = c.before.before.args in c.rests-of.result ≡ items (rests (sides_of a.d) (vector_of a.ps) (matrix_of a.q) (nat_abs a.point))
+rested : (c : tie.After-rests_of-s) → let a = c.args in c.rests_of-s.result ≡ items (rests (sides_of a.d) (vector_of a.ps) (matrix_of a.q) (nat_abs a.point))
 rested c =
-    let s = c.before.before in
-    c.rests-of.ensures ∙ ap₂ (λ d p. items (rests d (vector_of s.args.ps) (matrix_of s.args.q) (nat_abs p))) c.before.grid-of.ensures (to_z-of_z s.ranges.point)
+    let s = c in
+    c.rests_of-s.ensures ∙ ap₂ (λ d p. items (rests d (vector_of s.args.ps) (matrix_of s.args.q) (nat_abs p))) c.grid_of-g.ensures (to_z-of_z s.ranges.point)
 
-counted : (c : tie.After-points) → c.points.result ≡ size (sides_of c.before.before.before.args.d)
-counted c = c.points.ensures ∙ ap size c.before.before.grid-of.ensures
+counted : (c : tie.After-points) → c.points.result ≡ size (sides_of c.args.d)
+counted c = c.points.ensures ∙ ap size c.grid_of-g.ensures
 
 points-requires : tie.Need-points-requires
-points-requires c κs = let s = c.before.before in rw c.before.grid-of.ensures (grid-fits s.args.d (within s).grid)
+points-requires c κs = let s = c.before.before in rw c.grid_of-g.ensures (grid-fits s.args.d (within s).grid)
 
-write-marks-requires : tie.Need-write-marks-requires
+write-marks-requires : tie.Need-write_marks-requires
 write-marks-requires c κs =
     let s = c.before.before.before.before in
     let a = s.args in (
@@ -67,19 +67,19 @@ write-marks-requires c κs =
       (rw (counted c.before) (few s), (ranges-fit a.r (within s).lows (within s).highs, ((passes s).ranges-2, (passes s).places))),
     )
 
-same_length : tie.Need-same-length
+same_length : tie.Need-shape_of-out
 same_length c = search rules
 
 returns : tie.Need-returns
 unfolding marks
 returns c =
     let p = c.before.before.before in
-    let a = p.before.before.before.args in
-    c.before.write-marks.ensures
+    let a = p.args in
+    c.write_marks.ensures
     ∙ ap₂ (λ n s. map (mark (ranges_of a.r.lowest a.r.highest) (position n (vector_of s)) candidates125) candidates125) (counted p) (rested p.before)
 
-pub mark-point-spec : {M : Type 1} → statement M
-mark-point-spec =
+pub mark_point_spec : {M : Type 1} → statement M
+mark_point_spec =
     tie.close
     (tie.spec
     grid-of-requires

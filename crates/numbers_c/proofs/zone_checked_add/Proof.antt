@@ -7,19 +7,19 @@ use Rattle.numbers_c.proofs.Answers.{passed_on}
 use Rattle.numbers_c.proofs.zone_checked_add.Statement.{statement}
 use Rattle.numbers_c.proofs.zone_checked_add.Tie as tie
 
-checked-add-requires : tie.Need-checked-add-requires
+checked-add-requires : tie.Need-checked_add-requires
 checked-add-requires c κs = search rules
 
 tell-requires : tie.Need-tell-requires
 tell-requires c κs = search rules
 
-same_length : tie.Need-same-length
+same_length : tie.Need-shape_of-out
 same_length c = search rules
 
 returns : tie.Need-returns
 returns c =
-    let s = c.before.before.before.before in
-    passed_on c.before.tell.type-inv (c.before.before.before.checked-add.ensures ∙ ap₂ (λ a b. checked (a +ℤ b)) (to_z-of_z s.ranges.a) (to_z-of_z s.ranges.b)) c.before.tell.ensures
+    let s = c in
+    passed_on c.tell.type_inv (c.checked_add.ensures ∙ ap₂ (λ a b. checked (a +ℤ b)) (to_z-of_z s.ranges.a) (to_z-of_z s.ranges.b)) c.tell.ensures
 
-pub zone-checked-add-spec : {M : Type 1} → statement M
-zone-checked-add-spec = tie.close (tie.spec checked-add-requires tell-requires same_length returns)
+pub zone_checked_add_spec : {M : Type 1} → statement M
+zone_checked_add_spec = tie.close (tie.spec checked-add-requires tell-requires same_length returns)

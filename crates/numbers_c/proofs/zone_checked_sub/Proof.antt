@@ -7,19 +7,19 @@ use Rattle.numbers_c.proofs.Answers.{passed_on}
 use Rattle.numbers_c.proofs.zone_checked_sub.Statement.{statement}
 use Rattle.numbers_c.proofs.zone_checked_sub.Tie as tie
 
-checked-sub-requires : tie.Need-checked-sub-requires
+checked-sub-requires : tie.Need-checked_sub-requires
 checked-sub-requires c κs = search rules
 
 tell-requires : tie.Need-tell-requires
 tell-requires c κs = search rules
 
-same_length : tie.Need-same-length
+same_length : tie.Need-shape_of-out
 same_length c = search rules
 
 returns : tie.Need-returns
 returns c =
-    let s = c.before.before.before.before in
-    passed_on c.before.tell.type-inv (c.before.before.before.checked-sub.ensures ∙ ap₂ (λ a b. checked (a -ℤ b)) (to_z-of_z s.ranges.a) (to_z-of_z s.ranges.b)) c.before.tell.ensures
+    let s = c in
+    passed_on c.tell.type_inv (c.checked_sub.ensures ∙ ap₂ (λ a b. checked (a -ℤ b)) (to_z-of_z s.ranges.a) (to_z-of_z s.ranges.b)) c.tell.ensures
 
-pub zone-checked-sub-spec : {M : Type 1} → statement M
-zone-checked-sub-spec = tie.close (tie.spec checked-sub-requires tell-requires same_length returns)
+pub zone_checked_sub_spec : {M : Type 1} → statement M
+zone_checked_sub_spec = tie.close (tie.spec checked-sub-requires tell-requires same_length returns)

@@ -8,14 +8,14 @@ use borrow.Author.Rules.{rules}
 use Rattle.triplet_grid.proofs.carried.Statement.{statement}
 use Rattle.triplet_grid.proofs.carried.Tie as tie
 
-matvec-ii-requires : tie.Need-matvec-ii-requires
+matvec-ii-requires : tie.Need-matvec_ii-requires
 matvec-ii-requires c κs = let p = c.requires in apply-fits 100000 10000000000000 p.0 p.1.0 (lit≤ tt)
 
-grid-index-from-address-requires : tie.Need-grid-index-from-address-requires
+grid-index-from-address-requires : tie.Need-grid_index_from_address-requires
 grid-index-from-address-requires c κs = search rules
 
 returns : tie.Need-returns
-returns c = let s = c.before.before in c.grid-index-from-address.ensures.0 ∙ ap (λ l. index (sides s.args.g) (vector_of l)) c.before.matvec-ii.ensures
+returns c = let s = c in c.grid_index_from_address.ensures.0 ∙ ap (λ l. index (sides s.args.g) (vector_of l)) c.matvec_ii.ensures
 
-pub carried-spec : {M : Type 1} → statement M
-carried-spec = tie.close (tie.spec matvec-ii-requires grid-index-from-address-requires returns)
+pub carried_spec : {M : Type 1} → statement M
+carried_spec = tie.close (tie.spec matvec-ii-requires grid-index-from-address-requires returns)

@@ -10,72 +10,72 @@ use Rattle.triplet_grid.proofs.Keeping.{Front, carry-is, front-start, front_read
 use Rattle.triplet_grid.proofs.keep_stabilizer.Statement.{statement}
 use Rattle.triplet_grid.proofs.keep_stabilizer.Tie as tie
 
-abbrev invariant-loop : tie.invariant-loop
+abbrev invariant-loop : tie.invariant-loop-n
 invariant-loop group₀ count g q0 address kept₀ n₀ group kept n = (n ≤ count) × (length group ≡ length group₀) × Front (sides g) q0 group₀ n kept group
 
-abbrev decreases-loop : tie.decreases-loop
+abbrev decreases-loop : tie.decreases-loop-n
 decreases-loop group₀ count g q0 address kept₀ n₀ group kept n = count - n
 
-grid-address-from-index-requires : tie.Need-grid-address-from-index-requires invariant-loop decreases-loop
+grid-address-from-index-requires : tie.Need-grid_address_from_index-address-requires invariant-loop decreases-loop
 grid-address-from-index-requires c κs = search rules
 
-loop-holds : tie.Need-loop-init invariant-loop decreases-loop
-loop-holds c = let a = c.before.args in (search rules, refl, front-start (sides a.g) a.q0 a.group.now)
+loop-holds : tie.Need-loop-n-init invariant-loop decreases-loop
+loop-holds c = let a = c.args in (search rules, refl, front-start (sides a.g) a.q0 a.group.now)
 
-matrix-at-requires : tie.Need-matrix-at-requires invariant-loop decreases-loop
+matrix-at-requires : tie.Need-matrix_at-m-requires invariant-loop decreases-loop
 matrix-at-requires c κs = search rules
 
 carried-requires : tie.Need-carried-requires invariant-loop decreases-loop
 carried-requires c κs =
-    let s = c.before.before.before.before.before in
-    let l = c.before.before.before.loop in
+    let s = c in
+    let l = c.loop-n in
     let d = sides s.args.g in (
-      rw (c.matrix-at.ensures ∙ ap rows (front_read d s.args.q0 s.args.group.now l.invariant.2)) (rotation-sized 100000 s.args.group.now s.requires.1.1.1 l.n),
-      (rw c.before.before.before.before.grid-address-from-index.ensures (address-sized d s.requires.0 s.args.q0 s.requires.1.0), s.requires.0),
+      rw (c.matrix_at-m.ensures ∙ ap rows (front_read d s.args.q0 s.args.group.now l.invariant.2)) (rotation-sized 100000 s.args.group.now s.requires.1.1.1 l.n),
+      (rw c.grid_address_from_index-address.ensures (address-sized d s.requires.0 s.args.q0 s.requires.1.0), s.requires.0),
     )
 
-mul-store-matrix : tie.Need-overflow-mul-store-matrix invariant-loop decreases-loop
+mul-store-matrix : tie.Need-overflow_mul-kept invariant-loop decreases-loop
 mul-store-matrix c = search rules
 
-store-matrix-requires : tie.Need-store-matrix-requires invariant-loop decreases-loop
+store-matrix-requires : tie.Need-store_matrix-requires invariant-loop decreases-loop
 store-matrix-requires c κs = search rules
 
-add_kept : tie.Need-overflow-add-kept invariant-loop decreases-loop
+add_kept : tie.Need-overflow_add-kept invariant-loop decreases-loop
 add_kept c = search rules
 
-add-n : tie.Need-overflow-add-n invariant-loop decreases-loop
+add-n : tie.Need-overflow_add-n invariant-loop decreases-loop
 add-n c = search rules
 
-loop-less : tie.Need-loop-smaller invariant-loop decreases-loop
+loop-less : tie.Need-loop-n-smaller invariant-loop decreases-loop
 loop-less c = search rules
 
-loop-again : tie.Need-loop-preserved invariant-loop decreases-loop
+loop-again : tie.Need-loop-n-preserved invariant-loop decreases-loop
 loop-again c =
-    let s = c.before.before.before.before.before.before.before in
-    let l = c.before.before.before.before.before.loop in
+    let s = c in
+    let l = c.loop-n in
     let d = sides s.args.g in
-    let m = c.before.before.matrix-at.ensures ∙ ap rows (front_read d s.args.q0 s.args.group.now l.invariant.2) in
-    let r = carry-is d s.args.q0 c.before.carried.ensures m c.before.before.before.before.before.before.grid-address-from-index.ensures in (
+    let m = c.matrix_at-m.ensures ∙ ap rows (front_read d s.args.q0 s.args.group.now l.invariant.2) in
+    let r = carry-is d s.args.q0 c.carried.ensures m c.grid_address_from_index-address.ensures in (
       search rules,
-      ⊎_elim (λ w. search rules) (λ w. search rules) c.if1.branch,
+      ⊎_elim (λ w. search rules) (λ w. search rules) c.if-carried-q0.branch,
       ⊎_elim (λ w. rw w.5 (front-more d s.args.q0 s.args.group.now l.invariant.2 r w.0.taken m (w.4 ∙ w.2.ensures)))
           (λ w. rw (w.1, w.2) (front_same d s.args.q0 s.args.group.now l.invariant.2 r w.0.left))
-          c.if1.branch,
+          c.if-carried-q0.branch,
     )
 
-same_length : tie.Need-same-length invariant-loop decreases-loop
+same_length : tie.Need-shape_of-group invariant-loop decreases-loop
 same_length c = search rules
 
 returns : tie.Need-returns invariant-loop decreases-loop
 returns c =
-    let s = c.before.before.before in
-    let l = c.before.loop in
+    let s = c in
+    let l = c.loop-n in
     let e : l.n ≡ s.args.count = search rules in
     let f = subst (λ n. Front (sides s.args.g) s.args.q0 s.args.group.now n l.auto l.group) e l.invariant.2 in
     (f.held, f.count)
 
-pub keep-stabilizer-spec : {M : Type 1} → statement M
-keep-stabilizer-spec =
+pub keep_stabilizer_spec : {M : Type 1} → statement M
+keep_stabilizer_spec =
     tie.close
     (tie.spec
     invariant-loop

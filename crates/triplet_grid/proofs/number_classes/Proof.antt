@@ -12,52 +12,52 @@ use Rattle.triplet_grid.proofs.number_classes.Statement.{statement}
 use Rattle.triplet_grid.proofs.number_classes.Tie as tie
 use Rattle.common.specs.Matrix.{origin}
 
-keep-stabilizer-requires : tie.Need-keep-stabilizer-requires
+keep-stabilizer-requires : tie.Need-keep_stabilizer-kept-requires
 keep-stabilizer-requires c κs = search rules
 
-mul-number-points : tie.Need-overflow-mul-number-points
+mul-number-points : tie.Need-overflow_mul-kept
 mul-number-points c =
-    let s = c.before.before.before in
-    let h = front-room (sides s.args.g) s.args.q0 s.args.group.now s.args.count c.before.keep-stabilizer.ensures.1 s.requires.1.1.0 in
+    let s = c in
+    let h = front-room (sides s.args.g) s.args.q0 s.args.group.now s.args.count c.keep_stabilizer-kept.ensures.1 s.requires.1.1.0 in
     search rules
 
-sub-number-points : tie.Need-overflow-sub-number-points
+sub-number-points : tie.Need-slice_bounds-number_points-count
 sub-number-points c = search rules
 
-part-number-points-start : tie.Need-slice-bounds-number-points-start
+part-number-points-start : tie.Need-slice_bounds-number_points-start
 part-number-points-start c = search rules
 
-part-number-points-end : tie.Need-slice-bounds-number-points-end
+part-number-points-end : tie.Need-slice_bounds-number_points-end
 part-number-points-end c =
-    let s = c.before.before.before.before in
-    let h = front-room (sides s.args.g) s.args.q0 s.args.group.now s.args.count c.before.before.keep-stabilizer.ensures.1 s.requires.1.1.0 in
+    let s = c in
+    let h = front-room (sides s.args.g) s.args.q0 s.args.group.now s.args.count c.keep_stabilizer-kept.ensures.1 s.requires.1.1.0 in
     search rules
 
-number-points-requires : tie.Need-number-points-requires
+number-points-requires : tie.Need-number_points-requires
 number-points-requires c κs =
-    let s = c.before.before.before.before.before.before in
-    let k = c.before.before.before.before.keep-stabilizer.ensures in
+    let s = c in
+    let k = c.keep_stabilizer-kept.ensures in
     let p = front-part (sides s.args.g) s.args.q0 s.args.group.now s.args.count k.1 k.0 in (
       rw p (front-within (sides s.args.g) s.args.q0 s.args.group.now s.args.count s.requires.1.1.1.0),
       (sized-items origin zero-le zero-le zero-le, (s.requires.0, s.requires.1.1.1.1)),
     )
 
-same_length : tie.Need-same-length
+same_length : tie.Need-shape_of-group
 same_length c = search rules
 
-same-length-2 : tie.Need-same-length-2
+same-length-2 : tie.Need-shape_of-map_q
 same-length-2 c = search rules
 
 returns : tie.Need-returns
 unfolding map_q_of
 returns c =
-    let s = c.before.before.before.before.before.before.before.before in
-    let k = c.before.before.before.before.before.before.keep-stabilizer.ensures in
-    c.before.number-points.ensures
+    let s = c in
+    let k = c.keep_stabilizer-kept.ensures in
+    c.number_points.ensures
     ∙ ap (λ l. map pos (class_map_of (sides s.args.g) origin l)) (front-matrices (sides s.args.g) s.args.q0 s.args.group.now s.args.count k.1 k.0)
 
-pub number-classes-spec : {M : Type 1} → statement M
-number-classes-spec =
+pub number_classes_spec : {M : Type 1} → statement M
+number_classes_spec =
     tie.close
     (tie.spec
     keep-stabilizer-requires

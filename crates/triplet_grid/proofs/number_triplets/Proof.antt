@@ -13,42 +13,42 @@ use Rattle.triplet_grid.proofs.Swapping.{plain, length-triplets, kept-triplets}
 use Rattle.triplet_grid.proofs.number_triplets.Statement.{statement}
 use Rattle.triplet_grid.proofs.number_triplets.Tie as tie
 
-ir-triplets-at-q-perm-q1q2-requires : tie.Need-ir-triplets-at-q-perm-q1q2-requires
+ir-triplets-at-q-perm-q1q2-requires : tie.Need-ir_triplets_at_q_perm_q1q2-requires
 ir-triplets-at-q-perm-q1q2-requires c κs = search rules
 
-ir-triplets-at-q-noperm-requires : tie.Need-ir-triplets-at-q-noperm-requires
+ir-triplets-at-q-noperm-requires : tie.Need-ir_triplets_at_q_noperm-requires
 ir-triplets-at-q-noperm-requires c κs = search rules
 
-own-places-requires : tie.Need-own-places-requires
+own-places-requires : tie.Need-own_places-requires
 own-places-requires c κs = search rules
 
-written : (c : tie.Joined1) → let a = c.before.args in c.if1.map-triplets ≡ map pos (map_triplets_of a.swappable (sides a.g) a.q0 (map nat_abs a.map-q.now))
+written : (c : tie.Joined-swappable) → let a = c.args in c.if-swappable.map_triplets ≡ map pos (map_triplets_of a.swappable (sides a.g) a.q0 (map nat_abs a.map_q.now))
 written c =
-    let a = c.before.args in
-    let p = c.before.requires in
-    let l = map nat_abs a.map-q.now in
+    let a = c.args in
+    let p = c.requires in
+    let l = map nat_abs a.map_q.now in
     ⊎_elim (λ w. w.4 ∙ w.2.ensures ∙ ap (λ t. map pos (map_triplets_of t (sides a.g) a.q0 l)) (sym w.0.taken))
-    (λ w. w.4 ∙ w.2.ensures ∙ p.1.1.0.natural ∙ ap (map pos) (sym (plain (sides a.g) a.q0 l (length-map a.map-q.now nat_abs ∙ p.1.1.1.0))) ∙ ap (λ t. map pos (map_triplets_of t (sides a.g) a.q0 l)) (sym w.0.left))
-    c.if1.branch
+    (λ w. w.4 ∙ w.2.ensures ∙ p.1.1.0.natural ∙ ap (map pos) (sym (plain (sides a.g) a.q0 l (length-map a.map_q.now nat_abs ∙ p.1.1.1.0))) ∙ ap (λ t. map pos (map_triplets_of t (sides a.g) a.q0 l)) (sym w.0.left))
+    c.if-swappable.branch
 
-places : (c : tie.Joined1) → length c.if1.map-triplets ≡ size (sides c.before.args.g)
-places c = let a = c.before.args in length-triplets a.swappable (sides a.g) a.q0 (map nat_abs a.map-q.now) (written c)
+places : (c : tie.Joined-swappable) → length c.if-swappable.map_triplets ≡ size (sides c.args.g)
+places c = let a = c.args in length-triplets a.swappable (sides a.g) a.q0 (map nat_abs a.map_q.now) (written c)
 
-cast-result : tie.Need-overflow-cast-result
+cast-result : tie.Need-overflow_cast-result
 cast-result c = let n = places c.before.before in search rules
 
-same_length : tie.Need-same-length
-same_length c = places c.before.before ∙ sym c.before.before.before.requires.1.1.1.1
+same_length : tie.Need-shape_of-map_triplets
+same_length c = places c.before.before ∙ sym c.requires.1.1.1.1
 
 returns : tie.Need-returns
 returns c =
-    let a = c.before.before.before.args in
+    let a = c.args in
     let n = places c.before.before in
     let w = written c.before.before in
-    (w, to_z_pos w64 (search rules) ∙ ap pos (c.own-places.ensures.0 ∙ kept-triplets a.swappable (sides a.g) a.q0 (map nat_abs a.map-q.now) w))
+    (w, to_z_pos w64 (search rules) ∙ ap pos (c.own_places.ensures.0 ∙ kept-triplets a.swappable (sides a.g) a.q0 (map nat_abs a.map_q.now) w))
 
-pub number-triplets-spec : {M : Type 1} → statement M
-number-triplets-spec =
+pub number_triplets_spec : {M : Type 1} → statement M
+number_triplets_spec =
     tie.close
     (tie.spec
     ir-triplets-at-q-perm-q1q2-requires

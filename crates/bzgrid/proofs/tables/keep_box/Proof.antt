@@ -12,7 +12,7 @@ use Rattle.bzgrid.proofs.Kept.{keeping}
 use Rattle.bzgrid.proofs.tables.keep_box.Statement.{statement}
 use Rattle.bzgrid.proofs.tables.keep_box.Tie as tie
 
-abbrev invariant-loop : tie.invariant-loop
+abbrev invariant-loop : tie.invariant-loop-k
 invariant-loop bz p x y z rest bound addresses₀ grg₀ n t₀ k₀ addresses grg t k =
     (k ≤ n)
     × (length addresses ≡ length addresses₀)
@@ -20,53 +20,53 @@ invariant-loop bz p x y z rest bound addresses₀ grg₀ n t₀ k₀ addresses g
     × ((t.at ≤ t.next) × (t₀.next ≤ t.next) × (t.next ≤ t₀.next + 1089 * k))
     × (tables addresses grg t.at t.next ≡ foldl (keeping bz p bound) (tables addresses₀ grg₀ t₀.at t₀.next) (rows (box_at rest (record { x = numbers_view x; y = numbers_view y; z = numbers_view z })) k))
 
-abbrev decreases-loop : tie.decreases-loop
+abbrev decreases-loop : tie.decreases-loop-k
 decreases-loop bz p x y z rest bound addresses₀ grg₀ n t₀ k₀ addresses grg t k = n - k
 
-loop-holds : tie.Need-loop-init invariant-loop decreases-loop
+loop-holds : tie.Need-loop-k-init invariant-loop decreases-loop
 loop-holds c = search rules
 
-along-x-requires : tie.Need-along-x-requires invariant-loop decreases-loop
+along-x-requires : tie.Need-along_x-requires invariant-loop decreases-loop
 along-x-requires c κs = search rules
 
-keep-plane-requires : tie.Need-keep-plane-requires invariant-loop decreases-loop
+keep-plane-requires : tie.Need-keep_plane-t-requires invariant-loop decreases-loop
 keep-plane-requires c κs =
-    let s = c.before.before.before.before.before in
-    (s.requires.0, (box-sized s.args.rest (numbers_view s.args.x) (numbers_view s.args.y) (numbers_view s.args.z) c.before.before.before.before.loop.k c.before.before.along-x.ensures s.requires.1.0.0 (search rules), ((s.requires.1.0.1, s.requires.1.0.2), search rules)))
+    let s = c in
+    (s.requires.0, (box-sized s.args.rest (numbers_view s.args.x) (numbers_view s.args.y) (numbers_view s.args.z) c.loop-k.k c.along_x.ensures s.requires.1.0.0 (search rules), ((s.requires.1.0.1, s.requires.1.0.2), search rules)))
 
-add-k : tie.Need-overflow-add-k invariant-loop decreases-loop
+add-k : tie.Need-overflow_add-k invariant-loop decreases-loop
 add-k c = search rules
 
-loop-less : tie.Need-loop-smaller invariant-loop decreases-loop
+loop-less : tie.Need-loop-k-smaller invariant-loop decreases-loop
 loop-less c = search rules
 
-loop-again : tie.Need-loop-preserved invariant-loop decreases-loop
+loop-again : tie.Need-loop-k-preserved invariant-loop decreases-loop
 loop-again c =
-    let a = c.before.before.before.before.before.before.before.before.args in
-    let l = c.before.before.before.before.before.before.before.loop in
-    let e = c.before.before.keep-plane.ensures in (
+    let a = c.args in
+    let l = c.loop-k in
+    let e = c.keep_plane-t.ensures in (
       search rules,
       search rules,
       search rules,
       search rules,
-      turn (keeping a.bz a.p a.bound) (box_at a.rest (record { x = numbers_view a.x; y = numbers_view a.y; z = numbers_view a.z })) l.k (tables a.addresses.now a.grg.now a.c.at a.c.next) l.invariant.4 e.0 (box-row a.rest (numbers_view a.x) (numbers_view a.y) (numbers_view a.z) l.k c.before.before.before.before.before.along-x.ensures),
+      turn (keeping a.bz a.p a.bound) (box_at a.rest (record { x = numbers_view a.x; y = numbers_view a.y; z = numbers_view a.z })) l.k (tables a.addresses.now a.grg.now a.c.at a.c.next) l.invariant.4 e.0 (box-row a.rest (numbers_view a.x) (numbers_view a.y) (numbers_view a.z) l.k c.along_x.ensures),
     )
 
-same_length : tie.Need-same-length invariant-loop decreases-loop
+same_length : tie.Need-shape_of-addresses invariant-loop decreases-loop
 same_length c = search rules
 
-same-length-2 : tie.Need-same-length-2 invariant-loop decreases-loop
+same-length-2 : tie.Need-shape_of-grg invariant-loop decreases-loop
 same-length-2 c = search rules
 
 returns : tie.Need-returns invariant-loop decreases-loop
 returns c =
-    let s = c.before.before in
+    let s = c in
     let a = s.args in
-    let l = c.before.loop in
+    let l = c.loop-k in
     (finished (keeping a.bz a.p a.bound) (box_at a.rest (record { x = numbers_view a.x; y = numbers_view a.y; z = numbers_view a.z })) l.k (tables a.addresses.now a.grg.now a.c.at a.c.next) l.invariant.4 l.invariant.0 (search rules), omega (arith, s.requires.1.0.0.few))
 
-pub keep-box-spec : {M : Type 1} → statement M
-keep-box-spec =
+pub keep_box_spec : {M : Type 1} → statement M
+keep_box_spec =
     tie.close
     (tie.spec
     invariant-loop

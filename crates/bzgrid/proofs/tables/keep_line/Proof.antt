@@ -14,7 +14,7 @@ use Rattle.bzgrid.proofs.Kept.{keeping}
 use Rattle.bzgrid.proofs.tables.keep_line.Statement.{statement}
 use Rattle.bzgrid.proofs.tables.keep_line.Tie as tie
 
-abbrev invariant-loop : tie.invariant-loop
+abbrev invariant-loop : tie.invariant-loop-k
 invariant-loop bz p m z rest bound addresses₀ grg₀ n t₀ k₀ addresses grg t k =
     (k ≤ n)
     × (length addresses ≡ length addresses₀)
@@ -22,53 +22,53 @@ invariant-loop bz p m z rest bound addresses₀ grg₀ n t₀ k₀ addresses grg
     × ((t.at ≤ t.next) × (t₀.next ≤ t.next) × (t.next ≤ t₀.next + k))
     × (tables addresses grg t.at t.next ≡ foldl (keeping bz p bound) (tables addresses₀ grg₀ t₀.at t₀.next) (rows (line_at rest (numbers_view z) (along m X) (along m Y)) k))
 
-abbrev decreases-loop : tie.decreases-loop
+abbrev decreases-loop : tie.decreases-loop-k
 decreases-loop bz p m z rest bound addresses₀ grg₀ n t₀ k₀ addresses grg t k = n - k
 
-loop-holds : tie.Need-loop-init invariant-loop decreases-loop
+loop-holds : tie.Need-loop-k-init invariant-loop decreases-loop
 loop-holds c = search rules
 
-along-z-requires : tie.Need-along-z-requires invariant-loop decreases-loop
+along-z-requires : tie.Need-along_z-requires invariant-loop decreases-loop
 along-z-requires c κs = search rules
 
-keep-one-requires : tie.Need-keep-one-requires invariant-loop decreases-loop
+keep-one-requires : tie.Need-keep_one-t-requires invariant-loop decreases-loop
 keep-one-requires c κs =
-    let s = c.before.before.before.before.before in
-    (s.requires.0, (line-sized s.args.rest (numbers_view s.args.z) s.args.m c.before.before.before.before.loop.k c.before.before.along-z.ensures s.requires.1.0 s.requires.1.1.0 (search rules), search rules))
+    let s = c in
+    (s.requires.0, (line-sized s.args.rest (numbers_view s.args.z) s.args.m c.loop-k.k c.along_z.ensures s.requires.1.0 s.requires.1.1.0 (search rules), search rules))
 
-add-k : tie.Need-overflow-add-k invariant-loop decreases-loop
+add-k : tie.Need-overflow_add-k invariant-loop decreases-loop
 add-k c = search rules
 
-loop-less : tie.Need-loop-smaller invariant-loop decreases-loop
+loop-less : tie.Need-loop-k-smaller invariant-loop decreases-loop
 loop-less c = search rules
 
-loop-again : tie.Need-loop-preserved invariant-loop decreases-loop
+loop-again : tie.Need-loop-k-preserved invariant-loop decreases-loop
 loop-again c =
-    let a = c.before.before.before.before.before.before.before.before.args in
-    let l = c.before.before.before.before.before.before.before.loop in
-    let e = c.before.before.keep_one.ensures in (
+    let a = c.args in
+    let l = c.loop-k in
+    let e = c.keep_one-t.ensures in (
       search rules,
       search rules,
       search rules,
       search rules,
-      turn (keeping a.bz a.p a.bound) (line_at a.rest (numbers_view a.z) (along a.m X) (along a.m Y)) l.k (tables a.addresses.now a.grg.now a.c.at a.c.next) l.invariant.4 e.0 (line_row a.rest (numbers_view a.z) a.m l.k c.before.before.before.before.before.along-z.ensures),
+      turn (keeping a.bz a.p a.bound) (line_at a.rest (numbers_view a.z) (along a.m X) (along a.m Y)) l.k (tables a.addresses.now a.grg.now a.c.at a.c.next) l.invariant.4 e.0 (line_row a.rest (numbers_view a.z) a.m l.k c.along_z.ensures),
     )
 
-same_length : tie.Need-same-length invariant-loop decreases-loop
+same_length : tie.Need-shape_of-addresses invariant-loop decreases-loop
 same_length c = search rules
 
-same-length-2 : tie.Need-same-length-2 invariant-loop decreases-loop
+same-length-2 : tie.Need-shape_of-grg invariant-loop decreases-loop
 same-length-2 c = search rules
 
 returns : tie.Need-returns invariant-loop decreases-loop
 returns c =
-    let s = c.before.before in
+    let s = c in
     let a = s.args in
-    let l = c.before.loop in
+    let l = c.loop-k in
     (finished (keeping a.bz a.p a.bound) (line_at a.rest (numbers_view a.z) (along a.m X) (along a.m Y)) l.k (tables a.addresses.now a.grg.now a.c.at a.c.next) l.invariant.4 l.invariant.0 (search rules), omega (arith, s.requires.1.1.0.few))
 
-pub keep-line-spec : {M : Type 1} → statement M
-keep-line-spec =
+pub keep_line_spec : {M : Type 1} → statement M
+keep_line_spec =
     tie.close
     (tie.spec
     invariant-loop

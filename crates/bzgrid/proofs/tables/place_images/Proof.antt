@@ -16,10 +16,10 @@ use borrow.Author.Rules.{rules}
 use Rattle.bzgrid.proofs.tables.place_images.Statement.{statement}
 use Rattle.bzgrid.proofs.tables.place_images.Tie as tie
 
-abbrev invariant-loop : tie.invariant-loop
+abbrev invariant-loop : tie.invariant-loop-left
 invariant-loop addresses m g map₀ left₀ map left = (left ≤ m) × (length map ≡ length map₀) × (map ≡ placed_flat (sides g) addresses (m - left) map₀)
 
-abbrev decreases-loop : tie.decreases-loop
+abbrev decreases-loop : tie.decreases-loop-left
 decreases-loop addresses m g map₀ left₀ map left = left
 
 more : (d : Vec ℕ) (l : List ℤ) (k : ℕ) (old : List ℤ) {map : List ℤ} {at : ℕ} {v : ℤ} → map ≡ placed_flat d l k old → at ≡ index d (vector_of (row_at l (3 * k))) → v ≡ pos k
@@ -35,56 +35,56 @@ next m left h k = omega arith
 all : (m left : ℕ) → left ≤ 0 → m - left ≡ m
 all m left h = omega arith
 
-loop-holds : tie.Need-loop-init invariant-loop decreases-loop
+loop-holds : tie.Need-loop-left-init invariant-loop decreases-loop
 loop-holds c = let a = c.args in (search rules, search rules, ap (λ n. placed_flat (sides a.g) a.addresses.now n a.map.now) (none a.m))
 
-sub-k : tie.Need-overflow-sub-k invariant-loop decreases-loop
+sub-k : tie.Need-overflow_sub-k invariant-loop decreases-loop
 sub-k c = search rules
 
-mul-row-at : tie.Need-overflow-mul-row-at invariant-loop decreases-loop
+mul-row-at : tie.Need-overflow_mul-k invariant-loop decreases-loop
 mul-row-at c = search rules
 
-row-at-requires : tie.Need-row-at-requires invariant-loop decreases-loop
+row-at-requires : tie.Need-row_at-requires invariant-loop decreases-loop
 row-at-requires c κs = search rules
 
-grid-index-from-address-requires : tie.Need-grid-index-from-address-requires invariant-loop decreases-loop
+grid-index-from-address-requires : tie.Need-grid_index_from_address-at-requires invariant-loop decreases-loop
 grid-index-from-address-requires c κs = search rules
 
-cast-map : tie.Need-overflow-cast-map invariant-loop decreases-loop
+cast-map : tie.Need-overflow_cast-map invariant-loop decreases-loop
 cast-map c = search rules
 
-slice-set-from-map : tie.Need-slice-set-from-map invariant-loop decreases-loop
+slice-set-from-map : tie.Need-bounds-map-at invariant-loop decreases-loop
 slice-set-from-map c = search rules
 
-sub-left : tie.Need-overflow-sub-left invariant-loop decreases-loop
+sub-left : tie.Need-overflow_sub-left invariant-loop decreases-loop
 sub-left c = search rules
 
-loop-less : tie.Need-loop-smaller invariant-loop decreases-loop
+loop-less : tie.Need-loop-left-smaller invariant-loop decreases-loop
 loop-less c = search rules
 
-loop-again : tie.Need-loop-preserved invariant-loop decreases-loop
+loop-again : tie.Need-loop-left-preserved invariant-loop decreases-loop
 loop-again c =
-    let a = c.before.before.before.before.args in
-    let l = c.before.before.before.loop in
+    let a = c.args in
+    let l = c.loop-left in
     let k = a.m - l.left in
-    let row : c.before.row_at.result ≡ row_at a.addresses.now (3 * k) = search rules in (
+    let row : c.row_at.result ≡ row_at a.addresses.now (3 * k) = search rules in (
       search rules,
       search rules,
-      more (sides a.g) a.addresses.now k a.map.now l.invariant.2 (c.grid-index-from-address.ensures.0 ∙ ap (λ r. index (sides a.g) (vector_of r)) row) (to_z_pos w64 {n = k} (search rules))
+      more (sides a.g) a.addresses.now k a.map.now l.invariant.2 (c.grid_index_from_address-at.ensures.0 ∙ ap (λ r. index (sides a.g) (vector_of r)) row) (to_z_pos w64 {n = k} (search rules))
           ∙ ap (λ n. placed_flat (sides a.g) a.addresses.now n a.map.now) (next a.m l.left (search rules) (search rules)),
     )
 
-same_length : tie.Need-same-length invariant-loop decreases-loop
+same_length : tie.Need-shape_of-map invariant-loop decreases-loop
 same_length c = search rules
 
 returns : tie.Need-returns invariant-loop decreases-loop
 returns c =
-    let a = c.before.before.args in
-    let l = c.before.loop in
+    let a = c.args in
+    let l = c.loop-left in
     l.invariant.2 ∙ ap (λ k. placed_flat (sides a.g) a.addresses.now k a.map.now) (all a.m l.left (search rules))
 
-pub place-images-spec : {M : Type 1} → statement M
-place-images-spec =
+pub place_images_spec : {M : Type 1} → statement M
+place_images_spec =
     tie.close
     (tie.spec
     invariant-loop

@@ -14,54 +14,54 @@ use Rattle.job.proofs.job.floats.Tie as tie
 abbrev item : List ℕ → ℕ → ℕ → List Float → Float
 item b at k done = float b (at + 8 * k)
 
-abbrev invariant-loop : tie.invariant-loop
+abbrev invariant-loop : tie.invariant-loop-k
 invariant-loop bytes at out₀ k₀ out k = (k ≤ length out₀) × (length out ≡ length out₀) × (out ≡ written (item bytes at) (λ z. z) k out₀)
 
-abbrev decreases-loop : tie.decreases-loop
+abbrev decreases-loop : tie.decreases-loop-k
 decreases-loop bytes at out₀ k₀ out k = length out₀ - k
 
-loop-holds : tie.Need-loop-init invariant-loop decreases-loop
+loop-holds : tie.Need-loop-k-init invariant-loop decreases-loop
 loop-holds c = search rules
 
-mul-float : tie.Need-overflow-mul-float invariant-loop decreases-loop
+mul-float : tie.Need-overflow_mul-k invariant-loop decreases-loop
 mul-float c = search rules
 
-add-float : tie.Need-overflow-add-float invariant-loop decreases-loop
+add-float : tie.Need-overflow_add-at invariant-loop decreases-loop
 add-float c = search rules
 
 float-requires : tie.Need-float-requires invariant-loop decreases-loop
 float-requires c κs = search rules
 
-mul-out : tie.Need-overflow-mul-out invariant-loop decreases-loop
+mul-out : tie.Need-offset_bounds-out-k invariant-loop decreases-loop
 mul-out c = search rules
 
-slice-write-out : tie.Need-slice-write-out invariant-loop decreases-loop
+slice-write-out : tie.Need-bounds-out-k invariant-loop decreases-loop
 slice-write-out c = search rules
 
-add-k : tie.Need-overflow-add-k invariant-loop decreases-loop
+add-k : tie.Need-overflow_add-k invariant-loop decreases-loop
 add-k c = search rules
 
-loop-less : tie.Need-loop-smaller invariant-loop decreases-loop
+loop-less : tie.Need-loop-k-smaller invariant-loop decreases-loop
 loop-less c = search rules
 
-loop-again : tie.Need-loop-preserved invariant-loop decreases-loop
+loop-again : tie.Need-loop-k-preserved invariant-loop decreases-loop
 loop-again c =
-    let l = c.before.before.loop in
-    let s = c.before.before.before.before.before.args in
+    let l = c.loop-k in
+    let s = c.args in
     (search rules, search rules, written-more (item s.bytes.now s.at) (λ z. z) l.k s.out.now l.invariant.2 (search rules) c.float.ensures)
 
-same_length : tie.Need-same-length invariant-loop decreases-loop
+same_length : tie.Need-shape_of-out invariant-loop decreases-loop
 same_length c = search rules
 
 returns : tie.Need-returns invariant-loop decreases-loop
 unfolding floats
 returns c =
-    let l = c.before.loop in
-    let s = c.before.before.before.before.args in
+    let l = c.loop-k in
+    let s = c.args in
     l.invariant.2 ∙ ap (λ n. written (item s.bytes.now s.at) (λ z. z) n s.out.now) (le_antisymm l.invariant.0 (search rules)) ∙ written-end (item s.bytes.now s.at) (λ z. z) (length s.out.now) s.out.now refl ∙ map-id _
 
-pub floats-spec : {M : Type 1} → statement M
-floats-spec =
+pub floats_spec : {M : Type 1} → statement M
+floats_spec =
     tie.close
     (tie.spec
     invariant-loop

@@ -7,5 +7,5 @@ returns : tie.Need-returns
 unfolding of_bits neg
 returns c = refl
 
-pub refuse-spec : {M : Type 1} → statement M
-refuse-spec = tie.close (tie.spec returns)
+pub refuse_spec : {M : Type 1} → statement M
+refuse_spec = tie.close (tie.spec returns)

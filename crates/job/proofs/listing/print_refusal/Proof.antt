@@ -14,37 +14,33 @@ clear-requires c κs = search rules
 answer-requires : tie.Need-answer-requires
 answer-requires c κs = search rules
 
-slice-aggregate-put-line : tie.Need-slice-aggregate-put-line
+slice-aggregate-put-line : tie.Need-slice_bounds-put_line-end-2
 slice-aggregate-put-line c = search rules
 
-slice-aggregate-put-line-2 : tie.Need-slice-aggregate-put-line-2
-slice-aggregate-put-line-2 c = search rules
-
-put-line-requires : tie.Need-put-line-requires
+put-line-requires : tie.Need-put_line-p-requires
 put-line-requires c κs = search rules
 
 finish-requires : tie.Need-finish-requires
 finish-requires c κs = search rules
 
-same_length : tie.Need-same-length
+same_length : tie.Need-shape_of-out
 same_length c = search rules
 
 returns : tie.Need-returns
 unfolding refusal
 returns c =
-    let a = c.before.before.before.before.before.before.before.before.before.before.before.before.before.before.before.before.args in
+    let a = c.args in
     let n = length a.out.now in
-    let e = rw (to_z-of_z {w = w64} {z = c.before.before.before.before.before.before.before.before.before.before.answer.result} (search rules), c.before.before.before.before.before.before.before.before.before.before.answer.ensures) at c.before.before.before.before.before.before.put-line.ensures in
-    (c.before.before.finish.ensures.0 ∙ whole-answer (refusal a.r) n c.before.before.before.before.before.before.before.before.before.before.before.before.before.clear.ensures e, c.before.before.finish.ensures.1 ∙ whole-text (refusal a.r) n c.before.before.before.before.before.before.before.before.before.before.before.before.before.clear.ensures e)
+    let e = rw (to_z-of_z {w = w64} {z = c.answer.result} (search rules), c.answer.ensures) at c.put_line-p.ensures in
+    (c.finish.ensures.0 ∙ whole-answer (refusal a.r) n c.clear.ensures e, c.finish.ensures.1 ∙ whole-text (refusal a.r) n c.clear.ensures e)
 
-pub print-refusal-spec : {M : Type 1} → statement M
-print-refusal-spec =
+pub print_refusal_spec : {M : Type 1} → statement M
+print_refusal_spec =
     tie.close
     (tie.spec
     clear-requires
     answer-requires
     slice-aggregate-put-line
-    slice-aggregate-put-line-2
     put-line-requires
     finish-requires
     same_length

@@ -10,70 +10,66 @@ use Rattle.job.proofs.Put.{row_more, row-end}
 use Rattle.job.proofs.listing.put_triplets.Statement.{statement}
 use Rattle.job.proofs.listing.put_triplets.Tie as tie
 
-abbrev invariant-loop : tie.invariant-loop
+abbrev invariant-loop : tie.invariant-loop-k
 invariant-loop list out₀ count q₀ k₀ t8 out q k = (k ≤ count) × (length out ≡ length out₀) × (page out q ≡ puts (page out₀ q₀) (rows (triplet_line list) k))
 
-abbrev decreases-loop : tie.decreases-loop
+abbrev decreases-loop : tie.decreases-loop-k
 decreases-loop list out₀ count q₀ k₀ t8 out q k = count - k
 
-loop-holds : tie.Need-loop-init invariant-loop decreases-loop
+loop-holds : tie.Need-loop-k-init invariant-loop decreases-loop
 loop-holds c = search rules
 
-mul_at : tie.Need-overflow-mul-at invariant-loop decreases-loop
+mul_at : tie.Need-overflow_mul-at invariant-loop decreases-loop
 mul_at c = search rules
 
-slice-aggregate-put-line : tie.Need-slice-aggregate-put-line invariant-loop decreases-loop
-slice-aggregate-put-line c = search rules
-
-add-put-line : tie.Need-overflow-add-put-line invariant-loop decreases-loop
+add-put-line : tie.Need-overflow_add-at invariant-loop decreases-loop
 add-put-line c = search rules
 
-mul-put-line : tie.Need-overflow-mul-put-line invariant-loop decreases-loop
+mul-put-line : tie.Need-offset_bounds-list-at invariant-loop decreases-loop
 mul-put-line c = search rules
 
-sub-put-line : tie.Need-overflow-sub-put-line invariant-loop decreases-loop
+sub-put-line : tie.Need-slice_bounds-put_line-count invariant-loop decreases-loop
 sub-put-line c = search rules
 
-part-put-line-start : tie.Need-slice-bounds-put-line-start invariant-loop decreases-loop
+part-put-line-start : tie.Need-slice_bounds-put_line-start invariant-loop decreases-loop
 part-put-line-start c = search rules
 
-part-put-line-end : tie.Need-slice-bounds-put-line-end invariant-loop decreases-loop
+part-put-line-end : tie.Need-slice_bounds-put_line-end-in-loop-k invariant-loop decreases-loop
 part-put-line-end c = search rules
 
-put-line-requires : tie.Need-put-line-requires invariant-loop decreases-loop
+put-line-requires : tie.Need-put_line-q-requires invariant-loop decreases-loop
 put-line-requires c κs = search rules
 
-add-k : tie.Need-overflow-add-k invariant-loop decreases-loop
+add-k : tie.Need-overflow_add-k invariant-loop decreases-loop
 add-k c = search rules
 
-loop-less : tie.Need-loop-smaller invariant-loop decreases-loop
+loop-less : tie.Need-loop-k-smaller invariant-loop decreases-loop
 loop-less c = search rules
 
-loop-again : tie.Need-loop-preserved invariant-loop decreases-loop
+loop-again : tie.Need-loop-k-preserved invariant-loop decreases-loop
 loop-again c =
-    let l = c.before.before.before.before.before.before.before.loop in
-    let a = c.before.before.before.before.before.before.before.before.before.args in
+    let l = c.loop-k in
+    let a = c.args in
     let three : 3 * l.k + 3 - 3 * l.k ≡ 3 = omega arith in
-    (search rules, search rules, row_more (page a.out.now a.p) (triplet_line a.list.now) l.k l.invariant.2 (rw three at c.before.before.put-line.ensures))
+    (search rules, search rules, row_more (page a.out.now a.p) (triplet_line a.list.now) l.k l.invariant.2 (rw three at c.put_line-q.ensures))
 
-same_length : tie.Need-same-length invariant-loop decreases-loop
+same_length : tie.Need-shape_of-out invariant-loop decreases-loop
 same_length c = search rules
 
 returns : tie.Need-returns invariant-loop decreases-loop
 returns c =
-    let l = c.before.loop in
-    let a = c.before.before.before.args in
+    let l = c.loop-k in
+    let a = c.args in
     row-end (page a.out.now a.p) (triplet_line a.list.now) l.k (length a.list.now / 3) l.invariant.0 (search rules) l.invariant.2
 
-pub put-triplets-spec : {M : Type 1} → statement M
-put-triplets-spec =
+pub put_triplets_spec : {M : Type 1} → statement M
+put_triplets_spec =
     tie.close
     (tie.spec
     invariant-loop
     decreases-loop
     loop-holds
     mul_at
-    slice-aggregate-put-line
     add-put-line
     mul-put-line
     sub-put-line

@@ -24,16 +24,16 @@ module _ (s k m : ℤ) (f : nat_abs s ≤ 65536) (g : nat_abs k ≤ 131072) (h :
   size : nat_abs (held (held s +ℤ held (k *ℤ held m))) ≤ 327680
   size = plain-within {v = held (held s +ℤ held (k *ℤ held m))} (search (plain, p_atom) depth 12) tt
 
-mul-k : tie.Need-overflow-mul-k
+mul-k : tie.Need-overflow_mul-k
 mul-k c = search rules
 
-cast-result : tie.Need-overflow-cast-result
+cast-result : tie.Need-overflow_cast-result
 cast-result c = search rules
 
-mul-result : tie.Need-overflow-mul-result
+mul-result : tie.Need-overflow_mul-result
 mul-result c = rw (double-counted c.args.n c.requires.1) (step_fits c.args.s (pos (2 * c.args.n)) c.args.m c.requires.0 (omega arith) c.requires.2)
 
-add-result : tie.Need-overflow-add-result
+add-result : tie.Need-overflow_add-result
 add-result c = rw (double-counted c.args.n c.requires.1) (sum_fits c.args.s (pos (2 * c.args.n)) c.args.m c.requires.0 (omega arith) c.requires.2)
 
 returns : tie.Need-returns
@@ -42,5 +42,5 @@ returns c =
     let l : nat_abs k ≤ 131072 = omega arith in
     rw (double-counted c.args.n c.requires.1) (exact c.args.s k c.args.m c.requires.0 l c.requires.2, size c.args.s k c.args.m c.requires.0 l c.requires.2)
 
-pub moved-spec : {M : Type 1} → statement M
-moved-spec = tie.close (tie.spec mul-k cast-result mul-result add-result returns)
+pub moved_spec : {M : Type 1} → statement M
+moved_spec = tie.close (tie.spec mul-k cast-result mul-result add-result returns)

@@ -20,8 +20,8 @@ moved-requires c κs = search rules
 returns : tie.Need-returns
 returns c =
     let s = c.before.before in
-    let t = c.before.translation in
-    told c.moved.result (c.moved.ensures.0 ∙ ap₂ (λ s m. s +ℤ pos (2 * c.before.before.args.n) *ℤ m) (to_z-of_z s.ranges.s) (held-is t.result t.type-inv ∙ t.ensures.0)) c.moved.ensures.1
+    let t = c.translation in
+    told c.moved.result (c.moved.ensures.0 ∙ ap₂ (λ s m. s +ℤ pos (2 * c.args.n) *ℤ m) (to_z-of_z s.ranges.s) (held-is t.result t.type_inv ∙ t.ensures.0)) c.moved.ensures.1
 
-pub moved-by-spec : {M : Type 1} → statement M
-moved-by-spec = tie.close (tie.spec translation-requires moved-requires returns)
+pub moved_by_spec : {M : Type 1} → statement M
+moved_by_spec = tie.close (tie.spec translation-requires moved-requires returns)

@@ -25,40 +25,40 @@ told k r ok e f = held-is r ok ∙ e ∙ ap (λ y. y +ℤ k) f
 small : (r : ℤ) → nat_abs r ≤ 327680 → nat_abs (held r) ≤ 327680
 small r h = plain-within {v = held r} (search (plain, p_atom)) tt
 
-array-copy-out-moved-by : tie.Need-array-copy-out-moved-by
+array-copy-out-moved-by : tie.Need-bounds-s-0
 array-copy-out-moved-by c = search rules
 
-moved-by-requires : tie.Need-moved-by-requires
-moved-by-requires c κs = let s = c.before in (held-size s.requires.0 0 tt, s.requires.1.0, quotient s.args.i s.requires.1.1)
+moved-by-requires : tie.Need-moved_by-requires
+moved-by-requires c κs = let s = c in (held-size s.requires.0 0 tt, s.requires.1.0, quotient s.args.i s.requires.1.1)
 
-array-copy-out-moved-by-2 : tie.Need-array-copy-out-moved-by-2
+array-copy-out-moved-by-2 : tie.Need-bounds-s-1
 array-copy-out-moved-by-2 c = search rules
 
-moved-by-requires-2 : tie.Need-moved-by-requires-2
-moved-by-requires-2 c κs = let s = c.before.before.before in (held-size s.requires.0 1 tt, s.requires.1.0, mod-lt (s.args.i / 5) (lit< tt))
+moved-by-requires-2 : tie.Need-moved_by-requires-2
+moved-by-requires-2 c κs = let s = c in (held-size s.requires.0 1 tt, s.requires.1.0, mod-lt (s.args.i / 5) (lit< tt))
 
-array-copy-out-moved-by-3 : tie.Need-array-copy-out-moved-by-3
+array-copy-out-moved-by-3 : tie.Need-bounds-s-2
 array-copy-out-moved-by-3 c = search rules
 
-moved-by-requires-3 : tie.Need-moved-by-requires-3
-moved-by-requires-3 c κs = let s = c.before.before.before.before.before in (held-size s.requires.0 2 tt, s.requires.1.0, mod-lt s.args.i (lit< tt))
+moved-by-requires-3 : tie.Need-moved_by-requires-3
+moved-by-requires-3 c κs = let s = c in (held-size s.requires.0 2 tt, s.requires.1.0, mod-lt s.args.i (lit< tt))
 
 returns : tie.Need-returns
 unfolding candidate_at
 returns c =
-    let s = c.before.before.before.before.before.before in
-    let a = c.before.before.before.before.moved_by in
-    let b = c.before.before.moved-by2 in
-    let d = c.moved-by3 in
-    let x = told _ a.result a.type-inv a.ensures.0 (entry-held s.requires.0 0 tt) in
-    let y = told _ b.result b.type-inv b.ensures.0 (entry-held s.requires.0 1 tt) in
-    let z = told _ d.result d.type-inv d.ensures.0 (entry-held s.requires.0 2 tt) in (
+    let s = c in
+    let a = c.moved_by in
+    let b = c.moved_by-2 in
+    let d = c.moved_by-3 in
+    let x = told _ a.result a.type_inv a.ensures.0 (entry-held s.requires.0 0 tt) in
+    let y = told _ b.result b.type_inv b.ensures.0 (entry-held s.requires.0 1 tt) in
+    let z = told _ d.result d.type_inv d.ensures.0 (entry-held s.requires.0 2 tt) in (
       λ i. x i ∷ y i ∷ z i ∷ [],
       sized-items (record { x = held a.result; y = held b.result; z = held d.result }) (small a.result a.ensures.1) (small b.result b.ensures.1) (small d.result d.ensures.1),
     )
 
-pub position-spec : {M : Type 1} → statement M
-position-spec =
+pub position_spec : {M : Type 1} → statement M
+position_spec =
     tie.close
     (tie.spec
     array-copy-out-moved-by

@@ -20,26 +20,26 @@ module _ {v : List ℤ} (h : Sized 327680 v) (j k : ℕ) where
   product_is : held (held (get_or v j (pos 0)) *ℤ held (get_or v k (pos 0))) ≡ get_or v j (pos 0) *ℤ get_or v k (pos 0)
   product_is = plain-is (search (plain, p-sized) depth 12) tt
 
-mul-result : tie.Need-overflow-mul-result
+mul-result : tie.Need-offset_bounds-v-k
 mul-result c = search rules
 
-array-copy-out-result : tie.Need-array-copy-out-result
+array-copy-out-result : tie.Need-bounds-v-k
 array-copy-out-result c = search rules
 
-mul-result-2 : tie.Need-overflow-mul-result-2
+mul-result-2 : tie.Need-offset_bounds-v-k-2
 mul-result-2 c = search rules
 
-array-copy-out-result-2 : tie.Need-array-copy-out-result-2
+array-copy-out-result-2 : tie.Need-bounds-v-k-2
 array-copy-out-result-2 c = search rules
 
-mul-result-3 : tie.Need-overflow-mul-result-3
-mul-result-3 c = let s = c.before.before in product-fits s.requires.0 s.args.k s.args.k
+mul-result-3 : tie.Need-overflow_mul-result
+mul-result-3 c = let s = c in product-fits s.requires.0 s.args.k s.args.k
 
 returns : tie.Need-returns
-returns c = let s = c.before.before in product_is s.requires.0 s.args.k s.args.k
+returns c = let s = c in product_is s.requires.0 s.args.k s.args.k
 
-pub square-at-spec : {M : Type 1} → statement M
-square-at-spec =
+pub square_at_spec : {M : Type 1} → statement M
+square_at_spec =
     tie.close
     (tie.spec
     mul-result

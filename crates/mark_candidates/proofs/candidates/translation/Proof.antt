@@ -31,27 +31,27 @@ module _ (i : ℕ) (h : i < 5) (l : 3 ≤ i) where
   exact : held (pos i -ℤ pos 5) ≡ translation i
   exact = to_z-of_z fits ∙ ap (λ t. pick t (pos i) (pos i -ℤ pos 5)) (sym (le-ltb i 3 l))
 
-cast-result : tie.Need-overflow-cast-result
+cast-result : tie.Need-overflow_cast-result
 cast-result c = search rules
 
-returns : tie.Need-returns
+returns : tie.Need-returns-then-i-lt3
 returns c =
-    let i = c.before.args.i in
+    let i = c.args.i in
     let l : i < 3 = search rules in
-    rw (counted i c.before.requires) (ap (λ t. pick t (pos i) (pos i -ℤ pos 5)) (sym (lt-ltb i 3 l)), omega arith)
+    rw (counted i c.requires) (ap (λ t. pick t (pos i) (pos i -ℤ pos 5)) (sym (lt-ltb i 3 l)), omega arith)
 
-cast-result-2 : tie.Need-overflow-cast-result-2
+cast-result-2 : tie.Need-overflow_cast-result-2
 cast-result-2 c = search rules
 
-sub-result : tie.Need-overflow-sub-result
-sub-result c = let i = c.before.args.i in rw (counted i c.before.requires) (fits i c.before.requires (search rules))
+sub-result : tie.Need-overflow_sub-result
+sub-result c = let i = c.args.i in rw (counted i c.requires) (fits i c.requires (search rules))
 
-returns-2 : tie.Need-returns-2
+returns-2 : tie.Need-returns
 returns-2 c =
-    let i = c.before.args.i in
+    let i = c.args.i in
     let l : 3 ≤ i = search rules in
-    let e = exact i c.before.requires l in
-    rw (counted i c.before.requires) (e, subst (λ z. nat_abs z ≤ 2) (sym (to_z-of_z (fits i c.before.requires l))) (below i c.before.requires l))
+    let e = exact i c.requires l in
+    rw (counted i c.requires) (e, subst (λ z. nat_abs z ≤ 2) (sym (to_z-of_z (fits i c.requires l))) (below i c.requires l))
 
-pub translation-spec : {M : Type 1} → statement M
-translation-spec = tie.close (tie.spec cast-result returns cast-result-2 sub-result returns-2)
+pub translation_spec : {M : Type 1} → statement M
+translation_spec = tie.close (tie.spec cast-result returns cast-result-2 sub-result returns-2)

@@ -14,8 +14,8 @@ weights-requires c κs = search rules
 
 returns : tie.Need-returns
 returns c =
-    let e = c.before.position.ensures in
+    let e = c.position.ensures in
     (c.weights.ensures ∙ ap (λ v. weights (vector_of v)) e.0, rw c.weights.ensures (weights-small e.1))
 
-pub weights-at-spec : {M : Type 1} → statement M
-weights-at-spec = tie.close (tie.spec position-requires weights-requires returns)
+pub weights_at_spec : {M : Type 1} → statement M
+weights_at_spec = tie.close (tie.spec position-requires weights-requires returns)

@@ -33,26 +33,26 @@ counted n h = to_z_pos w64 (omega arith)
 chosen : (z a b : ℤ) (f : SFits w64 z) {t : Bool} → lt_z (held z) (pos 0) ≡ t → pick t a b ≡ pick (lt_z z (pos 0)) a b
 chosen z a b f e = ap (λ t. pick t a b) (sym e ∙ ap (λ z. lt_z z (pos 0)) (to_z-of_z f))
 
-cast-k : tie.Need-overflow-cast-k
+cast-k : tie.Need-overflow_cast-k
 cast-k c = search rules
 
-sub-result : tie.Need-overflow-sub-result
-sub-result c = let s = c.before in rw (counted s.args.n s.requires.1) (below-fits s.args.z (pos s.args.n) s.requires.0 s.requires.1)
+sub-result : tie.Need-overflow_sub-result
+sub-result c = let s = c in rw (counted s.args.n s.requires.1) (below-fits s.args.z (pos s.args.n) s.requires.0 s.requires.1)
 
-returns : tie.Need-returns
+returns : tie.Need-returns-then-z-lt0
 returns c =
-    let s = c.before in
+    let s = c in
     let k = pos s.args.n in
-    rw (counted s.args.n s.requires.1) (below-is s.args.z k s.requires.0 s.requires.1 ∙ chosen s.args.z (s.args.z -ℤ k) (s.args.z +ℤ k) s.ranges.z c.if1.true)
+    rw (counted s.args.n s.requires.1) (below-is s.args.z k s.requires.0 s.requires.1 ∙ chosen s.args.z (s.args.z -ℤ k) (s.args.z +ℤ k) s.ranges.z c.if-z-lt0.true)
 
-add-result : tie.Need-overflow-add-result
-add-result c = let s = c.before in rw (counted s.args.n s.requires.1) (above-fits s.args.z (pos s.args.n) s.requires.0 s.requires.1)
+add-result : tie.Need-overflow_add-result
+add-result c = let s = c in rw (counted s.args.n s.requires.1) (above-fits s.args.z (pos s.args.n) s.requires.0 s.requires.1)
 
-returns-2 : tie.Need-returns-2
+returns-2 : tie.Need-returns
 returns-2 c =
-    let s = c.before in
+    let s = c in
     let k = pos s.args.n in
-    rw (counted s.args.n s.requires.1) (above-is s.args.z k s.requires.0 s.requires.1 ∙ chosen s.args.z (s.args.z -ℤ k) (s.args.z +ℤ k) s.ranges.z c.if1.false)
+    rw (counted s.args.n s.requires.1) (above-is s.args.z k s.requires.0 s.requires.1 ∙ chosen s.args.z (s.args.z -ℤ k) (s.args.z +ℤ k) s.ranges.z c.if-z-lt0.false)
 
-pub outwards-spec : {M : Type 1} → statement M
-outwards-spec = tie.close (tie.spec cast-k sub-result returns add-result returns-2)
+pub outwards_spec : {M : Type 1} → statement M
+outwards_spec = tie.close (tie.spec cast-k sub-result returns add-result returns-2)

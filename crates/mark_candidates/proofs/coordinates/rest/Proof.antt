@@ -44,39 +44,39 @@ module _ (z : ℤ) (n : ℕ) (h : (nat_abs z ≤ 110000000000000) × (0 < n) × 
 outwards-requires : tie.Need-outwards-requires
 outwards-requires c κs = search rules
 
-over-double-requires : tie.Need-over-double-requires
+over-double-requires : tie.Need-over_double-r-requires
 over-double-requires c κs = search rules
 
-mul-k : tie.Need-overflow-mul-k
+mul-k : tie.Need-overflow_mul-k
 mul-k c = search rules
 
-cast-result : tie.Need-overflow-cast-result
+cast-result : tie.Need-overflow_cast-result
 cast-result c = search rules
 
-at-multiple : (c : tie.After-over-double) → let s = c.before.before in to_z w64 (2 * s.args.n) *ℤ held c.over-double.result ≡ pos (2 * s.args.n) *ℤ rounded s.args.n s.args.z
+at-multiple : (c : tie.After-over_double-r) → let s = c.before.before in to_z w64 (2 * s.args.n) *ℤ held c.over_double-r.result ≡ pos (2 * s.args.n) *ℤ rounded s.args.n s.args.z
 at-multiple c =
-    let s = c.before.before in
-    multiple s.args.z s.args.n s.requires c.over-double.type-inv c.before.outwards.type-inv c.over-double.ensures c.before.outwards.ensures s.ranges.z
+    let s = c in
+    multiple s.args.z s.args.n s.requires c.over_double-r.type_inv c.outwards.type_inv c.over_double-r.ensures c.outwards.ensures s.ranges.z
 
-mul-result : tie.Need-overflow-mul-result
+mul-result : tie.Need-overflow_mul-result
 mul-result c =
-    let s = c.before.before in
+    let s = c in
     let n = s.args.n in
     rw (at-multiple c) (product-fits s.args.z (pos (2 * n) *ℤ rounded n s.args.z) s.requires.0 (multiple-size s.args.z n s.requires))
 
-sub-result : tie.Need-overflow-sub-result
+sub-result : tie.Need-overflow_sub-result
 sub-result c =
-    let s = c.before.before in
+    let s = c in
     let n = s.args.n in
     rw (at-multiple c) (rest-fits s.args.z (pos (2 * n) *ℤ rounded n s.args.z) s.requires.0 (multiple-size s.args.z n s.requires))
 
 returns : tie.Need-returns
 unfolding rest
 returns c =
-    let s = c.before.before in
+    let s = c in
     let n = s.args.n in
     let e = rest-is s.args.z (pos (2 * n) *ℤ rounded n s.args.z) s.requires.0 (multiple-size s.args.z n s.requires) in
     rw (at-multiple c, e) (refl, le_trans (rest-size n s.requires.1 s.args.z) s.requires.2)
 
-pub rest-spec : {M : Type 1} → statement M
-rest-spec = tie.close (tie.spec outwards-requires over-double-requires mul-k cast-result mul-result sub-result returns)
+pub rest_spec : {M : Type 1} → statement M
+rest_spec = tie.close (tie.spec outwards-requires over-double-requires mul-k cast-result mul-result sub-result returns)

@@ -17,14 +17,14 @@ points-requires c κs = search rules
 
 rests-requires : tie.Need-rests-requires
 rests-requires c κs =
-    let s = c.before.before in (
-      rw c.before.scaled.ensures (scaled_small (sides s.args.g) s.requires.1.1.1.0 s.requires.1.1.1.1 s.args.p s.requires.0 s.requires.1.0 (matrix_of s.args.q) s.requires.1.1.0),
+    let s = c in (
+      rw c.scaled.ensures (scaled_small (sides s.args.g) s.requires.1.1.1.0 s.requires.1.1.1.1 s.args.p s.requires.0 s.requires.1.0 (matrix_of s.args.q) s.requires.1.1.0),
       (rw c.points.ensures (omega (arith, s.requires.0)), rw c.points.ensures s.requires.1.1.1.1),
     )
 
 returns : tie.Need-returns
 unfolding rests
-returns c = c.rests.ensures ∙ ap₂ (λ n v. items (vector (λ k. rest n (along v k)))) c.before.points.ensures c.before.before.scaled.ensures
+returns c = c.rests.ensures ∙ ap₂ (λ n v. items (vector (λ k. rest n (along v k)))) c.points.ensures c.scaled.ensures
 
-pub rests-of-spec : {M : Type 1} → statement M
-rests-of-spec = tie.close (tie.spec scaled-requires points-requires rests-requires returns)
+pub rests_of_spec : {M : Type 1} → statement M
+rests_of_spec = tie.close (tie.spec scaled-requires points-requires rests-requires returns)

@@ -21,13 +21,13 @@ module _ (u k : ℤ) (h : nat_abs u ≤ 131073) (l : nat_abs k ≤ 262144) where
   exact : held (held u *ℤ k) ≡ u *ℤ k
   exact = plain-is (search (plain, p_atom) depth 12) tt
 
-mul-k : tie.Need-overflow-mul-k
+mul-k : tie.Need-overflow_mul-k
 mul-k c = record { fits = omega (arith, product c.args.a c.args.b c.requires.1 c.requires.2) }
 
-cast-result : tie.Need-overflow-cast-result
+cast-result : tie.Need-overflow_cast-result
 cast-result c = record { sfits = omega (arith, product c.args.a c.args.b c.requires.1 c.requires.2) }
 
-mul-result : tie.Need-overflow-mul-result
+mul-result : tie.Need-overflow_mul-result
 mul-result c =
     let l = product c.args.a c.args.b c.requires.1 c.requires.2 in
     rw (counted (c.args.a * c.args.b) l) (fits c.args.u (pos (c.args.a * c.args.b)) c.requires.0 l)
@@ -37,5 +37,5 @@ returns c =
     let l = product c.args.a c.args.b c.requires.1 c.requires.2 in
     rw (counted (c.args.a * c.args.b) l) (exact c.args.u (pos (c.args.a * c.args.b)) c.requires.0 l)
 
-pub times-spec : {M : Type 1} → statement M
-times-spec = tie.close (tie.spec mul-k cast-result mul-result returns)
+pub times_spec : {M : Type 1} → statement M
+times_spec = tie.close (tie.spec mul-k cast-result mul-result returns)

@@ -24,50 +24,50 @@ module _ (t : List ℤ) (i j : ℕ) {u a b : ℤ} (f : nat_abs u ≤ 51539607552
   unfolding against
   by d e = ap₂ verdict (sym d ∙ ap (lt_z (pos 0)) least) (sym e ∙ ap (λ z. le_z z (pos 0)) most)
 
-rises-requires : tie.Need-rises-requires
+rises-requires : tie.Need-rises-up-requires
 rises-requires c κs = search rules
 
 difference-requires : tie.Need-difference-requires
 difference-requires c κs = search rules
 
-sub-least : tie.Need-overflow-sub-least
+sub-least : tie.Need-overflow_sub-least
 sub-least c = fits-plain (search (plain, p_atom) depth 20) tt
 
 difference-requires-2 : tie.Need-difference-requires-2
 difference-requires-2 c κs = search rules
 
-add_most : tie.Need-overflow-add-most
+add_most : tie.Need-overflow_add-most
 add_most c = fits-plain (search (plain, p_atom) depth 20) tt
 
-returns : tie.Need-returns
+returns : tie.Need-returns-then-least-gt0
 returns c =
-    let b = c.before.difference2 in
-    let a = c.before.before.difference in
-    let u = c.before.before.before.rises in
-    let s = c.before.before.before.before.args in
+    let b = c.difference-2 in
+    let a = c.difference in
+    let u = c.rises-up in
+    let s = c.args in
     let h : lt_z (pos 0) (held (held a.result -ℤ held u.result)) ≡ true = search rules in
     by s.t.now s.i s.j u.ensures.1 a.ensures.1 b.ensures.1 u.ensures.0 a.ensures.0 b.ensures.0 h refl
 
-returns-2 : tie.Need-returns-2
+returns-2 : tie.Need-returns-then-most-le0
 returns-2 c =
-    let b = c.before.before.difference2 in
-    let a = c.before.before.before.difference in
-    let u = c.before.before.before.before.rises in
-    let s = c.before.before.before.before.before.args in
+    let b = c.difference-2 in
+    let a = c.difference in
+    let u = c.rises-up in
+    let s = c.args in
     let h : lt_z (pos 0) (held (held a.result -ℤ held u.result)) ≡ false = search rules in
-    by s.t.now s.i s.j u.ensures.1 a.ensures.1 b.ensures.1 u.ensures.0 a.ensures.0 b.ensures.0 h c.if2.true
+    by s.t.now s.i s.j u.ensures.1 a.ensures.1 b.ensures.1 u.ensures.0 a.ensures.0 b.ensures.0 h c.if-most-le0.true
 
-returns-3 : tie.Need-returns-3
+returns-3 : tie.Need-returns
 returns-3 c =
-    let b = c.before.before.difference2 in
-    let a = c.before.before.before.difference in
-    let u = c.before.before.before.before.rises in
-    let s = c.before.before.before.before.before.args in
+    let b = c.difference-2 in
+    let a = c.difference in
+    let u = c.rises-up in
+    let s = c.args in
     let h : lt_z (pos 0) (held (held a.result -ℤ held u.result)) ≡ false = search rules in
-    by s.t.now s.i s.j u.ensures.1 a.ensures.1 b.ensures.1 u.ensures.0 a.ensures.0 b.ensures.0 h c.if2.false
+    by s.t.now s.i s.j u.ensures.1 a.ensures.1 b.ensures.1 u.ensures.0 a.ensures.0 b.ensures.0 h c.if-most-le0.false
 
-pub against-spec : {M : Type 1} → statement M
-against-spec =
+pub against_spec : {M : Type 1} → statement M
+against_spec =
     tie.close
     (tie.spec
     rises-requires

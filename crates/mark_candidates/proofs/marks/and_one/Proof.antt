@@ -12,11 +12,11 @@ and-false : (b : Bool) {t : Bool} → t ≡ false → false ≡ b && t
 and-false true e = sym e
 and-false false e = refl
 
-returns : tie.Need-returns
-returns c = let a = c.before.args in and-true a.b (eq-eqb a.n 1 c.if1.true)
+returns : tie.Need-returns-then-n-eq1
+returns c = let a = c.args in and-true a.b (eq-eqb a.n 1 c.if-n-eq1.true)
 
-returns-2 : tie.Need-returns-2
-returns-2 c = let a = c.before.args in and-false a.b (ne_eqb a.n 1 c.if1.false)
+returns-2 : tie.Need-returns
+returns-2 c = let a = c.args in and-false a.b (ne_eqb a.n 1 c.if-n-eq1.false)
 
-pub and-one-spec : {M : Type 1} → statement M
-and-one-spec = tie.close (tie.spec returns returns-2)
+pub and_one_spec : {M : Type 1} → statement M
+and_one_spec = tie.close (tie.spec returns returns-2)

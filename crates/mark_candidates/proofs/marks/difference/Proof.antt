@@ -33,38 +33,38 @@ first s = s.requires.0.long s.args.i s.args.k s.requires.1.0 s.requires.1.2
 second : (s : tie.Start) → nat_abs (other s) ≤ 1288490188800000000
 second s = s.requires.0.long s.args.j s.args.k s.requires.1.1 s.requires.1.2
 
-mul-result : tie.Need-overflow-mul-result
+mul-result : tie.Need-overflow_mul-result
 mul-result c = search rules
 
-add-result : tie.Need-overflow-add-result
+add-result : tie.Need-overflow_add-result
 add-result c = search rules
 
-mul-result-2 : tie.Need-overflow-mul-result-2
+mul-result-2 : tie.Need-offset_bounds-t-i
 mul-result-2 c = search rules
 
-shared-slice-copy-out-result : tie.Need-shared-slice-copy-out-result
+shared-slice-copy-out-result : tie.Need-bounds-t-i
 shared-slice-copy-out-result c = search rules
 
-mul-result-3 : tie.Need-overflow-mul-result-3
+mul-result-3 : tie.Need-overflow_mul-result-2
 mul-result-3 c = search rules
 
-add-result-2 : tie.Need-overflow-add-result-2
+add-result-2 : tie.Need-overflow_add-result-2
 add-result-2 c = search rules
 
-mul-result-4 : tie.Need-overflow-mul-result-4
+mul-result-4 : tie.Need-offset_bounds-t-j
 mul-result-4 c = search rules
 
-shared-slice-copy-out-result-2 : tie.Need-shared-slice-copy-out-result-2
+shared-slice-copy-out-result-2 : tie.Need-bounds-t-j
 shared-slice-copy-out-result-2 c = search rules
 
-sub-result : tie.Need-overflow-sub-result
+sub-result : tie.Need-overflow_sub-result
 sub-result c = let s = c.before.before in fits (one s) (other s) (first s) (second s)
 
 returns : tie.Need-returns
 returns c = let s = c.before.before in (is (one s) (other s) (first s) (second s), size (one s) (other s) (first s) (second s))
 
-pub difference-spec : {M : Type 1} → statement M
-difference-spec =
+pub difference_spec : {M : Type 1} → statement M
+difference_spec =
     tie.close
     (tie.spec
     mul-result

@@ -9,63 +9,63 @@ use borrow.Author.Rules.{rules}
 use Rattle.mark_candidates.proofs.marks.mark.Statement.{statement}
 use Rattle.mark_candidates.proofs.marks.mark.Tie as tie
 
-abbrev invariant-loop : tie.invariant-loop
+abbrev invariant-loop : tie.invariant-loop-j
 invariant-loop t i nearest₀ j₀ nearest j =
     (j ≤ 125) × (is_beaten t i (rest j) ≡ is_beaten t i (from 0 125)) × ((nearest && is_nearest t i (rest j)) ≡ is_nearest t i (from 0 125))
 
-abbrev decreases-loop : tie.decreases-loop
+abbrev decreases-loop : tie.decreases-loop-j
 decreases-loop t i nearest₀ j₀ nearest j = 125 - j
 
-loop-holds : tie.Need-loop-init invariant-loop decreases-loop
+loop-holds : tie.Need-loop-j-init invariant-loop decreases-loop
 loop-holds c = (omega arith, refl, refl)
 
-against-requires : tie.Need-against-requires invariant-loop decreases-loop
+against-requires : tie.Need-against-a-requires invariant-loop decreases-loop
 against-requires c κs = search rules
 
-returns : tie.Need-returns invariant-loop decreases-loop
+returns : tie.Need-returns-then-a-eq2 invariant-loop decreases-loop
 returns c =
-    let l = c.before.before.before in
-    let a = l.before.args in
+    let l = c in
+    let a = l.args in
     marked_by a.t.now a.i
-    (sym l.loop.invariant.1 ∙ beaten-here a.t.now a.i l.loop.j c.before.before.loop-test.true (sym c.before.against.ensures ∙ c.if1.true)) refl
+    (sym l.loop-j.invariant.1 ∙ beaten-here a.t.now a.i l.loop-j.j c.loop-j-test.true (sym c.against-a.ensures ∙ c.if-a-eq2.true)) refl
 
-and-one-requires : tie.Need-and-one-requires invariant-loop decreases-loop
+and-one-requires : tie.Need-and_one-nearest-requires invariant-loop decreases-loop
 and-one-requires c κs = search rules
 
-add-j : tie.Need-overflow-add-j invariant-loop decreases-loop
+add-j : tie.Need-overflow_add-j invariant-loop decreases-loop
 add-j c = search rules
 
-loop-less : tie.Need-loop-smaller invariant-loop decreases-loop
+loop-less : tie.Need-loop-j-smaller invariant-loop decreases-loop
 loop-less c = search rules
 
-loop-again : tie.Need-loop-preserved invariant-loop decreases-loop
+loop-again : tie.Need-loop-j-preserved invariant-loop decreases-loop
 loop-again c =
-    let e = c.before.before.against.ensures in
-    let l = c.before.before.before.before in
-    let a = l.before.args in
-    let h = c.before.before.before.loop-test.true in
-    let n : (against a.t.now a.i l.loop.j ≡ 2 → ⊥) = λ k. c.before.if1.false (e ∙ k) in (
+    let e = c.against-a.ensures in
+    let l = c in
+    let a = l.args in
+    let h = c.loop-j-test.true in
+    let n : (against a.t.now a.i l.loop-j.j ≡ 2 → ⊥) = λ k. c.if-a-eq2.false (e ∙ k) in (
       search rules,
-      beaten-on a.t.now a.i l.loop.j h n ∙ l.loop.invariant.1,
-      ap (λ b. b && is_nearest a.t.now a.i (rest (l.loop.j + 1))) (c.and_one.ensures ∙ ap (λ m. l.loop.nearest && eqb m 1) e)
-          ∙ nearest-on a.t.now a.i l.loop.j h n l.loop.nearest ∙ l.loop.invariant.2,
+      beaten-on a.t.now a.i l.loop-j.j h n ∙ l.loop-j.invariant.1,
+      ap (λ b. b && is_nearest a.t.now a.i (rest (l.loop-j.j + 1))) (c.and_one-nearest.ensures ∙ ap (λ m. l.loop-j.nearest && eqb m 1) e)
+          ∙ nearest-on a.t.now a.i l.loop-j.j h n l.loop-j.nearest ∙ l.loop-j.invariant.2,
     )
 
-returns-2 : tie.Need-returns-2 invariant-loop decreases-loop
+returns-2 : tie.Need-returns-then-nearest invariant-loop decreases-loop
 returns-2 c =
-    let l = c.before.before in
-    let a = l.before.args in
-    let h = c.before.loop-test.false in
-    marked_by a.t.now a.i (sym l.loop.invariant.1 ∙ beaten-end a.t.now a.i l.loop.j h)
-    (sym l.loop.invariant.2 ∙ nearest-end a.t.now a.i l.loop.j h l.loop.nearest ∙ c.if2.true)
+    let l = c in
+    let a = l.args in
+    let h = c.loop-j-test.false in
+    marked_by a.t.now a.i (sym l.loop-j.invariant.1 ∙ beaten-end a.t.now a.i l.loop-j.j h)
+    (sym l.loop-j.invariant.2 ∙ nearest-end a.t.now a.i l.loop-j.j h l.loop-j.nearest ∙ c.if-nearest.true)
 
-returns-3 : tie.Need-returns-3 invariant-loop decreases-loop
+returns-3 : tie.Need-returns invariant-loop decreases-loop
 returns-3 c =
-    let l = c.before.before in
-    let a = l.before.args in
-    let h = c.before.loop-test.false in
-    marked_by a.t.now a.i (sym l.loop.invariant.1 ∙ beaten-end a.t.now a.i l.loop.j h)
-    (sym l.loop.invariant.2 ∙ nearest-end a.t.now a.i l.loop.j h l.loop.nearest ∙ c.if2.false)
+    let l = c in
+    let a = l.args in
+    let h = c.loop-j-test.false in
+    marked_by a.t.now a.i (sym l.loop-j.invariant.1 ∙ beaten-end a.t.now a.i l.loop-j.j h)
+    (sym l.loop-j.invariant.2 ∙ nearest-end a.t.now a.i l.loop-j.j h l.loop-j.nearest ∙ c.if-nearest.false)
 
 pub mark_spec : {M : Type 1} → statement M
 mark_spec =

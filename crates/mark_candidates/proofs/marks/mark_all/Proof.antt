@@ -21,54 +21,54 @@ end p n m h k e = omega arith
 below : {i n m : ℕ} → i < n → n ≡ m → m ≡ 125 → i < 125
 below h e f = omega arith
 
-abbrev invariant-loop : tie.invariant-loop
+abbrev invariant-loop : tie.invariant-loop-i
 invariant-loop t out₀ i₀ out i = (i ≤ length out₀) × (length out ≡ length out₀) × (out ≡ written number (mark_of t) i out₀)
 
-abbrev decreases-loop : tie.decreases-loop
+abbrev decreases-loop : tie.decreases-loop-i
 decreases-loop t out₀ i₀ out i = length out₀ - i
 
-loop-holds : tie.Need-loop-init invariant-loop decreases-loop
+loop-holds : tie.Need-loop-i-init invariant-loop decreases-loop
 loop-holds c = search rules
 
-mark-requires : tie.Need-mark-requires invariant-loop decreases-loop
-mark-requires c κs = let h = c.before.before.requires in (h.0, below c.loop-test.true c.before.loop.invariant.1 h.1)
+mark-requires : tie.Need-mark-m-requires invariant-loop decreases-loop
+mark-requires c κs = let h = c.requires in (h.0, below c.loop-i-test.true c.loop-i.invariant.1 h.1)
 
-mul-m : tie.Need-overflow-mul-m invariant-loop decreases-loop
+mul-m : tie.Need-offset_bounds-out-i invariant-loop decreases-loop
 mul-m c = search rules
 
-slice-set-from-m : tie.Need-slice-set-from-m invariant-loop decreases-loop
+slice-set-from-m : tie.Need-bounds-out-i invariant-loop decreases-loop
 slice-set-from-m c = search rules
 
-add-i : tie.Need-overflow-add-i invariant-loop decreases-loop
+add-i : tie.Need-overflow_add-i invariant-loop decreases-loop
 add-i c = search rules
 
-loop-less : tie.Need-loop-smaller invariant-loop decreases-loop
+loop-less : tie.Need-loop-i-smaller invariant-loop decreases-loop
 loop-less c = search rules
 
-loop-again : tie.Need-loop-preserved invariant-loop decreases-loop
+loop-again : tie.Need-loop-i-preserved invariant-loop decreases-loop
 loop-again c =
-    let a = c.before.before.before.args in
-    let l = c.before.before.loop in (
+    let a = c.args in
+    let l = c.loop-i in (
       search rules,
       (simp length-set) ∙ l.invariant.1,
-      written-more number (mark_of a.t.now) l.i a.out.now l.invariant.2 (search rules) (held-is c.mark.result c.mark.type-inv ∙ c.mark.ensures),
+      written-more number (mark_of a.t.now) l.i a.out.now l.invariant.2 (search rules) (held-is c.mark-m.result c.mark-m.type_inv ∙ c.mark-m.ensures),
     )
 
-same_length : tie.Need-same-length invariant-loop decreases-loop
+same_length : tie.Need-shape_of-out invariant-loop decreases-loop
 same_length c = search rules
 
 returns : tie.Need-returns invariant-loop decreases-loop
 returns c =
-    let s = c.before.before in
-    let l = c.before.loop in
+    let s = c in
+    let l = c.loop-i in
     let g = mark_of s.args.t.now in
     l.invariant.2
     ∙ ap (λ n. written number g n s.args.out.now) (end l.i (length s.args.out.now) 125 (search rules) (search rules) s.requires.1)
     ∙ written-end number g 125 s.args.out.now s.requires.1
     ∙ ap (map g) numbers-built
 
-pub mark-all-spec : {M : Type 1} → statement M
-mark-all-spec =
+pub mark_all_spec : {M : Type 1} → statement M
+mark_all_spec =
     tie.close
     (tie.spec
     invariant-loop

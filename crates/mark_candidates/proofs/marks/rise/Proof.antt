@@ -28,7 +28,7 @@ module _ (d x y : ℤ) (h : nat_abs d ≤ 2576980377600000000) (e : d ≡ x -ℤ
   size : nat_abs x ≤ 429496729600000000 → nat_abs y ≤ 429496729600000000 → nat_abs (held d) ≤ 858993459200000000
   size f g = rw held-d (plain-within {v = x -ℤ y} (search (plain, p_atom) depth 12) tt)
 
-difference-requires : tie.Need-difference-requires
+difference-requires : tie.Need-difference-d-requires
 difference-requires c κs = let p = c.requires in (p.0, (p.1.0, p.1.1, omega (arith, p.1.2)))
 
 abbrev one : tie.Start → ℤ
@@ -37,20 +37,20 @@ one s = at s.args.t.now s.args.i s.args.k
 abbrev other : tie.Start → ℤ
 other s = at s.args.t.now s.args.j s.args.k
 
-returns : tie.Need-returns
+returns : tie.Need-returns-then-d-gt0
 returns c =
     let s = c.before.before in
-    let d = c.before.difference in
+    let d = c.difference-d in
     let p = s.requires in (
-      above d.result (one s) (other s) d.ensures.1 d.ensures.0 c.if1.true,
+      above d.result (one s) (other s) d.ensures.1 d.ensures.0 c.if-d-gt0.true,
       size d.result (one s) (other s) d.ensures.1 d.ensures.0 (p.0.small s.args.i s.args.k p.1.0 p.1.2) (p.0.small s.args.j s.args.k p.1.1 p.1.2),
     )
 
-returns-2 : tie.Need-returns-2
+returns-2 : tie.Need-returns
 returns-2 c =
     let s = c.before.before in
-    let d = c.before.difference in
-    (below d.result (one s) (other s) d.ensures.1 d.ensures.0 c.if1.false, lit≤ tt)
+    let d = c.difference-d in
+    (below d.result (one s) (other s) d.ensures.1 d.ensures.0 c.if-d-gt0.false, lit≤ tt)
 
-pub rise-spec : {M : Type 1} → statement M
-rise-spec = tie.close (tie.spec difference-requires returns returns-2)
+pub rise_spec : {M : Type 1} → statement M
+rise_spec = tie.close (tie.spec difference-requires returns returns-2)

@@ -25,49 +25,49 @@ rise-requires c κs = search rules
 rise-requires-2 : tie.Need-rise-requires-2
 rise-requires-2 c κs = search rules
 
-add-result : tie.Need-overflow-add-result
+add-result : tie.Need-overflow_add-result
 add-result c = fits-plain (search (plain, p_atom) depth 20) tt
 
 rise-requires-3 : tie.Need-rise-requires-3
 rise-requires-3 c κs = search rules
 
-add-result-2 : tie.Need-overflow-add-result-2
+add-result-2 : tie.Need-overflow_add-result-2
 add-result-2 c = fits-plain (search (plain, p_atom) depth 20) tt
 
 rise-requires-4 : tie.Need-rise-requires-4
 rise-requires-4 c κs = search rules
 
-add-result-3 : tie.Need-overflow-add-result-3
+add-result-3 : tie.Need-overflow_add-result-3
 add-result-3 c = fits-plain (search (plain, p_atom) depth 20) tt
 
 rise-requires-5 : tie.Need-rise-requires-5
 rise-requires-5 c κs = search rules
 
-add-result-4 : tie.Need-overflow-add-result-4
+add-result-4 : tie.Need-overflow_add-result-4
 add-result-4 c = fits-plain (search (plain, p_atom) depth 20) tt
 
 rise-requires-6 : tie.Need-rise-requires-6
 rise-requires-6 c κs = search rules
 
-add-result-5 : tie.Need-overflow-add-result-5
+add-result-5 : tie.Need-overflow_add-result-5
 add-result-5 c = fits-plain (search (plain, p_atom) depth 20) tt
 
 returns : tie.Need-returns
 unfolding rises
 returns c =
-    let a = c.before.before.before.before.before.rise in
-    let b = c.before.before.before.before.rise2 in
-    let d = c.before.before.before.rise3 in
-    let e = c.before.before.rise4 in
-    let f = c.before.rise5 in
-    let g = c.rise6 in (
+    let a = c.rise in
+    let b = c.rise-2 in
+    let d = c.rise-3 in
+    let e = c.rise-4 in
+    let f = c.rise-5 in
+    let g = c.rise-6 in (
       added a.result b.result d.result e.result f.result g.result a.ensures.1 b.ensures.1 d.ensures.1 e.ensures.1 f.ensures.1 g.ensures.1
           ∙ ap₂ ◌+ℤ◌ (ap₂ ◌+ℤ◌ (ap₂ ◌+ℤ◌ (ap₂ ◌+ℤ◌ (ap₂ ◌+ℤ◌ a.ensures.0 b.ensures.0) d.ensures.0) e.ensures.0) f.ensures.0) g.ensures.0,
       added-size a.result b.result d.result e.result f.result g.result a.ensures.1 b.ensures.1 d.ensures.1 e.ensures.1 f.ensures.1 g.ensures.1,
     )
 
-pub rises-spec : {M : Type 1} → statement M
-rises-spec =
+pub rises_spec : {M : Type 1} → statement M
+rises_spec =
     tie.close
     (tie.spec
     rise-requires

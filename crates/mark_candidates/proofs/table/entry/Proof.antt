@@ -42,58 +42,58 @@ module _ {w lowest highest : List ℤ} (f : Sized 214748364800 w) (g : Sized 100
   product_is : held (held (get_or w k (pos 0)) *ℤ held (held (get_or highest k (pos 0)) -ℤ held (get_or lowest k (pos 0)))) ≡ product
   product_is = plain-is (search (plain, p-sized) depth 12) tt
 
-length-by-requires : tie.Need-length-by-requires
-length-by-requires c κs = let p = c.before.before.before.requires in (p.0, p.1.0.lowest)
+length-by-requires : tie.Need-length_by-requires
+length-by-requires c κs = let p = c.requires in (p.0, p.1.0.lowest)
 
-returns : tie.Need-returns
+returns : tie.Need-returns-then-k-eq6
 returns c =
-    let s = c.before.before.before.before in
+    let s = c in
     let p = s.requires in
-    at-6 p.0 p.1.0.lowest p.1.0.highest s.args.k (held-is c.length-by.result c.length-by.type-inv ∙ c.length-by.ensures) c.before.if1.true
+    at-6 p.0 p.1.0.lowest p.1.0.highest s.args.k (held-is c.length_by.result c.length_by.type_inv ∙ c.length_by.ensures) c.if-k-eq6.true
 
-length-by-requires-2 : tie.Need-length-by-requires-2
-length-by-requires-2 c κs = let p = c.before.before.before.before.requires in (p.0, p.1.0.highest)
+length-by-requires-2 : tie.Need-length_by-requires-then-k-eq7
+length-by-requires-2 c κs = let p = c.requires in (p.0, p.1.0.highest)
 
-returns-2 : tie.Need-returns-2
+returns-2 : tie.Need-returns-then-k-eq7
 returns-2 c =
-    let s = c.before.before.before.before.before in
+    let s = c in
     let p = s.requires in
-    at_7 p.0 p.1.0.lowest p.1.0.highest s.args.k (held-is c.length-by2.result c.length-by2.type-inv ∙ c.length-by2.ensures) c.before.before.if1.false c.before.if2.true
+    at_7 p.0 p.1.0.lowest p.1.0.highest s.args.k (held-is c.length_by-then-k-eq7.result c.length_by-then-k-eq7.type_inv ∙ c.length_by-then-k-eq7.ensures) c.if-k-eq6.false c.if-k-eq7.true
 
-mul-result : tie.Need-overflow-mul-result
+mul-result : tie.Need-offset_bounds-w-k
 mul-result c = search rules
 
-array-copy-out-result : tie.Need-array-copy-out-result
+array-copy-out-result : tie.Need-bounds-w-k
 array-copy-out-result c = search rules
 
-mul-result-2 : tie.Need-overflow-mul-result-2
+mul-result-2 : tie.Need-offset_bounds-highest-k
 mul-result-2 c = search rules
 
-array-copy-out-result-2 : tie.Need-array-copy-out-result-2
+array-copy-out-result-2 : tie.Need-bounds-highest-k
 array-copy-out-result-2 c = search rules
 
-mul-result-3 : tie.Need-overflow-mul-result-3
+mul-result-3 : tie.Need-offset_bounds-lowest-k
 mul-result-3 c = search rules
 
-array-copy-out-result-3 : tie.Need-array-copy-out-result-3
+array-copy-out-result-3 : tie.Need-bounds-lowest-k
 array-copy-out-result-3 c = search rules
 
-sub-result : tie.Need-overflow-sub-result
+sub-result : tie.Need-overflow_sub-result
 sub-result c =
-    let s = c.before.before.before.before.before.before.before in
+    let s = c in
     width_fits s.requires.0 s.requires.1.0.lowest s.requires.1.0.highest s.args.k
 
-mul-result-4 : tie.Need-overflow-mul-result-4
+mul-result-4 : tie.Need-overflow_mul-result
 mul-result-4 c =
-    let s = c.before.before.before.before.before.before.before in
+    let s = c in
     product-fits s.requires.0 s.requires.1.0.lowest s.requires.1.0.highest s.args.k
 
-returns-3 : tie.Need-returns-3
+returns-3 : tie.Need-returns
 returns-3 c =
-    let i = c.before.before.before in
-    let s = i.before.before.before.before in
+    let i = c in
+    let s = i in
     let p = s.requires in
-    below-6 p.0 p.1.0.lowest p.1.0.highest s.args.k (product_is p.0 p.1.0.lowest p.1.0.highest s.args.k) i.before.if1.false i.if2.false
+    below-6 p.0 p.1.0.lowest p.1.0.highest s.args.k (product_is p.0 p.1.0.lowest p.1.0.highest s.args.k) i.if-k-eq6.false i.if-k-eq7.false
 
 pub entry_spec : {M : Type 1} → statement M
 entry_spec =

@@ -21,47 +21,47 @@ term-requires c κs = search rules
 term-requires-2 : tie.Need-term-requires-2
 term-requires-2 c κs = search rules
 
-add-result : tie.Need-overflow-add-result
+add-result : tie.Need-overflow_add-result
 add-result c = fits-plain (search (plain, p_atom) depth 20) tt
 
 term-requires-3 : tie.Need-term-requires-3
 term-requires-3 c κs = search rules
 
-add-result-2 : tie.Need-overflow-add-result-2
+add-result-2 : tie.Need-overflow_add-result-2
 add-result-2 c = fits-plain (search (plain, p_atom) depth 20) tt
 
 term-requires-4 : tie.Need-term-requires-4
 term-requires-4 c κs = search rules
 
-add-result-3 : tie.Need-overflow-add-result-3
+add-result-3 : tie.Need-overflow_add-result-3
 add-result-3 c = fits-plain (search (plain, p_atom) depth 20) tt
 
 term-requires-5 : tie.Need-term-requires-5
 term-requires-5 c κs = search rules
 
-add-result-4 : tie.Need-overflow-add-result-4
+add-result-4 : tie.Need-overflow_add-result-4
 add-result-4 c = fits-plain (search (plain, p_atom) depth 20) tt
 
 term-requires-6 : tie.Need-term-requires-6
 term-requires-6 c κs = search rules
 
-add-result-5 : tie.Need-overflow-add-result-5
+add-result-5 : tie.Need-overflow_add-result-5
 add-result-5 c = fits-plain (search (plain, p_atom) depth 20) tt
 
 returns : tie.Need-returns
 unfolding length_by
 returns c =
-    let a = c.before.before.before.before.before.term in
-    let b = c.before.before.before.before.term2 in
-    let d = c.before.before.before.term3 in
-    let e = c.before.before.term4 in
-    let f = c.before.term5 in
-    let g = c.term6 in
+    let a = c.term in
+    let b = c.term-2 in
+    let d = c.term-3 in
+    let e = c.term-4 in
+    let f = c.term-5 in
+    let g = c.term-6 in
     added a.result b.result d.result e.result f.result g.result a.ensures.1 b.ensures.1 d.ensures.1 e.ensures.1 f.ensures.1 g.ensures.1
     ∙ ap₂ ◌+ℤ◌ (ap₂ ◌+ℤ◌ (ap₂ ◌+ℤ◌ (ap₂ ◌+ℤ◌ (ap₂ ◌+ℤ◌ a.ensures.0 b.ensures.0) d.ensures.0) e.ensures.0) f.ensures.0) g.ensures.0
 
-pub length-by-spec : {M : Type 1} → statement M
-length-by-spec =
+pub length_by_spec : {M : Type 1} → statement M
+length_by_spec =
     tie.close
     (tie.spec
     term-requires

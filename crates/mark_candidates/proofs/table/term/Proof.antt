@@ -23,26 +23,26 @@ module _ {w g : List ℤ} (f : Sized 214748364800 w) (h : Sized 1000000 g) (k : 
   product-size : nat_abs (held (held (get_or w k (pos 0)) *ℤ held (get_or g k (pos 0)))) ≤ 214748364800000000
   product-size = plain-within {v = held (held (get_or w k (pos 0)) *ℤ held (get_or g k (pos 0)))} (search (plain, p-sized) depth 12) tt
 
-mul-result : tie.Need-overflow-mul-result
+mul-result : tie.Need-offset_bounds-w-k
 mul-result c = search rules
 
-array-copy-out-result : tie.Need-array-copy-out-result
+array-copy-out-result : tie.Need-bounds-w-k
 array-copy-out-result c = search rules
 
-mul-result-2 : tie.Need-overflow-mul-result-2
+mul-result-2 : tie.Need-offset_bounds-g-k
 mul-result-2 c = search rules
 
-array-copy-out-result-2 : tie.Need-array-copy-out-result-2
+array-copy-out-result-2 : tie.Need-bounds-g-k
 array-copy-out-result-2 c = search rules
 
-mul-result-3 : tie.Need-overflow-mul-result-3
-mul-result-3 c = let s = c.before.before in product-fits s.requires.0 s.requires.1.0 s.args.k
+mul-result-3 : tie.Need-overflow_mul-result
+mul-result-3 c = let s = c in product-fits s.requires.0 s.requires.1.0 s.args.k
 
 returns : tie.Need-returns
-returns c = let s = c.before.before in (product_is s.requires.0 s.requires.1.0 s.args.k, product-size s.requires.0 s.requires.1.0 s.args.k)
+returns c = let s = c in (product_is s.requires.0 s.requires.1.0 s.args.k, product-size s.requires.0 s.requires.1.0 s.args.k)
 
-pub term-spec : {M : Type 1} → statement M
-term-spec =
+pub term_spec : {M : Type 1} → statement M
+term_spec =
     tie.close
     (tie.spec
     mul-result

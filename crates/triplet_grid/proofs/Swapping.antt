@@ -18,7 +18,7 @@ use Rattle.grgrid.specs.Grid.{size, index, address}
 use Rattle.grgrid.specs.ClassMap.{Numbered, kept}
 use Rattle.grgrid.specs.Own.{own_places}
 use Rattle.grgrid.proofs.Built.{length-build, build-at, build-list, written, written-more, written_read}
-use Rattle.grgrid.proofs.Numbers.{own-kept, numbers_of_lem, numbered}
+use Rattle.grgrid.proofs.Numbers.{own-kept, numbers_of as numbers_of_lem, numbered}
 use Rattle.recip_rotations.specs.PointGroup.{point_group}
 use Rattle.triplet_grid.specs.Partner.{stabilizer, third, partner}
 use Rattle.triplet_grid.specs.IrTriplets.{lower_of, swapped_number, numbers_of, map_triplets_of, classes_at}

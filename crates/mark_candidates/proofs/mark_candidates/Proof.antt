@@ -56,10 +56,10 @@ same_length c = search rules
 
 returns : tie.Need-returns-in-Accepted
 returns c =
-    let t = c.before.before.before.before in
+    let t = c.before.before.before in
     let s = t in
     let a = s.args in
-    leaves a.d a.q a.ps a.r.lowest a.r.highest a.point (length a.marks.now) (sym c.in-Accepted.is ∙ tested t)
+    leaves a.d a.q a.ps a.r.lowest a.r.highest a.point (length a.marks.now) (sym c.in-Accepted.is ∙ tested t.before)
     (c.mark_point.ensures ∙ ap (marks a.d a.q a.ps a.r.lowest a.r.highest) (to_z-of_z s.ranges.point))
 
 same-length-2 : tie.Need-shape_of-marks-in-Refused
@@ -67,9 +67,9 @@ same-length-2 c = search rules
 
 returns-2 : tie.Need-returns-in-Refused
 returns-2 c =
-    let t = c.before.before.before.before in
+    let t = c.before.before.before in
     let a = t.args in
-    leaves a.d a.q a.ps a.r.lowest a.r.highest a.point (length a.marks.now) (sym c.in-Refused.is ∙ tested t) c.fill.ensures
+    leaves a.d a.q a.ps a.r.lowest a.r.highest a.point (length a.marks.now) (sym c.in-Refused.is ∙ tested t.before) c.fill.ensures
 
 pub mark_candidates_spec : {M : Type 1} → statement M
 mark_candidates_spec =

@@ -64,7 +64,7 @@ write-marks-requires c κs =
     let s = c.before.before.before.before in
     let a = s.args in (
       rw (rested c.before.before) (rests-small (sides_of a.d) (omega (arith, (point s).1)) (few s) (vector_of a.ps) (matrix_of a.q) (nat_abs a.point)),
-      (rw (counted c.before) (few s), (ranges-fit a.r (within s).lows (within s).highs, ((passes s).ranges-2, (passes s).places))),
+      (rw (counted c.before) (few s), (ranges-fit a.r (within s).lows (within s).highs, ((passes s).ranges, (passes s).places))),
     )
 
 same_length : tie.Need-shape_of-out

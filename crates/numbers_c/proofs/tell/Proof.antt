@@ -1,3 +1,4 @@
+use Rattle.integer.proofs.Fits.{held-is}
 use mir.Syntax.{w64}
 use mathlib.Core.Path.{refl}
 use native.Mathlib.Omega.{arith}
@@ -51,7 +52,7 @@ same-length-2 c = search rules
 returns-2 : tie.Need-returns-in-Value
 returns-2 c =
     let s = c in
-    rw (to_z-of_z {w = w64} (record { sfits = c.known_told-1.given.0.1 })) (value-told s.args.out.now s.args.answer c.if-out-ne1.false c.in-Value.is)
+    rw (held-is c.in-Value.v (search rules)) (value-told s.args.out.now s.args.answer c.if-out-ne1.false c.in-Value.is)
 
 same-length-3 : tie.Need-shape_of-out-in-Overflow
 same-length-3 c = search rules

@@ -56,7 +56,7 @@ returns : tie.Need-returns-in-Refused
 returns c =
     let a = c.args in
     let f = c.refuse.ensures in
-    let e = sym (tests c.before.before.before.before.before.before) ∙ c.in-Refused.is in
+    let e = sym (tests c.before.before.before.before.before) ∙ c.in-Refused.is in
     outcome a.q0 a.d a.rotations.now a.is_time_reversal (length a.map_triplets.now) (length a.map_q.now) a.swappable
     (input-refused a.q0 a.d a.rotations.now a.is_time_reversal (length a.map_triplets.now) (length a.map_q.now) e)
     f.0 f.1.0 f.1.1
@@ -92,7 +92,7 @@ enum-told-2 : tie.Need-enum_told-in-Accepted
 enum-told-2 c = search rules
 
 -- the last test
-room : (c : tie.After-classes_at) → c.classes_at.result ≡ all c.before.before.before.before.before
+room : (c : tie.After-classes_at) → c.classes_at.result ≡ all c.before.before.before.before
 room c =
     let b = c.before.before.before in
     let a = b.args in
@@ -104,15 +104,15 @@ classes : (c : tie.In-Accepted) → let g = c in let a = g.args in
 classes c = c.classes_at.ensures.1 c.in-Accepted.is
 
 cast-number-triplets : tie.Need-overflow_cast-q0-in-Accepted
-cast-number-triplets c = let g = c.before.before.before.before.before in let f = grid g in ((point g).0, let p = (point g).1 in search rules)
+cast-number-triplets c = let g = c.before.before.before.before in let f = grid g in ((point g).0, let p = (point g).1 in search rules)
 
 number-triplets-requires : tie.Need-number_triplets-requires
 number-triplets-requires c κs =
-    let g = c.before.before.before.before.before.before in
+    let g = c.before.before.before.before.before in
     let a = g.args in
     let p = accepted g in
-    let h = ap size (sym g.grid-of.ensures) in
-    (grid g, ((point g).1, (classes-numbered (nat_abs (held a.q0)) (sides g.grid-of.result) (matrices a.rotations.now) a.is_time_reversal (classes c.before), (search rules, p.triplets ∙ h))))
+    let h = ap size (sym g.grid_of-g.ensures) in
+    (grid g, ((point g).1, (classes-numbered (nat_abs (held a.q0)) (sides g.grid_of-g.result) (matrices a.rotations.now) a.is_time_reversal (classes c.before), (search rules, p.triplets ∙ h))))
 
 enum-known-r-2 : tie.Need-enum_known-r-in-Refused-classes_at
 enum-known-r-2 c = search rules
@@ -130,13 +130,13 @@ returns-2 : tie.Need-returns-in-Accepted
 returns-2 c =
     let g = c in
     let a = g.args in
-    let q = q0-held g.before.before.before.before.before.before.before.before.before.before in
-    let d = g.grid-of.ensures in
+    let q = q0-held g.before.before.before.before.before.before.before.before in
+    let d = g.grid_of-g.ensures in
     let m = classes c.before.before.before ∙ ap₂ (λ q d. map pos (classes_at (nat_abs q) d (matrices a.rotations.now) a.is_time_reversal)) q d in
     let l = numbers_of (classes_at (nat_abs a.q0) (sides_of a.d) (matrices a.rotations.now) a.is_time_reversal) m in
     let t = c.number_triplets in
     outcome a.q0 a.d a.rotations.now a.is_time_reversal (length a.map_triplets.now) (length a.map_q.now) a.swappable
-    (sym c.in-Accepted.is ∙ room c.before.before.before.before.before.before)
+    (sym c.in-Accepted.is ∙ room c.before.before.before.before.before)
     (ap Classes (held-is _ t.type_inv ∙ t.ensures.1 ∙ (λ i. pos (kept (map_triplets_of a.swappable (d i) (nat_abs (q i)) (l i)) (size (d i))))))
     (t.ensures.0 ∙ (λ i. map pos (map_triplets_of a.swappable (d i) (nat_abs (q i)) (l i))))
     m
@@ -149,7 +149,7 @@ same-length-6 c = search rules
 
 returns-3 : tie.Need-returns-in-Refused-classes_at
 returns-3 c =
-    let b = c.before.before.before.before.before.before.before in
+    let b = c.before.before.before.before.before in
     let a = b.args in
     let f = c.refuse-in-Refused-classes_at.ensures in
     let e : length b.classes_at.new.map_q ≡ length a.map_q.now = search rules in

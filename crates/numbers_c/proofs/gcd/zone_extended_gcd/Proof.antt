@@ -52,9 +52,9 @@ same-length-2 c = search rules
 returns-2 : tie.Need-returns-in_default
 returns-2 c =
     let d = c in
-    let g = d.before.before.before.before.before in
+    let g = d.before.before.before.before in
     let s = g in
-    gcd-told s.args.a s.args.b (length s.args.told.now) g.if-told-ne4.false (ap counted_of (sym d.in_default.is) ∙ counted g)
+    gcd-told s.args.a s.args.b (length s.args.told.now) g.if-told-ne4.false (ap counted_of (sym d.in_default.is) ∙ counted g.before)
     (held-is c.answer-in_default.result c.answer-in_default.type_inv ∙ c.answer-in_default.ensures) (c.fill-in_default.ensures ∙ ap (λ n. replicate n (negsuc 0)) g.if-told-ne4.false)
 
 slice-set-from-r : tie.Need-bounds-told-0
@@ -69,9 +69,9 @@ slice-set-from-t c = search rules
 cast-told : tie.Need-overflow_cast-told
 cast-told c =
     let d = c in
-    let g = d.before.before.before.before in
+    let g = d.before.before.before in
     let s = g in
-    record { sfits = count_fits s.args.a s.args.b s.ranges.b _ _ (ap counted_of (sym d.in-Done.is) ∙ counted g) }
+    record { sfits = count_fits s.args.a s.args.b s.ranges.b _ _ (ap counted_of (sym d.in-Done.is) ∙ counted g.before) }
 
 slice-set-from-told : tie.Need-bounds-told-3
 slice-set-from-told c = let e = c.if-told-ne4.false in simp (length-set) (omega (arith, e))
@@ -82,13 +82,13 @@ same-length-3 c = search rules
 returns-3 : tie.Need-returns
 returns-3 c =
     let d = c in
-    let g = d.before.before.before.before in
+    let g = d.before.before.before in
     let s = g in
     let er : held d.in-Done.e.r ≡ d.in-Done.e.r = search rules in
     let es : held d.in-Done.e.s ≡ d.in-Done.e.s = search rules in
     let et : held d.in-Done.e.t ≡ d.in-Done.e.t = search rules in
-    let known = ap counted_of (sym d.in-Done.is) ∙ counted g in
-    let en = to_z_pos w64 {d.in-Done.n = d.in-Done.n} (count_fits s.args.a s.args.b s.ranges.b _ _ known) in
+    let known = ap counted_of (sym d.in-Done.is) ∙ counted g.before in
+    let en = to_z_pos w64 {n = d.in-Done.n} (count_fits s.args.a s.args.b s.ranges.b _ _ known) in
     gcd-told s.args.a s.args.b (length s.args.told.now) g.if-told-ne4.false known refl
     (stored-four s.args.told.now g.if-told-ne4.false _ _ _ _ ∙ (λ j. er j ∷ es j ∷ et j ∷ en j ∷ []))
 

@@ -21,7 +21,7 @@ enum-known-count c = search rules
 slice-aggregate-number-classes : tie.Need-slice_bounds-number_classes-end
 slice-aggregate-number-classes c = search rules
 
-told : (c : tie.In-Rotations-2) → let b = c.before.before in let a = b.args in Told a.rotations.now a.is_time_reversal b.get_reciprocal_point_group.new.out c.in-Rotations.count
+told : (c : tie.In-Rotations) → let b = c.before.before in let a = b.args in Told a.rotations.now a.is_time_reversal b.get_reciprocal_point_group.new.out c.in-Rotations.count
 told c =
     let b = c in
     let s = b in

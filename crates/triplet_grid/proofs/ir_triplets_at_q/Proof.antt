@@ -1,4 +1,4 @@
-use mathlib.Core.Path.{◌≡◌, sym, ◌∙◌, ap, ap₂}
+use mathlib.Core.Path.{◌≡◌, sym, ◌∙◌, ap, ap₂, subst}
 use mathlib.Core.List.{map}
 use Prim.Native.Nat.{◌<◌}
 use lib.Dec.{T}
@@ -56,7 +56,7 @@ returns : tie.Need-returns-in-Refused
 returns c =
     let a = c.args in
     let f = c.refuse.ensures in
-    let e = sym (tests c.before.before.before.before.before) ∙ c.in-Refused.is in
+    let e = sym (tests c.before.before.before.before.before.before) ∙ c.in-Refused.is in
     outcome a.q0 a.d a.rotations.now a.is_time_reversal (length a.map_triplets.now) (length a.map_q.now) a.swappable
     (input-refused a.q0 a.d a.rotations.now a.is_time_reversal (length a.map_triplets.now) (length a.map_q.now) e)
     f.0 f.1.0 f.1.1
@@ -78,7 +78,10 @@ grid c = rw c.grid_of-g.ensures (grid-fits c.args.d (accepted c.before).grid)
 
 -- q0 is one of the points
 point : (c : tie.After-grid_of-g) → let q = held c.args.q0 in T (non_neg q) × (nat_abs q < size (sides c.grid_of-g.result))
-point c = rw (q0-held c.before.before, c.grid_of-g.ensures) ((accepted c.before).sign, (accepted c.before).point)
+point c =
+    let a = accepted c.before in
+    let q = q0-held c.before.before in
+    (rw q a.sign, subst (λ v. nat_abs (held c.args.q0) < size v) (sym c.grid_of-g.ensures) (rw q a.point))
 
 cast-classes-at : tie.Need-overflow_cast-q0
 cast-classes-at c = let g = grid c in ((point c).0, let p = (point c).1 in search rules)
@@ -92,7 +95,7 @@ enum-told-2 : tie.Need-enum_told-in-Accepted
 enum-told-2 c = search rules
 
 -- the last test
-room : (c : tie.After-classes_at) → c.classes_at.result ≡ all c.before.before.before.before
+room : (c : tie.After-classes_at) → c.classes_at.result ≡ all c.before.before.before.before.before
 room c =
     let b = c.before.before.before in
     let a = b.args in
@@ -110,7 +113,7 @@ number-triplets-requires : tie.Need-number_triplets-requires
 number-triplets-requires c κs =
     let g = c.before.before.before.before.before in
     let a = g.args in
-    let p = accepted g in
+    let p = accepted g.before in
     let h = ap size (sym g.grid_of-g.ensures) in
     (grid g, ((point g).1, (classes-numbered (nat_abs (held a.q0)) (sides g.grid_of-g.result) (matrices a.rotations.now) a.is_time_reversal (classes c.before), (search rules, p.triplets ∙ h))))
 
@@ -130,7 +133,7 @@ returns-2 : tie.Need-returns-in-Accepted
 returns-2 c =
     let g = c in
     let a = g.args in
-    let q = q0-held g.before.before.before.before.before.before.before.before in
+    let q = q0-held g.before.before.before.before.before.before.before.before.before in
     let d = g.grid_of-g.ensures in
     let m = classes c.before.before.before ∙ ap₂ (λ q d. map pos (classes_at (nat_abs q) d (matrices a.rotations.now) a.is_time_reversal)) q d in
     let l = numbers_of (classes_at (nat_abs a.q0) (sides_of a.d) (matrices a.rotations.now) a.is_time_reversal) m in
@@ -154,7 +157,7 @@ returns-3 c =
     let f = c.refuse-in-Refused-classes_at.ensures in
     let e : length b.classes_at.new.map_q ≡ length a.map_q.now = search rules in
     outcome a.q0 a.d a.rotations.now a.is_time_reversal (length a.map_triplets.now) (length a.map_q.now) a.swappable
-    (sym c.in-Refused-classes_at.is ∙ room b)
+    (sym c.in-Refused-classes_at.is ∙ room b.before.before)
     f.0 f.1.0 (f.1.1 ∙ ap (λ n. replicate n (negsuc 0)) e)
 
 pub ir_triplets_at_q_spec : {M : Type 1} → statement M

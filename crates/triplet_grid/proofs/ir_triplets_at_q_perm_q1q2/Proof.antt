@@ -1,5 +1,5 @@
 use mathlib.Core.Path.{◌≡◌, sym, ◌∙◌, ap}
-use mathlib.Core.Logic.{⊎_elim}
+use Rattle.triplet_grid.proofs.ir_triplets_at_q_perm_q1q2.Lts.{then-own-q1, else-own-q1}
 use mathlib.Core.List.{List, map}
 use Prim.Native.Nat.{ℕ, ◌-◌, ◌≤◌}
 use lib.IntN.{pos, nat_abs}
@@ -92,10 +92,19 @@ loop-again c =
     let bits : of_z w64 (get_or m l.q1 (pos 0)) ≡ get_or (map nat_abs m) l.q1 0 = ap (of_z w64) (numbered-at k l.q1) in
     let a = partner-is d s.args.q0 l.q1 c.grid_address_from_index-address0.ensures in (
       search rules,
-      ⊎_elim (λ w. ap length w.2 ∙ (simp length-set) ∙ l.invariant.1) (λ w. ap length w.2 ∙ (simp length-set) ∙ l.invariant.1) c.if-own-q1.branch,
-      ⊎_elim (λ w. w.2 ∙ own-stored d s.args.q0 k s.args.map_triplets.now l.invariant.2 (search rules) (sym bits ∙ w.0.taken) (held-is _ w.1.ok ∙ w.1.ensures ∙ ap (λ p. pos (lower_of (get_or (map nat_abs m) p 0) l.q1)) a))
-          (λ w. w.2 ∙ other-stored d s.args.q0 k s.args.map_triplets.now l.invariant.2 (search rules) (search rules) (λ e. w.0.left (bits ∙ e)) (ap nat_abs (number c.before).0) (held-is _ w.1.given))
-          c.if-own-q1.branch,
+      elim c.if-own-q1.branch [
+        then-own-q1 w ↦ ap length w.map_triplets-is ∙ (simp length-set) ∙ l.invariant.1
+        | else-own-q1 w ↦ ap length w.map_triplets-is ∙ (simp length-set) ∙ l.invariant.1
+      ],
+      elim c.if-own-q1.branch [
+        then-own-q1 w ↦
+        w.map_triplets-is
+        ∙ own-stored d s.args.q0 k s.args.map_triplets.now l.invariant.2 (search rules) (sym bits ∙ w.if-own-q1.true)
+        (held-is _ (search rules) ∙ w.swapped_number-number.ensures ∙ ap (λ p. pos (lower_of (get_or (map nat_abs m) p 0) l.q1)) a)
+        | else-own-q1 w ↦
+        w.map_triplets-is
+        ∙ other-stored d s.args.q0 k s.args.map_triplets.now l.invariant.2 (search rules) (search rules) (λ e. w.if-own-q1.false (bits ∙ e)) (ap nat_abs (number c.before).0) (held-is _ (search rules))
+      ],
     )
 
 same_length : tie.Need-shape_of-map_triplets invariant-loop decreases-loop

@@ -1,5 +1,5 @@
 use mathlib.Core.Path.{◌≡◌, refl, ◌∙◌, ap, subst}
-use mathlib.Core.Logic.{⊎_elim}
+use Rattle.triplet_grid.proofs.keep_stabilizer.Lts.{then-carried-q0, else-carried-q0}
 use Prim.Native.Nat.{◌≤◌, ◌-◌}
 use lib.ListN.{length}
 use borrow.Author.Rules.{rules}
@@ -57,10 +57,12 @@ loop-again c =
     let m = c.matrix_at-m.ensures ∙ ap rows (front_read d s.args.q0 s.args.group.now l.invariant.2) in
     let r = carry-is d s.args.q0 c.carried.ensures m c.grid_address_from_index-address.ensures in (
       search rules,
-      ⊎_elim (λ w. search rules) (λ w. search rules) c.if-carried-q0.branch,
-      ⊎_elim (λ w. rw w.5 (front-more d s.args.q0 s.args.group.now l.invariant.2 r w.0.taken m (w.4 ∙ w.2.ensures)))
-          (λ w. rw (w.1, w.2) (front_same d s.args.q0 s.args.group.now l.invariant.2 r w.0.left))
-          c.if-carried-q0.branch,
+      elim c.if-carried-q0.branch [ then-carried-q0 w ↦ search rules | else-carried-q0 w ↦ search rules ],
+      elim c.if-carried-q0.branch [
+        then-carried-q0 w ↦
+        rw w.kept-is (front-more d s.args.q0 s.args.group.now l.invariant.2 r w.if-carried-q0.true m (w.group-is ∙ w.store_matrix.ensures))
+        | else-carried-q0 w ↦ rw (w.group-is, w.kept-is) (front_same d s.args.q0 s.args.group.now l.invariant.2 r w.if-carried-q0.false)
+      ],
     )
 
 same_length : tie.Need-shape_of-group invariant-loop decreases-loop
@@ -71,7 +73,7 @@ returns c =
     let s = c in
     let l = c.loop-n in
     let e : l.n ≡ s.args.count = search rules in
-    let f = subst (λ n. Front (sides s.args.g) s.args.q0 s.args.group.now n l.auto l.group) e l.invariant.2 in
+    let f = subst (λ n. Front (sides s.args.g) s.args.q0 s.args.group.now n l.kept l.group) e l.invariant.2 in
     (f.held, f.count)
 
 pub keep_stabilizer_spec : {M : Type 1} → statement M

@@ -1,5 +1,5 @@
 use mathlib.Core.Path.{◌≡◌, sym, ◌∙◌, ap, ap₂}
-use mathlib.Core.Logic.{⊎_elim}
+use Rattle.triplet_grid.proofs.triplet_tests.Lts.{then-triplets-n-via-then-triplets-n, then-triplets-n-via-else-triplets-n+then-classes-n}
 use mathlib.Core.Bool.{true, ◌&&◌}
 use Prim.Native.Nat.{◌≤◌}
 use lib.Dec.{eqb}
@@ -59,9 +59,10 @@ returns-3 c =
     let p = points-are c.before in
     let e1 = whole c.before.before.before.before.before in
     let e2 = grid c.before.before.before in
-    ⊎_elim (λ w. rw (e1, e2, ne_eqb a.triplets n (λ e. w.taken (e ∙ sym p))))
-    (λ w. rw (e1, e2, eq-eqb a.triplets n (w.0.left ∙ p), ap (eqb a.classes) (sym p) ∙ not-true _ w.1.taken))
-    c.then-triplets-n.branch
+    elim c.then-triplets-n.branch [
+      then-triplets-n-via-then-triplets-n w ↦ rw (e1, e2, ne_eqb a.triplets n (λ e. w.if-triplets-n.true (e ∙ sym p)))
+      | then-triplets-n-via-else-triplets-n+then-classes-n w ↦ rw (e1, e2, eq-eqb a.triplets n (w.if-triplets-n.false ∙ p), ap (eqb a.classes) (sym p) ∙ not-true _ w.if-classes-n.true-raw)
+    ]
 
 -- the outputs have N places
 sizes : (c : tie.Else-classes-n) → let a = c.args in (eqb a.triplets (size (sides_of a.d)) && eqb a.classes (size (sides_of a.d))) ≡ true

@@ -77,7 +77,7 @@ returns-2 c =
     let b = s.args.bytes.now in (
       c.accept.ensures ∙ accepted-job b e,
       rotations-laid b e c.signed_words.ensures (length-take-le (9 * c.word-n.result) c.fill.new.out (room s.args.bytes.now e c.word-n.ensures.0 c.fill.ensures s.requires))
-          c.word-n.ensures.0 c.word-n.ensures.0 (c.fill.ensures ∙ ap (λ n. replicate n (negsuc 0)) s.requires),
+          c.word.ensures.0 c.word-n.ensures.0 (c.fill.ensures ∙ ap (λ n. replicate n (negsuc 0)) s.requires),
     )
 
 pub read_job_spec : {M : Type 1} → statement M

@@ -1,3 +1,4 @@
+use mir.Syntax.{w64}
 use mathlib.Core.Path.{◌≡◌, refl, ◌∙◌, ap}
 use mathlib.Core.List.{List, map-id}
 use Prim.Native.Nat.{ℕ, ◌+◌, ◌*◌, ◌-◌, ◌≤◌}
@@ -52,7 +53,7 @@ loop-again : tie.Need-loop-k-preserved invariant-loop decreases-loop
 loop-again c =
     let l = c.loop-k in
     let s = c.args in
-    (search rules, search rules, written-more (item s.bytes.now s.at) (λ z. z) l.k s.out.now l.invariant.2 (search rules) (to_z-of_z (search rules) ∙ c.signed.ensures ∙ ap signed c.word.ensures.0))
+    (search rules, search rules, written-more (item s.bytes.now s.at) (λ z. z) l.k s.out.now l.invariant.2 (search rules) (to_z-of_z {w = w64} (search rules) ∙ c.signed.ensures ∙ ap signed c.word.ensures.0))
 
 same_length : tie.Need-shape_of-out invariant-loop decreases-loop
 same_length c = search rules

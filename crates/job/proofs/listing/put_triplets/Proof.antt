@@ -11,10 +11,10 @@ use Rattle.job.proofs.listing.put_triplets.Statement.{statement}
 use Rattle.job.proofs.listing.put_triplets.Tie as tie
 
 abbrev invariant-loop : tie.invariant-loop-k
-invariant-loop list out₀ count q₀ k₀ t8 out q k = (k ≤ count) × (length out ≡ length out₀) × (page out q ≡ puts (page out₀ q₀) (rows (triplet_line list) k))
+invariant-loop list out₀ count q₀ k₀ out q k = (k ≤ count) × (length out ≡ length out₀) × (page out q ≡ puts (page out₀ q₀) (rows (triplet_line list) k))
 
 abbrev decreases-loop : tie.decreases-loop-k
-decreases-loop list out₀ count q₀ k₀ t8 out q k = count - k
+decreases-loop list out₀ count q₀ k₀ out q k = count - k
 
 loop-holds : tie.Need-loop-k-init invariant-loop decreases-loop
 loop-holds c = search rules

@@ -17,37 +17,37 @@ told : (A : Mat ℤ) {r : Smith} → r ≡ written (again (snf3x3 A)) → (r ≡
 unfolding smith3x3
 told A {r} e = (e, promised A r e)
 
-snf3x3-requires : tie.Need-snf3x3-requires
+snf3x3-requires : tie.Need-snf3x3-s-requires
 snf3x3-requires c κs = search rules
 
-enum_told : tie.Need-enum-told
+enum_told : tie.Need-enum_told-1
 enum_told c = search rules
 
 again-requires : tie.Need-again-requires
 again-requires c κs = search rules
 
-enum-known-t : tie.Need-enum-known-t
+enum-known-t : tie.Need-enum_known-t
 enum-known-t c = search rules
 
 refuse-requires : tie.Need-refuse-requires
 refuse-requires c κs = search rules
 
-returns : tie.Need-returns
+returns : tie.Need-returns-in-Accepted
 returns c =
-    let y = c.before.before.before.before.before.before in
-    let m = matrix_of y.before.args.a in
+    let y = c in
+    let m = matrix_of y.args.a in
     let w = snf3x3 m in
     told m
     (c.again.ensures
-    ∙ ap (λ v. written (joined (matrix_at v.p 0) (matrix_at v.q 0) (snf3x3_unlimited (diagonal (vector_of v.d_diag))))) y.snf3x3.ensures.0
-    ∙ ap written (sym (first-accepted w (ap (λ v. v.tested) (sym y.snf3x3.ensures.0) ∙ c.before.enum_told.given.1))))
+    ∙ ap (λ v. written (joined (matrix_at v.p 0) (matrix_at v.q 0) (snf3x3_unlimited (diagonal (vector_of v.d_diag))))) y.snf3x3-s.ensures.0
+    ∙ ap written (sym (first-accepted w (ap (λ v. v.tested) (sym y.snf3x3-s.ensures.0) ∙ c.in-Accepted.is))))
 
-returns-2 : tie.Need-returns-2
+returns-2 : tie.Need-returns-in-Refused
 returns-2 c =
-    let y = c.before.before.before.before.before.before.before in
-    let m = matrix_of y.before.args.a in
-    told m (c.refuse.ensures ∙ ap written (sym (first-refused (snf3x3 m) (ap (λ v. v.tested) (sym y.snf3x3.ensures.0) ∙ c.before.before.t.given.1))))
+    let y = c in
+    let m = matrix_of y.args.a in
+    told m (c.refuse.ensures ∙ ap written (sym (first-refused (snf3x3 m) (ap (λ v. v.tested) (sym y.snf3x3-s.ensures.0) ∙ c.in-Refused.is))))
 
-pub smith3x3-spec : {M : Type 1} → statement M
-smith3x3-spec =
+pub smith3x3_spec : {M : Type 1} → statement M
+smith3x3_spec =
     tie.close (tie.spec snf3x3-requires enum_told again-requires enum-known-t refuse-requires returns returns-2)

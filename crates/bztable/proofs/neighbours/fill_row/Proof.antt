@@ -21,11 +21,11 @@ use borrow.Author.Rules.{rules}
 use Rattle.bztable.proofs.neighbours.fill_row.Statement.{statement}
 use Rattle.bztable.proofs.neighbours.fill_row.Tie as tie
 
-abbrev invariant-loop : tie.invariant-loop
+abbrev invariant-loop : tie.invariant-loop-j
 invariant-loop t base offsets addresses map g out₀ j₀ out j =
     (j ≤ length out₀) × (length out ≡ length out₀) × (read_rows (neighbour_at t (sides g) offsets addresses map (vector_of base)) j ≡ got (take j out))
 
-abbrev decreases-loop : tie.decreases-loop
+abbrev decreases-loop : tie.decreases-loop-j
 decreases-loop t base offsets addresses map g out₀ j₀ out j = length out₀ - j
 
 abbrev image_at : tie.Start invariant-loop decreases-loop → Vec ℤ → Read ℕ
@@ -35,82 +35,81 @@ abbrev rows : tie.Start invariant-loop decreases-loop → ℕ → Read (List ℤ
 rows s = image_along (image_at s) s.args.offsets.now s.args.base
 
 -- the place that was read
-place-below : (c : tie.After-known-told invariant-loop decreases-loop) → c.before.i.given.0.0 < 0x8000000000000000
-place-below c = lt_trans (subst (PlaceBelow 2199023255552) c.before.i.given.1 c.before.before.before.neighbour.ensures.1) (lit< tt)
+place-below : (c : tie.In-At invariant-loop decreases-loop) → c.in-At.i < 0x8000000000000000
+place-below c = lt_trans (subst (PlaceBelow 2199023255552) c.in-At.is c.neighbour.ensures.1) (lit< tt)
 
-loop-holds : tie.Need-loop-init invariant-loop decreases-loop
+loop-holds : tie.Need-loop-j-init invariant-loop decreases-loop
 loop-holds c = (search rules, refl, refl)
 
-mul-row-at : tie.Need-overflow-mul-row-at invariant-loop decreases-loop
+mul-row-at : tie.Need-overflow_mul-j invariant-loop decreases-loop
 mul-row-at c = search rules
 
-row-at-requires : tie.Need-row-at-requires invariant-loop decreases-loop
+row-at-requires : tie.Need-row_at-requires invariant-loop decreases-loop
 row-at-requires c κs = search rules
 
-moved-requires : tie.Need-moved-requires invariant-loop decreases-loop
+moved-requires : tie.Need-moved-b-requires invariant-loop decreases-loop
 moved-requires c κs =
-    let s = c.before.before.before in
+    let s = c in
     let small = entry-within 1000 s.args.offsets.now s.requires.1.0 in
     (s.requires.0, rw c.row_at.ensures (sized-items _ (small _) (small _) (small _)))
 
 neighbour-requires : tie.Need-neighbour-requires invariant-loop decreases-loop
-neighbour-requires c κs = c.before.before.before.before.requires.1.1.0
+neighbour-requires c κs = c.requires.1.1.0
 
-enum-known-i : tie.Need-enum-known-i invariant-loop decreases-loop
+enum-known-i : tie.Need-enum_known-i invariant-loop decreases-loop
 enum-known-i c = search rules
 
-enum_told : tie.Need-enum-told invariant-loop decreases-loop
+enum_told : tie.Need-enum_told-1 invariant-loop decreases-loop
 enum_told c = search rules
 
-same_length : tie.Need-same-length invariant-loop decreases-loop
+same_length : tie.Need-shape_of-out-in_default invariant-loop decreases-loop
 same_length c = search rules
 
-returns : tie.Need-returns invariant-loop decreases-loop
+returns : tie.Need-returns-in_default invariant-loop decreases-loop
 returns c =
-    let n = c.before.before in
-    let r = n.before.before in
-    let l = r.before.before.loop in
-    let s = r.before.before.before in
-    let e = along-outside (image_at s) s.args.offsets.now s.args.base l.j n.neighbour.result r.row_at.ensures n.before.moved.ensures n.neighbour.ensures.0 c.enum_told.given.1 in
+    let n = c in
+    let r = n in
+    let l = r.loop-j in
+    let s = r.before.before.before.before.before.before in
+    let e = along-outside (image_at s) s.args.offsets.now s.args.base l.j n.neighbour.result r.row_at.ensures n.moved-b.ensures n.neighbour.ensures.0 c.in_default.is in
     rows-outside (rows s) l.j (length s.args.offsets.now / 3) (search rules) e
 
-cast-out : tie.Need-overflow-cast-out invariant-loop decreases-loop
+cast-out : tie.Need-overflow_cast-out invariant-loop decreases-loop
 cast-out c = record { sfits = place-below c }
 
-mul-t11 : tie.Need-overflow-mul-t11 invariant-loop decreases-loop
+mul-t11 : tie.Need-offset_bounds-out-j invariant-loop decreases-loop
 mul-t11 c = search rules
 
-slice-set-from-out : tie.Need-slice-set-from-out invariant-loop decreases-loop
+slice-set-from-out : tie.Need-bounds-out-j invariant-loop decreases-loop
 slice-set-from-out c = search rules
 
-add-j : tie.Need-overflow-add-j invariant-loop decreases-loop
+add-j : tie.Need-overflow_add-j invariant-loop decreases-loop
 add-j c = search rules
 
-loop-less : tie.Need-loop-smaller invariant-loop decreases-loop
+loop-less : tie.Need-loop-j-smaller invariant-loop decreases-loop
 loop-less c = search rules
 
-loop-again : tie.Need-loop-preserved invariant-loop decreases-loop
+loop-again : tie.Need-loop-j-preserved invariant-loop decreases-loop
 loop-again c =
-    let i = c.before.i.given.0.0 in
-    let n = c.before.before.before in
-    let r = n.before.before in
-    let l = r.before.before.loop in
-    let s = r.before.before.before in
-    let e = along-got (image_at s) s.args.offsets.now s.args.base l.j n.neighbour.result r.row_at.ensures n.before.moved.ensures n.neighbour.ensures.0 i c.before.i.given.1 in
+    let n = c in
+    let r = n in
+    let l = r.loop-j in
+    let s = r.before.before.before.before.before.before in
+    let e = along-got (image_at s) s.args.offsets.now s.args.base l.j n.neighbour.result r.row_at.ensures n.moved-b.ensures n.neighbour.ensures.0 c.in-At.i c.in-At.is in
     let z = to_z_pos w64 (place-below c) in
-    (search rules, search rules, rows-set (rows s) l.j l.j l.out l.invariant.2 (to_z w64 i) (search rules) (e ∙ ap (λ z. got (z ∷ [])) (sym z)))
+    (search rules, search rules, rows-set (rows s) l.j l.j l.out l.invariant.2 (to_z w64 c.in-At.i) (search rules) (e ∙ ap (λ z. got (z ∷ [])) (sym z)))
 
-same-length-2 : tie.Need-same-length-2 invariant-loop decreases-loop
+same-length-2 : tie.Need-shape_of-out invariant-loop decreases-loop
 same-length-2 c = search rules
 
-returns-2 : tie.Need-returns-2 invariant-loop decreases-loop
+returns-2 : tie.Need-returns invariant-loop decreases-loop
 returns-2 c =
-    let l = c.before.loop in
+    let l = c.loop-j in
     let s = c.before.before in
     rows_all (rows s) l.j l.j l.out l.invariant.2 (length s.args.offsets.now / 3) (search rules) (le_antisymm l.invariant.0 (search rules) ∙ s.requires.1.1.1)
 
-pub fill-row-spec : {M : Type 1} → statement M
-fill-row-spec =
+pub fill_row_spec : {M : Type 1} → statement M
+fill_row_spec =
     tie.close
     (tie.spec
     invariant-loop

@@ -12,88 +12,88 @@ use Rattle.bztable.proofs.neighbours.input_tests.Statement.{statement}
 use Rattle.bztable.proofs.neighbours.input_tests.Tie as tie
 
 -- the tests that were passed
-offsets-whole : (c : tie.Else1) → whole_addresses c.before.before.args.offsets.now ≡ true
-offsets-whole c = yes c.before.whole-addresses.ensures c.if1.false
+offsets-whole : (c : tie.Else-not-whole_addresses) → whole_addresses c.args.offsets.now ≡ true
+offsets-whole c = yes c.whole_addresses.ensures c.if-not-whole_addresses.false-raw
 
-addresses-whole : (c : tie.Else2) → whole_addresses c.before.before.before.before.args.addresses.now ≡ true
-addresses-whole c = yes c.before.whole-addresses2.ensures c.if2.false
+addresses-whole : (c : tie.Else-not-whole_addresses-2) → whole_addresses c.args.addresses.now ≡ true
+addresses-whole c = yes c.whole_addresses-2.ensures c.if-not-whole_addresses-2.false-raw
 
-room : (c : tie.Else3) → let s = c.before.before.before.before.before.before in eqb s.args.places (s.args.points * (length s.args.offsets.now / 3)) ≡ true
-room c = yes c.before.is-product.ensures c.if3.false
+room : (c : tie.Else-not-is_product) → let s = c in eqb s.args.places (s.args.points * (length s.args.offsets.now / 3)) ≡ true
+room c = yes c.is_product.ensures c.if-not-is_product.false-raw
 
-grid : (c : tie.Else4) → diagonal_fits c.before.before.before.before.before.before.before.before.args.d ≡ true
-grid c = yes c.before.diagonal-fits.ensures c.if4.false
+grid : (c : tie.Else-not-diagonal_fits) → diagonal_fits c.args.d ≡ true
+grid c = yes c.diagonal_fits.ensures c.if-not-diagonal_fits.false-raw
 
-steps : (c : tie.Else5) → all_within 1000 c.before.before.before.before.before.before.before.before.before.before.args.offsets.now ≡ true
-steps c = yes c.before.all-within.ensures c.if5.false
+steps : (c : tie.Else-not-all_within) → all_within 1000 c.args.offsets.now ≡ true
+steps c = yes c.all_within.ensures c.if-not-all_within.false-raw
 
-whole-addresses-requires : tie.Need-whole-addresses-requires
+whole-addresses-requires : tie.Need-whole_addresses-requires
 whole-addresses-requires c κs = search rules
 
-returns : tie.Need-returns
+returns : tie.Need-returns-then-not-whole_addresses
 unfolding input_tests
-returns c = rw (no c.before.whole-addresses.ensures c.if1.true)
+returns c = rw (no c.whole_addresses.ensures c.if-not-whole_addresses.true-raw)
 
-whole-addresses-requires-2 : tie.Need-whole-addresses-requires-2
+whole-addresses-requires-2 : tie.Need-whole_addresses-requires-2
 whole-addresses-requires-2 c κs = search rules
 
-returns-2 : tie.Need-returns-2
+returns-2 : tie.Need-returns-then-not-whole_addresses-2
 unfolding input_tests
-returns-2 c = rw (offsets-whole c.before.before, no c.before.whole-addresses2.ensures c.if2.true)
+returns-2 c = rw (offsets-whole c.before.before, no c.whole_addresses-2.ensures c.if-not-whole_addresses-2.true-raw)
 
-is-product-requires : tie.Need-is-product-requires
+is-product-requires : tie.Need-is_product-requires
 is-product-requires c κs = search rules
 
-returns-3 : tie.Need-returns-3
+returns-3 : tie.Need-returns-then-not-is_product
 unfolding input_tests
 returns-3 c =
     let x = c.before.before in
-    rw (offsets-whole x.before.before, addresses-whole x, no c.before.is-product.ensures c.if3.true)
+    rw (offsets-whole x.before.before, addresses-whole x, no c.is_product.ensures c.if-not-is_product.true-raw)
 
-diagonal-fits-requires : tie.Need-diagonal-fits-requires
+diagonal-fits-requires : tie.Need-diagonal_fits-requires
 diagonal-fits-requires c κs = search rules
 
-returns-4 : tie.Need-returns-4
+returns-4 : tie.Need-returns-then-not-diagonal_fits
 unfolding input_tests
 returns-4 c =
     let y = c.before.before in
     let x = y.before.before in
-    rw (offsets-whole x.before.before, addresses-whole x, room y, no c.before.diagonal-fits.ensures c.if4.true)
+    rw (offsets-whole x.before.before, addresses-whole x, room y, no c.diagonal_fits.ensures c.if-not-diagonal_fits.true-raw)
 
-all-within-requires : tie.Need-all-within-requires
+all-within-requires : tie.Need-all_within-requires
 all-within-requires c κs = search rules
 
-returns-5 : tie.Need-returns-5
+returns-5 : tie.Need-returns-then-not-all_within
 unfolding input_tests
 returns-5 c =
     let z = c.before.before in
     let y = z.before.before in
     let x = y.before.before in
-    rw (offsets-whole x.before.before, addresses-whole x, room y, grid z, no c.before.all-within.ensures c.if5.true)
+    rw (offsets-whole x.before.before, addresses-whole x, room y, grid z, no c.all_within.ensures c.if-not-all_within.true-raw)
 
-type-fits-requires : tie.Need-type-fits-requires
+type-fits-requires : tie.Need-type_fits-requires
 type-fits-requires c κs = search rules
 
-returns-6 : tie.Need-returns-6
+returns-6 : tie.Need-returns-then-not-type_fits
 unfolding input_tests
 returns-6 c =
     let w = c.before.before in
     let z = w.before.before in
     let y = z.before.before in
     let x = y.before.before in
-    rw (offsets-whole x.before.before, addresses-whole x, room y, grid z, steps w, no c.before.type-fits.ensures c.if6.true)
+    rw (offsets-whole x.before.before, addresses-whole x, room y, grid z, steps w, no c.type_fits.ensures c.if-not-type_fits.true-raw)
 
-returns-7 : tie.Need-returns-7
+returns-7 : tie.Need-returns
 unfolding input_tests
 returns-7 c =
     let w = c.before.before in
     let z = w.before.before in
     let y = z.before.before in
     let x = y.before.before in
-    rw (offsets-whole x.before.before, addresses-whole x, room y, grid z, steps w, yes c.before.type-fits.ensures c.if6.false)
+    rw (offsets-whole x.before.before, addresses-whole x, room y, grid z, steps w, yes c.type_fits.ensures c.if-not-type_fits.false-raw)
 
-pub input-tests-spec : {M : Type 1} → statement M
-input-tests-spec =
+pub input_tests_spec : {M : Type 1} → statement M
+input_tests_spec =
     tie.close
     (tie.spec
     whole-addresses-requires

@@ -8,60 +8,59 @@ use borrow.Author.Rules.{rules}
 use Rattle.bztable.proofs.neighbours.neighboring_grid_points_many.Statement.{statement}
 use Rattle.bztable.proofs.neighbours.neighboring_grid_points_many.Tie as tie
 
-layout : (c : tie.After-grid-type) → c.grid-type.result ≡ grid_type_of c.before.args.bz-grid-type
-layout c = c.grid-type.ensures ∙ ap grid_type_of (to_z-of_z c.before.ranges.bz-grid-type)
+layout : (c : tie.After-grid_type-t) → c.grid_type-t.result ≡ grid_type_of c.args.bz_grid_type
+layout c = c.grid_type-t.ensures ∙ ap grid_type_of (to_z-of_z c.ranges.bz_grid_type)
 
-grid-type-requires : tie.Need-grid-type-requires
+grid-type-requires : tie.Need-grid_type-t-requires
 grid-type-requires c κs = search rules
 
-neighbour-tests-requires : tie.Need-neighbour-tests-requires
+neighbour-tests-requires : tie.Need-neighbour_tests-requires
 neighbour-tests-requires c κs = search rules
 
-enum_told : tie.Need-enum-told
+enum_told : tie.Need-enum_told-1
 enum_told c = search rules
 
-enum-known-r : tie.Need-enum-known-r
+enum-known-r : tie.Need-enum_known-r
 enum-known-r c = search rules
 
 fill-requires : tie.Need-fill-requires
 fill-requires c κs = search rules
 
-same_length : tie.Need-same-length
+same_length : tie.Need-shape_of-out-in-Accepted
 same_length c = search rules
 
-returns : tie.Need-returns
+returns : tie.Need-returns-in-Accepted
 returns c =
-    let t = c.before.before.before in
-    let s = t.before.before.before in
-    let a = c.enum_told.given.1 in
-    call-written s.args.points.now s.args.offsets.now s.args.addresses.now s.args.map.now s.args.d s.args.bz-grid-type (length s.args.out.now)
-    (layout t.before.before)
-    t.neighbour-tests.ensures.0
-    t.neighbour-tests.new.1.1.1.1.1.1.0
-    a
-    (t.neighbour-tests.ensures.1 a)
+    let t = c in
+    let s = t in
+    call-written s.args.points.now s.args.offsets.now s.args.addresses.now s.args.map.now s.args.d s.args.bz_grid_type (length s.args.out.now)
+    (layout t.before.before.before.before)
+    t.neighbour_tests.ensures.0
+    t.neighbour_tests.new.out
+    c.in-Accepted.is
+    (t.neighbour_tests.ensures.1 c.in-Accepted.is)
 
-same-length-2 : tie.Need-same-length-2
+same-length-2 : tie.Need-shape_of-out-in-Refused
 same-length-2 c = search rules
 
-returns-2 : tie.Need-returns-2
+returns-2 : tie.Need-returns-in-Refused
 returns-2 c =
-    let r = c.before.before.before.before in
-    let t = r.before.before.before in
-    let s = t.before.before.before in
-    let left = t.neighbour-tests.new.1.1.1.1.1.1.0 in
+    let r = c in
+    let t = r in
+    let s = t in
+    let left = t.neighbour_tests.new.out in
     let n : length left ≡ length s.args.out.now = search rules in
-    let f : c.before.fill.new.0 ≡ replicate (length left) (negsuc 0) = c.before.fill.ensures in
-    call-refused s.args.points.now s.args.offsets.now s.args.addresses.now s.args.map.now s.args.d s.args.bz-grid-type (length s.args.out.now)
-    (layout t.before.before)
-    t.neighbour-tests.ensures.0
-    c.before.fill.new.0
-    r.r.given.0.0
-    r.r.given.1
+    let f : c.fill.new.out ≡ replicate (length left) (negsuc 0) = c.fill.ensures in
+    call-refused s.args.points.now s.args.offsets.now s.args.addresses.now s.args.map.now s.args.d s.args.bz_grid_type (length s.args.out.now)
+    (layout t.before.before.before.before.before.before.before)
+    t.neighbour_tests.ensures.0
+    c.fill.new.out
+    r.in-Refused.r
+    r.in-Refused.is
     (f ∙ ap (λ n. replicate n (negsuc 0)) n)
 
-pub neighboring-grid-points-many-spec : {M : Type 1} → statement M
-neighboring-grid-points-many-spec =
+pub neighboring_grid_points_many_spec : {M : Type 1} → statement M
+neighboring_grid_points_many_spec =
     tie.close
     (tie.spec
     grid-type-requires

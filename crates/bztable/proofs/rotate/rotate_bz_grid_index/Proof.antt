@@ -7,44 +7,44 @@ use borrow.Author.Rules.{rules}
 use Rattle.bztable.proofs.rotate.rotate_bz_grid_index.Statement.{statement}
 use Rattle.bztable.proofs.rotate.rotate_bz_grid_index.Tie as tie
 
-grid-type-requires : tie.Need-grid-type-requires
+grid-type-requires : tie.Need-grid_type-t-requires
 grid-type-requires c κs = search rules
 
-rotate-tests-requires : tie.Need-rotate-tests-requires
+rotate-tests-requires : tie.Need-rotate_tests-requires
 rotate-tests-requires c κs = search rules
 
-enum_told : tie.Need-enum-told
+enum_told : tie.Need-enum_told-1
 enum_told c = search rules
 
-rotate-read-requires : tie.Need-rotate-read-requires
+rotate-read-requires : tie.Need-rotate_read-requires
 rotate-read-requires c κs =
-    let u = c.before.before in
-    let s = u.before.before.args in
-    let a = rotate-accepted s.rotation s.addresses.now s.d s.ps _ (sym u.rotate-tests.ensures ∙ c.enum_told.given.1) in
+    let u = c in
+    let s = u.args in
+    let a = rotate-accepted s.rotation s.addresses.now s.d s.ps _ (sym u.rotate_tests.ensures ∙ c.in-Accepted.is) in
     (a.grid, (a.shift, a.entries))
 
-enum-known-r : tie.Need-enum-known-r
+enum-known-r : tie.Need-enum_known-r
 enum-known-r c = search rules
 
-returns : tie.Need-returns
+returns : tie.Need-returns-in-Accepted
 returns c =
-    let u = c.before.before.before in
-    let s = u.before.before.args in
-    let f = u.before.before.ranges in
-    let e = u.before.grid-type.ensures ∙ ap grid_type_of (to_z-of_z f.bz-grid-type) in
-    c.rotate-read.ensures
-    ∙ ap (λ i. told (rotate_read i s.rotation s.addresses.now s.map.now s.d s.ps u.before.grid-type.result)) (to_z-of_z f.bz-grid-index)
-    ∙ answer-accepted s.rotation s.addresses.now s.d s.ps s.bz-grid-index s.map.now s.bz-grid-type e (sym u.rotate-tests.ensures ∙ c.before.enum_told.given.1)
+    let u = c in
+    let s = u.args in
+    let f = u.ranges in
+    let e = u.grid_type-t.ensures ∙ ap grid_type_of (to_z-of_z f.bz_grid_type) in
+    c.rotate_read.ensures
+    ∙ ap (λ i. told (rotate_read i s.rotation s.addresses.now s.map.now s.d s.ps u.grid_type-t.result)) (to_z-of_z f.bz_grid_index)
+    ∙ answer-accepted s.rotation s.addresses.now s.d s.ps s.bz_grid_index s.map.now s.bz_grid_type e (sym u.rotate_tests.ensures ∙ c.in-Accepted.is)
 
-returns-2 : tie.Need-returns-2
+returns-2 : tie.Need-returns-in-Refused
 returns-2 c =
-    let u = c.before.before.before in
-    let s = u.before.before.args in
-    let e = u.before.grid-type.ensures ∙ ap grid_type_of (to_z-of_z u.before.before.ranges.bz-grid-type) in
-    answer-refused s.rotation s.addresses.now s.d s.ps s.bz-grid-index s.map.now s.bz-grid-type e (sym u.rotate-tests.ensures ∙ c.before.r.given.1)
+    let u = c in
+    let s = u.args in
+    let e = u.grid_type-t.ensures ∙ ap grid_type_of (to_z-of_z u.ranges.bz_grid_type) in
+    answer-refused s.rotation s.addresses.now s.d s.ps s.bz_grid_index s.map.now s.bz_grid_type e (sym u.rotate_tests.ensures ∙ c.in-Refused.is)
 
-pub rotate-bz-grid-index-spec : {M : Type 1} → statement M
-rotate-bz-grid-index-spec =
+pub rotate_bz_grid_index_spec : {M : Type 1} → statement M
+rotate_bz_grid_index_spec =
     tie.close
     (tie.spec
     grid-type-requires

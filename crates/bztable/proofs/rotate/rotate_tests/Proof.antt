@@ -10,56 +10,56 @@ use Rattle.bztable.proofs.rotate.rotate_tests.Statement.{statement}
 use Rattle.bztable.proofs.rotate.rotate_tests.Tie as tie
 
 -- what passed on the way
-whole : (c : tie.Else1) → whole_addresses c.before.before.args.addresses.now ≡ true
-whole c = yes c.before.whole-addresses.ensures c.if1.false
+whole : (c : tie.Else-not-whole_addresses) → whole_addresses c.args.addresses.now ≡ true
+whole c = yes c.whole_addresses.ensures c.if-not-whole_addresses.false-raw
 
-limits : (c : tie.After-all-three) → let s = c.before.before.before.before.before.before.args in c.All-three.result ≡ diagonal_fits s.d && (shift_fits s.ps && matrix_within 100000 (matrix_of s.rotation))
+limits : (c : tie.After-all_three) → let s = c.args in c.all_three.result ≡ diagonal_fits s.d && (shift_fits s.ps && matrix_within 100000 (matrix_of s.rotation))
 limits c =
-    let m = c.before in
-    c.All-three.ensures ∙ (λ i. m.before.before.diagonal-fits.ensures i && (m.before.shift-fits.ensures i && m.matrix-within.ensures i))
+    let m = c in
+    c.all_three.ensures ∙ (λ i. m.diagonal_fits.ensures i && (m.shift_fits.ensures i && m.matrix_within.ensures i))
 
-whole-addresses-requires : tie.Need-whole-addresses-requires
+whole-addresses-requires : tie.Need-whole_addresses-requires
 whole-addresses-requires c κs = search rules
 
-returns : tie.Need-returns
+returns : tie.Need-returns-then-not-whole_addresses
 unfolding rotate_tests
-returns c = rw (no c.before.whole-addresses.ensures c.if1.true)
+returns c = rw (no c.whole_addresses.ensures c.if-not-whole_addresses.true-raw)
 
-diagonal-fits-requires : tie.Need-diagonal-fits-requires
+diagonal-fits-requires : tie.Need-diagonal_fits-requires
 diagonal-fits-requires c κs = search rules
 
-shift-fits-requires : tie.Need-shift-fits-requires
+shift-fits-requires : tie.Need-shift_fits-requires
 shift-fits-requires c κs = search rules
 
-matrix-within-requires : tie.Need-matrix-within-requires
+matrix-within-requires : tie.Need-matrix_within-requires
 matrix-within-requires c κs = search rules
 
-all-three-requires : tie.Need-all-three-requires
+all-three-requires : tie.Need-all_three-requires
 all-three-requires c κs = search rules
 
-returns-2 : tie.Need-returns-2
+returns-2 : tie.Need-returns-then-not-all_three
 unfolding rotate_tests
 returns-2 c =
     let t = c.before.before.before.before.before in
-    rw (whole t, no (limits c.before) c.if2.true)
+    rw (whole t, no (limits c.before) c.if-not-all_three.true-raw)
 
-is-known-requires : tie.Need-is-known-requires
+is-known-requires : tie.Need-is_known-requires
 is-known-requires c κs = search rules
 
-returns-3 : tie.Need-returns-3
+returns-3 : tie.Need-returns-then-not-is_known
 unfolding rotate_tests
 returns-3 c =
-    let u = c.before.before in
-    rw (whole u.before.before.before.before.before, yes (limits u.before) u.if2.false, no c.before.is_Known.ensures c.if3.true)
+    let u = c in
+    rw (whole u.before.before.before.before.before.before.before, yes (limits u.before.before.before) u.if-not-all_three.false-raw, no c.is_known.ensures c.if-not-is_known.true-raw)
 
-returns-4 : tie.Need-returns-4
+returns-4 : tie.Need-returns
 unfolding rotate_tests
 returns-4 c =
-    let u = c.before.before in
-    rw (whole u.before.before.before.before.before, yes (limits u.before) u.if2.false, yes c.before.is_Known.ensures c.if3.false)
+    let u = c in
+    rw (whole u.before.before.before.before.before.before.before, yes (limits u.before.before.before) u.if-not-all_three.false-raw, yes c.is_known.ensures c.if-not-is_known.false-raw)
 
-pub rotate-tests-spec : {M : Type 1} → statement M
-rotate-tests-spec =
+pub rotate_tests_spec : {M : Type 1} → statement M
+rotate_tests_spec =
     tie.close
     (tie.spec
     whole-addresses-requires

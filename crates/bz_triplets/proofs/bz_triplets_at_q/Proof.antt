@@ -12,80 +12,80 @@ use borrow.Author.Rules.{rules}
 use Rattle.bz_triplets.proofs.bz_triplets_at_q.Statement.{statement}
 use Rattle.bz_triplets.proofs.bz_triplets_at_q.Tie as tie
 
-layout : (c : tie.After-grid-type) → c.grid-type.result ≡ grid_type_of c.before.before.args.bz-grid-type
-layout c = c.grid-type.ensures ∙ ap grid_type_of (to_z-of_z c.before.before.ranges.bz-grid-type)
+layout : (c : tie.After-grid_type-t) → c.grid_type-t.result ≡ grid_type_of c.args.bz_grid_type
+layout c = c.grid_type-t.ensures ∙ ap grid_type_of (to_z-of_z c.ranges.bz_grid_type)
 
-same-lengths : (c : tie.After-triplet-tests) →
-    let s = c.before.before.before.before.before.before in
-    let w = c.triplet-tests.new.1.1.1.1.1.1.1.1 in
-    (length w.0 ≡ length s.args.out.now) × (length w.1.0 ≡ length s.args.left.now) × (length w.1.1.0 ≡ length s.args.left-length.now)
+same-lengths : (c : tie.After-triplet_tests) →
+    let s = c in
+    let w = c.triplet_tests.new in
+    (length w.out ≡ length s.args.out.now) × (length w.left ≡ length s.args.left.now) × (length w.left_length ≡ length s.args.left_length.now)
 same-lengths c = (search rules, search rules, search rules)
 
-abbrev input_of : tie.After-grid-type → ℤ → Input
-input_of c q0 = let s = c.before.before in record { q0 = q0; addresses = s.args.addresses.now; map = s.args.map.now; classes = s.args.class-map.now; d = s.args.d; q = s.args.q; lattice = s.args.lattice; t = c.grid-type.result; n = length s.args.out.now; m = length s.args.left.now; l = length s.args.left-length.now }
+abbrev input_of : tie.After-grid_type-t → ℤ → Input
+input_of c q0 = let s = c in record { q0 = q0; addresses = s.args.addresses.now; map = s.args.map.now; classes = s.args.class_map.now; d = s.args.d; q = s.args.q; lattice = s.args.lattice; t = c.grid_type-t.result; n = length s.args.out.now; m = length s.args.left.now; l = length s.args.left_length.now }
 
 -- as the code reads q0 back from its bits
-as-given : (c : tie.After-grid-type) {a : BzTriplets} {x y : List ℤ} {z : List Float} → let s = c.before.before in
-    Answers (input_of c (held s.args.q0)) s.args.bz-grid-type a x y z → Answers (input_of c s.args.q0) s.args.bz-grid-type a x y z
-as-given c {a} {x} {y} {z} h = let s = c.before.before in subst (λ q0. Answers (input_of c q0) s.args.bz-grid-type a x y z) (to_z-of_z s.ranges.q0) h
+as-given : (c : tie.After-grid_type-t) {a : BzTriplets} {x y : List ℤ} {z : List Float} → let s = c.before.before in
+    Answers (input_of c (held s.args.q0)) s.args.bz_grid_type a x y z → Answers (input_of c s.args.q0) s.args.bz_grid_type a x y z
+as-given c {a} {x} {y} {z} h = let s = c in subst (λ q0. Answers (input_of c q0) s.args.bz_grid_type a x y z) (to_z-of_z s.ranges.q0) h
 
-grid-type-requires : tie.Need-grid-type-requires
+grid-type-requires : tie.Need-grid_type-t-requires
 grid-type-requires c κs = search rules
 
-triplet-tests-requires : tie.Need-triplet-tests-requires
+triplet-tests-requires : tie.Need-triplet_tests-requires
 triplet-tests-requires c κs = search rules
 
-enum_told : tie.Need-enum-told
+enum_told : tie.Need-enum_told-1
 enum_told c = search rules
 
-enum-known-r : tie.Need-enum-known-r
+enum-known-r : tie.Need-enum_known-r
 enum-known-r c = search rules
 
 refuse-requires : tie.Need-refuse-requires
 refuse-requires c κs = search rules
 
-same_length : tie.Need-same-length
+same_length : tie.Need-shape_of-out-in-Accepted
 same_length c = search rules
 
-same-length-2 : tie.Need-same-length-2
+same-length-2 : tie.Need-shape_of-left-in-Accepted
 same-length-2 c = search rules
 
-same-length-3 : tie.Need-same-length-3
+same-length-3 : tie.Need-shape_of-left_length-in-Accepted
 same-length-3 c = search rules
 
-returns : tie.Need-returns
+returns : tie.Need-returns-in-Accepted
 returns c =
-    let t = c.before.before.before.before.before.before in
-    let g = t.before.before.before.before in
-    let s = g.before.before in
-    as-given g (call-written (input_of g (held s.args.q0)) s.args.bz-grid-type (layout g) t.triplet-tests.ensures c.enum_told.given.1)
+    let t = c in
+    let g = t.before.before.before.before.before.before.before.before.before in
+    let s = g in
+    as-given g (call-written (input_of g (held s.args.q0)) s.args.bz_grid_type (layout g) t.triplet_tests.ensures c.in-Accepted.is)
 
-same-length-4 : tie.Need-same-length-4
+same-length-4 : tie.Need-shape_of-out-in-Refused
 same-length-4 c = search rules
 
-same-length-5 : tie.Need-same-length-5
+same-length-5 : tie.Need-shape_of-left-in-Refused
 same-length-5 c = search rules
 
-same-length-6 : tie.Need-same-length-6
+same-length-6 : tie.Need-shape_of-left_length-in-Refused
 same-length-6 c = search rules
 
-returns-2 : tie.Need-returns-2
+returns-2 : tie.Need-returns-in-Refused
 returns-2 c =
-    let r = c.before.before.before.before in
-    let k = r.before.before.before.before.before in
-    let t = k.before.before.before.before.before.before in
+    let r = c in
+    let k = r in
+    let t = k.before.before.before.before.before.before.before.before.before.before.before.before.before in
     let g = t.before.before.before.before in
-    let s = g.before.before in
+    let s = g in
     let f = r.refuse in
     let n = same-lengths t in
     as-given g
-    (call-refused (input_of g (held s.args.q0)) s.args.bz-grid-type (layout g) t.triplet-tests.ensures.0 k.r.given.1 f.ensures.0
+    (call-refused (input_of g (held s.args.q0)) s.args.bz_grid_type (layout g) t.triplet_tests.ensures.0 k.in-Refused.is f.ensures.0
     (f.ensures.1.0 ∙ ap (λ n. replicate n (negsuc 0)) n.0)
     (f.ensures.1.1.0 ∙ ap (λ n. replicate n (negsuc 0)) n.1)
     (f.ensures.1.1.1 ∙ ap (λ n. replicate n (of_int binary64 (negsuc 0))) n.2))
 
-pub bz-triplets-at-q-spec : {M : Type 1} → statement M
-bz-triplets-at-q-spec =
+pub bz_triplets_at_q_spec : {M : Type 1} → statement M
+bz_triplets_at_q_spec =
     tie.close
     (tie.spec
     grid-type-requires

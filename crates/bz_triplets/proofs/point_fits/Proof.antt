@@ -13,41 +13,41 @@ use borrow.Author.Rules.{rules}
 use Rattle.bz_triplets.proofs.point_fits.Statement.{statement}
 use Rattle.bz_triplets.proofs.point_fits.Tie as tie
 
-is-dense-requires : tie.Need-is-dense-requires
+is-dense-requires : tie.Need-is_dense-requires
 is-dense-requires c κs = search rules
 
-returns : tie.Need-returns
+returns : tie.Need-returns-then-is_dense
 returns c = search rules
 
-grid-of-requires : tie.Need-grid-of-requires
+grid-of-requires : tie.Need-grid_of-requires
 grid-of-requires c κs = search rules
 
 points-requires : tie.Need-points-requires
-points-requires c κs = let s = c.before.before.before in rw c.grid-of.ensures (grid-fits s.args.d s.requires)
+points-requires c κs = let s = c in rw c.grid_of.ensures (grid-fits s.args.d s.requires)
 
 -- N
-points-are : (c : tie.After-points) → c.points.result ≡ size (sides_of c.before.before.before.before.args.d)
-points-are c = c.points.ensures ∙ ap size c.before.grid-of.ensures
+points-are : (c : tie.After-points) → c.points.result ≡ size (sides_of c.args.d)
+points-are c = c.points.ensures ∙ ap size c.grid_of.ensures
 
 points-few : (c : tie.After-points) → c.points.result ≤ 65536
-points-few c = let s = c.before.before.before.before in rw (points-are c) (few-points s.args.d s.requires)
+points-few c = let s = c in rw (points-are c) (few-points s.args.d s.requires)
 
-cast-point-fits : tie.Need-overflow-cast-point-fits
+cast-point-fits : tie.Need-overflow_cast-points
 cast-point-fits c = let n = points-few c in search rules
 
-point-fits-requires : tie.Need-point-fits-requires
+point-fits-requires : tie.Need-point_fits-requires
 point-fits-requires c κs = search rules
 
-returns-2 : tie.Need-returns-2
+returns-2 : tie.Need-returns
 returns-2 c =
     let p = c.before in
-    let s = p.before.before.before.before in
+    let s = p in
     let n = points-few p in
-    let e : is_dense s.args.t ≡ false = sym p.before.before.before.is-dense.ensures ∙ p.before.before.if1.false in
-    c.point-fits.ensures ∙ ap₂ point_fits (to_z-of_z s.ranges.q0) (to_z_pos w64 (search rules) ∙ ap pos (points-are p)) ∙ ap (λ x. x || point_fits s.args.q0 (pos (size (sides_of s.args.d)))) (sym e)
+    let e : is_dense s.args.t ≡ false = sym p.is_dense.ensures ∙ p.if-is_dense.false in
+    c.point_fits.ensures ∙ ap₂ point_fits (to_z-of_z s.ranges.q0) (to_z_pos w64 (search rules) ∙ ap pos (points-are p)) ∙ ap (λ x. x || point_fits s.args.q0 (pos (size (sides_of s.args.d)))) (sym e)
 
-pub point-fits-spec : {M : Type 1} → statement M
-point-fits-spec =
+pub point_fits_spec : {M : Type 1} → statement M
+point_fits_spec =
     tie.close
     (tie.spec
     is-dense-requires

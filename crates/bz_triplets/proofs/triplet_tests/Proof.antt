@@ -26,7 +26,7 @@ use Rattle.bz_triplets.proofs.triplet_tests.Statement.{statement}
 use Rattle.bz_triplets.proofs.triplet_tests.Tie as tie
 
 abbrev input_of : tie.Start → ℤ → Input
-input_of s q0 = record { q0 = q0; addresses = s.args.addresses.now; map = s.args.map.now; classes = s.args.class-map.now; d = s.args.d; q = s.args.q; lattice = s.args.lattice; t = s.args.t; n = length s.args.out.now; m = length s.args.left.now; l = length s.args.left-length.now }
+input_of s q0 = record { q0 = q0; addresses = s.args.addresses.now; map = s.args.map.now; classes = s.args.class_map.now; d = s.args.d; q = s.args.q; lattice = s.args.lattice; t = s.args.t; n = length s.args.out.now; m = length s.args.left.now; l = length s.args.left_length.now }
 
 -- as the code reads q0 back from its bits
 abbrev here : tie.Start → Input
@@ -35,122 +35,122 @@ here s = input_of s (held s.args.q0)
 as-given : (s : tie.Start) {r : Tested} {x y : List ℤ} {z : List Float} → Meets (here s) r x y z → Meets (input_of s s.args.q0) r x y z
 as-given s {r} {x} {y} {z} m = subst (λ q0. Meets (input_of s q0) r x y z) (to_z-of_z s.ranges.q0) m
 
-accepted : (c : tie.After-enum-told) → inputs (here c.before.before.before.before) ≡ Accepted
-accepted c = sym c.before.before.input-tests.ensures ∙ c.enum_told.given.1
+accepted : (c : tie.In_default) → inputs (here c.before.before.before) ≡ Accepted
+accepted c = sym c.input_tests.ensures ∙ c.in_default.is
 
 -- the limits, the address of q0, the grid and the walk
-input : (c : tie.After-enum-told) → InputAccepted (here c.before.before.before.before)
-input c = input-accepted (here c.before.before.before.before) (accepted c)
+input : (c : tie.In_default) → InputAccepted (here c.before.before.before)
+input c = input-accepted (here c.before.before.before) (accepted c)
 
-found : (c : tie.Else1) → let a = c.before.before in let s = a.before.before.before.before.before in got (vector_of a.address-of.result.numbers) ≡ address_of s.args.addresses.now (held s.args.q0)
-found c = let a = c.before.before in inside-true (vector_of a.address-of.result.numbers) (not-false a.address-of.result.inside c.if1.false) a.address-of.ensures.0
+found : (c : tie.Else-not-b) → let a = c.before.before in let s = a in got (vector_of a.address_of-b.result.numbers) ≡ address_of s.args.addresses.now (held s.args.q0)
+found c = let a = c in inside-true (vector_of a.address_of-b.result.numbers) (not-false a.address_of-b.result.inside c.if-not-b.false) a.address_of-b.ensures.0
 
-whole : (c : tie.Else1) → T (non_neg (held c.before.before.before.before.before.before.before.args.q0))
-whole c = let s = c.before.before.before.before.before.before.before in asked-for s.args.addresses.now (held s.args.q0) (found c)
+whole : (c : tie.Else-not-b) → T (non_neg (held c.args.q0))
+whole c = let s = c in asked-for s.args.addresses.now (held s.args.q0) (found c)
 
-fits : (c : tie.After-grid-of) → GridFits (sides c.grid-of.result)
-fits c = let e = c.before.before.before.before.before in rw c.grid-of.ensures (grid-fits e.before.before.before.before.args.d (input e).grid)
+fits : (c : tie.After-grid_of-g) → GridFits (sides c.grid_of-g.result)
+fits c = let e = c.before.before.before.before.before in rw c.grid_of-g.ensures (grid-fits e.args.d (input e).grid)
 
-walk : (c : tie.After-measure-of) →
-    let s = c.before.before.before.before.before.before.before.before.before.before.before in
-    walk_by c.measure-of.result s.args.addresses.now ≡ walk_of s.args.addresses.now s.args.d s.args.q s.args.lattice
+walk : (c : tie.After-measure_of) →
+    let s = c.before.before.before.before.before.before.before.before.before.before in
+    walk_by c.measure_of.result s.args.addresses.now ≡ walk_of s.args.addresses.now s.args.d s.args.q s.args.lattice
 walk c =
-    let s = c.before.before.before.before.before.before.before.before.before.before.before in
-    measured s.args.addresses.now s.args.d s.args.q s.args.lattice c.measure-of.result c.measure-of.ensures.0 c.measure-of.ensures.1
+    let s = c in
+    measured s.args.addresses.now s.args.d s.args.q s.args.lattice c.measure_of.result c.measure_of.ensures.0 c.measure_of.ensures.1
 
-input-tests-requires : tie.Need-input-tests-requires
+input-tests-requires : tie.Need-input_tests-requires
 input-tests-requires c κs = search rules
 
-enum-known-r : tie.Need-enum-known-r
+enum-known-r : tie.Need-enum_known-r
 enum-known-r c = search rules
 
-returns : tie.Need-returns
+returns : tie.Need-returns-in-Refused
 returns c =
-    let x = c.before.before.before in
-    as-given x.before.before (tests-refused (here x.before.before) (sym x.input-tests.ensures ∙ c.before.r.given.1))
+    let x = c in
+    as-given x.before.before.before (tests-refused (here x.before.before.before) (sym x.input_tests.ensures ∙ c.in-Refused.is))
 
-enum_told : tie.Need-enum-told
+enum_told : tie.Need-enum_told-1
 enum_told c = search rules
 
-address-of-requires : tie.Need-address-of-requires
+address-of-requires : tie.Need-address_of-b-requires
 address-of-requires c κs = search rules
 
-returns-2 : tie.Need-returns-2
+returns-2 : tie.Need-returns-then-not-b
 returns-2 c =
-    let a = c.before.before in
-    let s = a.before.before.before.before.before in
-    as-given s (tests-no-address (here s) (accepted a.before) (inside-false (vector_of a.address-of.result.numbers) (not-true a.address-of.result.inside c.if1.true) a.address-of.ensures.0))
+    let a = c in
+    let s = a.before.before.before.before.before.before in
+    as-given s (tests-no-address (here s) (accepted a.before.before.before) (inside-false (vector_of a.address_of-b.result.numbers) (not-true a.address_of-b.result.inside c.if-not-b.true) a.address_of-b.ensures.0))
 
-grid-of-requires : tie.Need-grid-of-requires
+grid-of-requires : tie.Need-grid_of-g-requires
 grid-of-requires c κs = (input c.before.before.before.before).grid
 
-point-of-requires : tie.Need-point-of-requires
+point-of-requires : tie.Need-point_of-requires
 point-of-requires c κs = (fits c, whole c.before.before)
 
-measure-of-requires : tie.Need-measure-of-requires
+measure-of-requires : tie.Need-measure_of-requires
 measure-of-requires c κs = (input c.before.before.before.before.before.before).grid
 
-fill-triplets-requires : tie.Need-fill-triplets-requires
+fill-triplets-requires : tie.Need-fill_triplets-requires
 fill-triplets-requires c κs =
-    let p = c.before.before.before.before in
-    let g = p.before in
+    let p = c in
+    let g = p.before.before.before.before.before in
     let x = g.before.before in
-    let a = x.before.before in
-    let s = a.before.before.before.before.before in
-    let i = input a.before in
-    let few = subst (λ v. size v ≤ 65536) (sym g.grid-of.ensures) (few-points s.args.d i.grid) in
-    let below = subst (λ n. n < 9223372036854775808) (sym p.point-of.ensures) (point-below (sides g.grid-of.result) (fits g) s.args.t (whole_below s.ranges.q0 (whole x)) (vector_of a.address-of.result.numbers)) in
-    (fits g, (few, (a.address-of.ensures.1, (below, i.room))))
+    let a = x in
+    let s = a in
+    let i = input a.before.before.before in
+    let few = subst (λ v. size v ≤ 65536) (sym g.grid_of-g.ensures) (few-points s.args.d i.grid) in
+    let below = subst (λ n. n < 9223372036854775808) (sym p.point_of.ensures) (point-below (sides g.grid_of-g.result) (fits g) s.args.t (whole_below s.ranges.q0 (whole x)) (vector_of a.address_of-b.result.numbers)) in
+    (fits g, (few, (a.address_of-b.ensures.1, (below, i.room))))
 
-same_length : tie.Need-same-length
+same_length : tie.Need-shape_of-out-then-fill_triplets
 same_length c = search rules
 
-same-length-2 : tie.Need-same-length-2
+same-length-2 : tie.Need-shape_of-left-then-fill_triplets
 same-length-2 c = search rules
 
-same-length-3 : tie.Need-same-length-3
+same-length-3 : tie.Need-shape_of-left_length-then-fill_triplets
 same-length-3 c = search rules
 
-returns-3 : tie.Need-returns-3
+returns-3 : tie.Need-returns-then-fill_triplets
 returns-3 c =
-    let f = c.before.before.before.before.before in
-    let m = f.before.before.before.before in
-    let g = m.before.before in
-    let x = g.before.before in
-    let a = x.before.before in
-    let s = a.before.before.before.before.before in
-    let w = f.fill-triplets in
-    let o = w.new.1.1.1.1.1.1.1.1 in
+    let f = c in
+    let m = f.before.before.before.before.before.before.before.before.before in
+    let g = m in
+    let x = g.before.before.before.before in
+    let a = x in
+    let s = a.before.before.before.before.before.before in
+    let w = f.fill_triplets in
+    let o = w.new in
     as-given s
-    (tests-written (here s) (accepted a.before) (found x) g.grid-of.ensures (walk m) m.before.point-of.ensures
-    (inside-true o.0 c.if2.true w.ensures.0)
-    (inside-true o.1.0 c.if2.true w.ensures.1.0)
-    (inside-true o.1.1.0 c.if2.true w.ensures.1.1))
+    (tests-written (here s) (accepted a.before.before.before) (found x) g.grid_of-g.ensures (walk m) m.point_of.ensures
+    (inside-true o.out c.if-fill_triplets.true w.ensures.0)
+    (inside-true o.left c.if-fill_triplets.true w.ensures.1.0)
+    (inside-true o.left_length c.if-fill_triplets.true w.ensures.1.1))
 
-same-length-4 : tie.Need-same-length-4
+same-length-4 : tie.Need-shape_of-out
 same-length-4 c = search rules
 
-same-length-5 : tie.Need-same-length-5
+same-length-5 : tie.Need-shape_of-left
 same-length-5 c = search rules
 
-same-length-6 : tie.Need-same-length-6
+same-length-6 : tie.Need-shape_of-left_length
 same-length-6 c = search rules
 
-returns-4 : tie.Need-returns-4
+returns-4 : tie.Need-returns
 returns-4 c =
-    let f = c.before.before.before.before.before in
-    let m = f.before.before.before.before in
-    let g = m.before.before in
-    let x = g.before.before in
-    let a = x.before.before in
-    let s = a.before.before.before.before.before in
-    let w = f.fill-triplets in
+    let f = c in
+    let m = f.before.before.before.before.before.before.before.before.before in
+    let g = m in
+    let x = g.before.before.before.before in
+    let a = x in
+    let s = a.before.before.before.before.before.before in
+    let w = f.fill_triplets in
     as-given s
-    (tests-outside (here s) (accepted a.before) (found x) g.grid-of.ensures (walk m) m.before.point-of.ensures
-    (inside-false w.new.1.1.1.1.1.1.1.1.0 c.if2.false w.ensures.0))
+    (tests-outside (here s) (accepted a.before.before.before) (found x) g.grid_of-g.ensures (walk m) m.point_of.ensures
+    (inside-false w.new.out c.if-fill_triplets.false w.ensures.0))
 
-pub triplet-tests-spec : {M : Type 1} → statement M
-triplet-tests-spec =
+pub triplet_tests_spec : {M : Type 1} → statement M
+triplet_tests_spec =
     tie.close
     (tie.spec
     input-tests-requires

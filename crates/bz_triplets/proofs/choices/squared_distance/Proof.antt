@@ -13,38 +13,38 @@ use borrow.Author.Rules.{rules}
 use Rattle.bz_triplets.proofs.choices.squared_distance.Statement.{statement}
 use Rattle.bz_triplets.proofs.choices.squared_distance.Tie as tie
 
-array-copy-out-t7 : tie.Need-array-copy-out-t7
+array-copy-out-t7 : tie.Need-bounds-g-0
 array-copy-out-t7 c = search rules
 
-int-to-float-t8 : tie.Need-int-to-float-t8
-int-to-float-t8 c = whole_float _ (held-size c.before.before.requires 0 tt) (lit≤ tt)
+int-to-float-t8 : tie.Need-int_to_float-v
+int-to-float-t8 c = whole_float _ (held-size c.requires 0 tt) (lit≤ tt)
 
-array-copy-out-t11 : tie.Need-array-copy-out-t11
+array-copy-out-t11 : tie.Need-bounds-g-1
 array-copy-out-t11 c = search rules
 
-int-to-float-t12 : tie.Need-int-to-float-t12
-int-to-float-t12 c = whole_float _ (held-size c.before.before.before.before.requires 1 tt) (lit≤ tt)
+int-to-float-t12 : tie.Need-int_to_float-v-2
+int-to-float-t12 c = whole_float _ (held-size c.requires 1 tt) (lit≤ tt)
 
-array-copy-out-t15 : tie.Need-array-copy-out-t15
+array-copy-out-t15 : tie.Need-bounds-g-2
 array-copy-out-t15 c = search rules
 
-int-to-float-t16 : tie.Need-int-to-float-t16
-int-to-float-t16 c = whole_float _ (held-size c.before.before.before.before.before.before.requires 2 tt) (lit≤ tt)
+int-to-float-t16 : tie.Need-int_to_float-v-3
+int-to-float-t16 c = whole_float _ (held-size c.requires 2 tt) (lit≤ tt)
 
-length-squared-requires : tie.Need-length-squared-requires
+length-squared-requires : tie.Need-length_squared-requires
 length-squared-requires c κs = search rules
 
 returns : tie.Need-returns
 unfolding squared_distance
 returns c =
-    let s = c.before.before.before.before.before.before.before in
+    let s = c in
     let x = entry-held s.requires 0 tt in
     let y = entry-held s.requires 1 tt in
     let z = entry-held s.requires 2 tt in
-    c.length-squared.ensures ∙ (λ i. length_squared (apply_over floats (float_nine s.args.lqd) (float_vector (of_int binary64 (x i) ∷ of_int binary64 (y i) ∷ of_int binary64 (z i) ∷ []))))
+    c.length_squared.ensures ∙ (λ i. length_squared (apply_over floats (float_nine s.args.lqd) (float_vector (of_int binary64 (x i) ∷ of_int binary64 (y i) ∷ of_int binary64 (z i) ∷ []))))
 
-pub squared-distance-spec : {M : Type 1} → statement M
-squared-distance-spec =
+pub squared_distance_spec : {M : Type 1} → statement M
+squared_distance_spec =
     tie.close
     (tie.spec
     array-copy-out-t7

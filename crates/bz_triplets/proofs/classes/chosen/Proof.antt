@@ -16,52 +16,52 @@ use Rattle.bz_triplets.proofs.Walking.{blank-fits}
 abbrev walk : tie.Start → List ℕ → List ℕ → List ℕ → Read State
 walk c x y z = nested (try_at (walk_by c.args.m c.args.addresses.now)) (got start) (record { x = x; y = y; z = z })
 
-places-at-requires : tie.Need-places-at-requires
+places-at-requires : tie.Need-places_at-x-requires
 places-at-requires c κs = search rules
 
-places-at-requires-2 : tie.Need-places-at-requires-2
+places-at-requires-2 : tie.Need-places_at-y-requires
 places-at-requires-2 c κs = search rules
 
-places-at-requires-3 : tie.Need-places-at-requires-3
+places-at-requires-3 : tie.Need-places_at-z-requires
 places-at-requires-3 c κs = search rules
 
-all-three-requires : tie.Need-all-three-requires
+all-three-requires : tie.Need-all_three-requires
 all-three-requires c κs = search rules
 
 blank-requires : tie.Need-blank-requires
 blank-requires c κs = search rules
 
-returns : tie.Need-returns
+returns : tie.Need-returns-then-not-all_three
 unfolding chosen
 returns c =
-    let a = c.before.before in
-    let z = a.before in
-    let y = z.before in
-    let x = y.before in
-    let s = x.before in
-    let i = x.places-at.result in
-    let j = y.places-at2.result in
-    let k = z.places-at3.result in
-    (ap triplet_view c.blank.ensures ∙ three-outside (walk s) i.inside j.inside k.inside (places_in i) (places_in j) (places_in k) x.places-at.ensures.0 y.places-at2.ensures.0 z.places-at3.ensures.0 (ap not (sym a.All-three.ensures) ∙ c.before.if1.true), blank-fits c.blank.ensures)
+    let a = c in
+    let z = a in
+    let y = z in
+    let x = y in
+    let s = x.before.before.before.before.before.before in
+    let i = x.places_at-x.result in
+    let j = y.places_at-y.result in
+    let k = z.places_at-z.result in
+    (ap triplet_view c.blank.ensures ∙ three-outside (walk s) i.inside j.inside k.inside (places_in i) (places_in j) (places_in k) x.places_at-x.ensures.0 y.places_at-y.ensures.0 z.places_at-z.ensures.0 (ap not (sym a.all_three.ensures) ∙ c.if-not-all_three.true-raw), blank-fits c.blank.ensures)
 
-search-choices-requires : tie.Need-search-choices-requires
+search-choices-requires : tie.Need-search_choices-requires
 search-choices-requires c κs = search rules
 
-returns-2 : tie.Need-returns-2
+returns-2 : tie.Need-returns
 unfolding chosen
 returns-2 c =
-    let a = c.before.before in
-    let z = a.before in
-    let y = z.before in
-    let x = y.before in
-    let s = x.before in
-    let i = x.places-at.result in
-    let j = y.places-at2.result in
-    let k = z.places-at3.result in
-    (c.search-choices.ensures.0 ∙ three-read (walk s) i.inside j.inside k.inside (places_in i) (places_in j) (places_in k) x.places-at.ensures.0 y.places-at2.ensures.0 z.places-at3.ensures.0 (ap not (sym a.All-three.ensures) ∙ c.before.if1.false), c.search-choices.ensures.1)
+    let a = c in
+    let z = a in
+    let y = z in
+    let x = y in
+    let s = x.before.before.before.before.before.before in
+    let i = x.places_at-x.result in
+    let j = y.places_at-y.result in
+    let k = z.places_at-z.result in
+    (c.search_choices.ensures.0 ∙ three-read (walk s) i.inside j.inside k.inside (places_in i) (places_in j) (places_in k) x.places_at-x.ensures.0 y.places_at-y.ensures.0 z.places_at-z.ensures.0 (ap not (sym a.all_three.ensures) ∙ c.if-not-all_three.false-raw), c.search_choices.ensures.1)
 
-pub chosen-spec : {M : Type 1} → statement M
-chosen-spec =
+pub chosen_spec : {M : Type 1} → statement M
+chosen_spec =
     tie.close
     (tie.spec
     places-at-requires

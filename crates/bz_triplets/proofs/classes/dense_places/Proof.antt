@@ -9,10 +9,10 @@ use borrow.Author.Rules.{rules}
 use Rattle.bz_triplets.proofs.classes.dense_places.Statement.{statement}
 use Rattle.bz_triplets.proofs.classes.dense_places.Tie as tie
 
-bounds-at-requires : tie.Need-bounds-at-requires
+bounds-at-requires : tie.Need-bounds_at-b-requires
 bounds-at-requires c κs = search rules
 
-add-t5 : tie.Need-overflow-add-t5
+add-t5 : tie.Need-overflow_add-result
 add-t5 c = search rules
 
 less-requires : tie.Need-less-requires
@@ -20,15 +20,15 @@ less-requires c κs = search rules
 
 returns : tie.Need-returns
 returns c =
-    let d = c.before.before in
-    let s = d.before in
-    let b = d.bounds-at.result in
+    let d = c in
+    let s = d.before.before.before in
+    let b = d.bounds_at-b.result in
     let p = s.args.p in
     let m = s.args.map.now in (
       ap (λ k. inside b.inside (listed (place_in b.from (b.from + 1)) k)) c.less.ensures
-          ∙ made (λ s e. listed (place_in s (s + 1)) (e - s)) b m p refl d.bounds-at.ensures.0,
+          ∙ made (λ s e. listed (place_in s (s + 1)) (e - s)) b m p refl d.bounds_at-b.ensures.0,
       record { first = omega arith; others = omega (arith, c.less.ensures) },
     )
 
-pub dense-places-spec : {M : Type 1} → statement M
-dense-places-spec = tie.close (tie.spec bounds-at-requires add-t5 less-requires returns)
+pub dense_places_spec : {M : Type 1} → statement M
+dense_places_spec = tie.close (tie.spec bounds-at-requires add-t5 less-requires returns)

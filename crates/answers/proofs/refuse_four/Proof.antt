@@ -7,29 +7,29 @@ use Rattle.answers.proofs.refuse_four.Tie as tie
 fill-requires : tie.Need-fill-requires
 fill-requires c κs = search rules
 
-refuse-three-requires : tie.Need-refuse-three-requires
+refuse-three-requires : tie.Need-refuse_three-requires
 refuse-three-requires c κs = search rules
 
-same_length : tie.Need-same-length
+same_length : tie.Need-shape_of-a
 same_length c = search rules
 
-same-length-2 : tie.Need-same-length-2
+same-length-2 : tie.Need-shape_of-b
 same-length-2 c = search rules
 
-same-length-3 : tie.Need-same-length-3
+same-length-3 : tie.Need-shape_of-c
 same-length-3 c = search rules
 
-same-length-4 : tie.Need-same-length-4
+same-length-4 : tie.Need-shape_of-d
 same-length-4 c = search rules
 
 returns : tie.Need-returns
 returns c =
-    let t = c.before.before.before.refuse-three in
+    let t = c.refuse_three in
     let e = t.ensures in
-    (held-is t.result t.type-inv ∙ e.0, (c.before.before.before.before.before.before.before.before.fill.ensures, (e.1.0, (e.1.1.0, e.1.1.1))))
+    (held-is t.result t.type_inv ∙ e.0, (c.fill.ensures, (e.1.0, (e.1.1.0, e.1.1.1))))
 
-pub refuse-four-spec : {M : Type 1} → statement M
-refuse-four-spec =
+pub refuse_four_spec : {M : Type 1} → statement M
+refuse_four_spec =
     tie.close
     (tie.spec
     fill-requires

@@ -16,21 +16,21 @@ fill-requires-3 c κs = search rules
 answer-requires : tie.Need-answer-requires
 answer-requires c κs = search rules
 
-same_length : tie.Need-same-length
+same_length : tie.Need-shape_of-a
 same_length c = search rules
 
-same-length-2 : tie.Need-same-length-2
+same-length-2 : tie.Need-shape_of-b
 same-length-2 c = search rules
 
-same-length-3 : tie.Need-same-length-3
+same-length-3 : tie.Need-shape_of-c
 same-length-3 c = search rules
 
 returns : tie.Need-returns
 returns c =
-    (held-is c.answer.result c.answer.type-inv ∙ c.answer.ensures, (c.before.before.before.before.before.before.before.before.fill.ensures, (c.before.before.before.before.before.fill2.ensures, c.before.before.fill3.ensures)))
+    (held-is c.answer.result c.answer.type_inv ∙ c.answer.ensures, (c.fill.ensures, (c.fill-2.ensures, c.fill-3.ensures)))
 
-pub refuse-three-spec : {M : Type 1} → statement M
-refuse-three-spec =
+pub refuse_three_spec : {M : Type 1} → statement M
+refuse_three_spec =
     tie.close
     (tie.spec
     fill-requires

@@ -5,14 +5,14 @@ use borrow.Author.Rules.{rules}
 use Rattle.answers.proofs.diagonal.diagonal_lengths.Statement.{statement}
 use Rattle.answers.proofs.diagonal.diagonal_lengths.Tie as tie
 
-result-lengths-requires : tie.Need-result-lengths-requires
+result-lengths-requires : tie.Need-result_lengths-requires
 result-lengths-requires c κs = search rules
 
-all-three-requires : tie.Need-all-three-requires
+all-three-requires : tie.Need-all_three-requires
 all-three-requires c κs = search rules
 
 returns : tie.Need-returns
-returns c = let a = c.before.before.args in c.All-three.ensures ∙ ap (λ t. eqb a.a 9 && (t && eqb a.told 1)) c.before.result-lengths.ensures
+returns c = let a = c.args in c.all_three.ensures ∙ ap (λ t. eqb a.a 9 && (t && eqb a.told 1)) c.result_lengths.ensures
 
-pub diagonal-lengths-spec : {M : Type 1} → statement M
-diagonal-lengths-spec = tie.close (tie.spec result-lengths-requires all-three-requires returns)
+pub diagonal_lengths_spec : {M : Type 1} → statement M
+diagonal_lengths_spec = tie.close (tie.spec result-lengths-requires all-three-requires returns)

@@ -9,28 +9,28 @@ use borrow.Author.Rules.{rules}
 use Rattle.answers.proofs.images.tell_lengths.Statement.{statement}
 use Rattle.answers.proofs.images.tell_lengths.Tie as tie
 
-enum-known-answer : tie.Need-enum-known-answer
+enum-known-answer : tie.Need-enum_known-answer
 enum-known-answer c = search rules
 
-cast-told : tie.Need-overflow-cast-told
-cast-told c = let k = c.before.before.answer.given in record { sfits = (c.before.before.before.before.requires.1.held k.0.0 k.1).addresses }
+cast-told : tie.Need-overflow_cast-told
+cast-told c = let k = c.answer-1.given in record { sfits = (c.requires.1.held k.0.0 k.1).addresses }
 
-slice-set-from-told : tie.Need-slice-set-from-told
+slice-set-from-told : tie.Need-bounds-told-0
 slice-set-from-told c = search rules
 
-cast-told-2 : tie.Need-overflow-cast-told-2
-cast-told-2 c = let k = c.before.before.before.answer.given in record { sfits = (c.before.before.before.before.before.requires.1.held k.0.0 k.1).map }
+cast-told-2 : tie.Need-overflow_cast-told-in-Built
+cast-told-2 c = let k = c.answer-1.given in record { sfits = (c.requires.1.held k.0.0 k.1).map }
 
-slice-set-from-told-2 : tie.Need-slice-set-from-told-2
+slice-set-from-told-2 : tie.Need-bounds-told-1
 slice-set-from-told-2 c = search rules
 
-cast-told-3 : tie.Need-overflow-cast-told-3
-cast-told-3 c = let k = c.before.before.before.before.answer.given in record { sfits = (c.before.before.before.before.before.before.requires.1.held k.0.0 k.1).grg }
+cast-told-3 : tie.Need-overflow_cast-told-in-Built-2
+cast-told-3 c = let k = c.answer-1.given in record { sfits = (c.requires.1.held k.0.0 k.1).grg }
 
-slice-set-from-told-3 : tie.Need-slice-set-from-told-3
+slice-set-from-told-3 : tie.Need-bounds-told-2
 slice-set-from-told-3 c = search rules
 
-enum-known-answer-2 : tie.Need-enum-known-answer-2
+enum-known-answer-2 : tie.Need-enum_known-answer-in-Refused-1
 enum-known-answer-2 c = search rules
 
 fill-requires : tie.Need-fill-requires
@@ -39,26 +39,24 @@ fill-requires c κs = search rules
 answer-requires : tie.Need-answer-requires
 answer-requires c κs = search rules
 
-same_length : tie.Need-same-length
+same_length : tie.Need-shape_of-told-in-Built
 same_length c = search rules
 
-returns : tie.Need-returns
+returns : tie.Need-returns-in-Built
 returns c =
-    let s = c.before.before.before.before.before.before in
-    let k = c.before.before.before.before.answer.given in
-    (sym (ap images_number k.1), stored-three s.args.told.now s.requires.0 _ _ _ ∙ held-lengths (s.requires.1.held k.0.0 k.1) ∙ sym (ap images_told k.1))
+    let s = c in
+    (sym (ap images_number c.in-Built.is), stored-three s.args.told.now s.requires.0 _ _ _ ∙ held-lengths (s.requires.1.held c.in-Built.l c.in-Built.is) ∙ sym (ap images_told c.in-Built.is))
 
-same-length-2 : tie.Need-same-length-2
+same-length-2 : tie.Need-shape_of-told-in-Refused
 same-length-2 c = search rules
 
-returns-2 : tie.Need-returns-2
+returns-2 : tie.Need-returns-in-Refused
 returns-2 c =
-    let s = c.before.before.before.before.before.before.before in
-    let e = c.before.before.before.before.before.answer2.given.1 in
-    (held-is c.answer3.result c.answer3.type-inv ∙ c.answer3.ensures ∙ sym (ap images_number e), c.before.before.fill.ensures ∙ ap (λ n. replicate n (negsuc 0)) s.requires.0 ∙ sym (ap images_told e))
+    let s = c in
+    (held-is c.answer.result c.answer.type_inv ∙ c.answer.ensures ∙ sym (ap images_number c.in-Refused.is), c.fill.ensures ∙ ap (λ n. replicate n (negsuc 0)) s.requires.0 ∙ sym (ap images_told c.in-Refused.is))
 
-pub tell-lengths-spec : {M : Type 1} → statement M
-tell-lengths-spec =
+pub tell_lengths_spec : {M : Type 1} → statement M
+tell_lengths_spec =
     tie.close
     (tie.spec
     enum-known-answer

@@ -5,16 +5,16 @@ use borrow.Author.Rules.{rules}
 use Rattle.answers.proofs.marks.mark_lengths.Statement.{statement}
 use Rattle.answers.proofs.marks.mark_lengths.Tie as tie
 
-all-three-requires : tie.Need-all-three-requires
+all-three-requires : tie.Need-all_three-requires
 all-three-requires c κs = search rules
 
-all-three-requires-2 : tie.Need-all-three-requires-2
+all-three-requires-2 : tie.Need-all_three-requires-2
 all-three-requires-2 c κs = search rules
 
 returns : tie.Need-returns
 returns c =
-    let a = c.before.before.args in
-    c.all-three2.ensures ∙ ap (λ t. t && (eqb a.lowest 6 && eqb a.highest 6)) c.before.All-three.ensures
+    let a = c.args in
+    c.all_three-2.ensures ∙ ap (λ t. t && (eqb a.lowest 6 && eqb a.highest 6)) c.all_three.ensures
 
-pub mark-lengths-spec : {M : Type 1} → statement M
-mark-lengths-spec = tie.close (tie.spec all-three-requires all-three-requires-2 returns)
+pub mark_lengths_spec : {M : Type 1} → statement M
+mark_lengths_spec = tie.close (tie.spec all-three-requires all-three-requires-2 returns)

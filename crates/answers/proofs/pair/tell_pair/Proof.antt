@@ -9,28 +9,28 @@ use borrow.Author.Rules.{rules}
 use Rattle.answers.proofs.pair.tell_pair.Statement.{statement}
 use Rattle.answers.proofs.pair.tell_pair.Tie as tie
 
-enum-known-answer : tie.Need-enum-known-answer
+enum-known-answer : tie.Need-enum_known-answer
 enum-known-answer c = search rules
 
-cast-told : tie.Need-overflow-cast-told
-cast-told c = record { sfits = (subst PairFits c.before.answer.given.1 c.before.before.before.requires.1).0 }
+cast-told : tie.Need-overflow_cast-told
+cast-told c = record { sfits = (subst PairFits c.in-Found.is c.requires.1).0 }
 
-slice-set-from-told : tie.Need-slice-set-from-told
+slice-set-from-told : tie.Need-bounds-told-0
 slice-set-from-told c = search rules
 
-cast-told-2 : tie.Need-overflow-cast-told-2
-cast-told-2 c = record { sfits = (subst PairFits c.before.answer.given.1 c.before.before.before.requires.1).1 }
+cast-told-2 : tie.Need-overflow_cast-told-in-Found
+cast-told-2 c = record { sfits = (subst PairFits c.in-Found.is c.requires.1).1 }
 
-slice-set-from-told-2 : tie.Need-slice-set-from-told-2
+slice-set-from-told-2 : tie.Need-bounds-told-1
 slice-set-from-told-2 c = search rules
 
-cast-told-3 : tie.Need-overflow-cast-told-3
-cast-told-3 c = record { sfits = (subst PairFits c.before.answer.given.1 c.before.before.before.requires.1).2 }
+cast-told-3 : tie.Need-overflow_cast-told-in-Found-2
+cast-told-3 c = record { sfits = (subst PairFits c.in-Found.is c.requires.1).2 }
 
-slice-set-from-told-3 : tie.Need-slice-set-from-told-3
+slice-set-from-told-3 : tie.Need-bounds-told-2
 slice-set-from-told-3 c = search rules
 
-enum-known-answer-2 : tie.Need-enum-known-answer-2
+enum-known-answer-2 : tie.Need-enum_known-answer-in-Refused-1
 enum-known-answer-2 c = search rules
 
 fill-requires : tie.Need-fill-requires
@@ -39,26 +39,24 @@ fill-requires c κs = search rules
 answer-requires : tie.Need-answer-requires
 answer-requires c κs = search rules
 
-same_length : tie.Need-same-length
+same_length : tie.Need-shape_of-told-in-Found
 same_length c = search rules
 
-returns : tie.Need-returns
+returns : tie.Need-returns-in-Found
 returns c =
-    let s = c.before.before.before in
-    let e = c.before.answer.given.1 in
-    (sym (ap pair_number e), stored-three s.args.told.now s.requires.0 _ _ _ ∙ held-pair (subst PairFits e s.requires.1) ∙ sym (ap pair_told e))
+    let s = c in
+    (sym (ap pair_number c.in-Found.is), stored-three s.args.told.now s.requires.0 _ _ _ ∙ held-pair (subst PairFits c.in-Found.is s.requires.1) ∙ sym (ap pair_told c.in-Found.is))
 
-same-length-2 : tie.Need-same-length-2
+same-length-2 : tie.Need-shape_of-told-in-Refused
 same-length-2 c = search rules
 
-returns-2 : tie.Need-returns-2
+returns-2 : tie.Need-returns-in-Refused
 returns-2 c =
-    let s = c.before.before.before.before.before.before.before in
-    let e = c.before.before.before.before.before.answer2.given.1 in
-    (held-is c.answer3.result c.answer3.type-inv ∙ c.answer3.ensures ∙ sym (ap pair_number e), c.before.before.fill.ensures ∙ ap (λ n. replicate n (negsuc 0)) s.requires.0 ∙ sym (ap pair_told e))
+    let s = c in
+    (held-is c.answer.result c.answer.type_inv ∙ c.answer.ensures ∙ sym (ap pair_number c.in-Refused.is), c.fill.ensures ∙ ap (λ n. replicate n (negsuc 0)) s.requires.0 ∙ sym (ap pair_told c.in-Refused.is))
 
-pub tell-pair-spec : {M : Type 1} → statement M
-tell-pair-spec =
+pub tell_pair_spec : {M : Type 1} → statement M
+tell_pair_spec =
     tie.close
     (tie.spec
     enum-known-answer

@@ -12,30 +12,30 @@ fill-requires c κs = search rules
 fill-requires-2 : tie.Need-fill-requires-2
 fill-requires-2 c κs = search rules
 
-fill-lengths-requires : tie.Need-fill-lengths-requires
+fill-lengths-requires : tie.Need-fill_lengths-requires
 fill-lengths-requires c κs = search rules
 
 answer-requires : tie.Need-answer-requires
 answer-requires c κs = search rules
 
-same_length : tie.Need-same-length
+same_length : tie.Need-shape_of-out
 same_length c = search rules
 
-same-length-2 : tie.Need-same-length-2
+same-length-2 : tie.Need-shape_of-left
 same-length-2 c = search rules
 
-same-length-3 : tie.Need-same-length-3
+same-length-3 : tie.Need-shape_of-left_length
 same-length-3 c = search rules
 
 returns : tie.Need-returns
 returns c =
-    let x = c.before.before.before in
-    let y = x.before.before.before in
-    let z = y.before.before.before in
-    (held-is c.answer.result c.answer.type-inv ∙ c.answer.ensures, (z.fill.ensures, (y.fill2.ensures, x.fill-lengths.ensures ∙ ap (replicate (length z.before.before.before.args.left-length.now)) minus-one-literal)))
+    let x = c in
+    let y = x in
+    let z = y in
+    (held-is c.answer.result c.answer.type_inv ∙ c.answer.ensures, (z.fill.ensures, (y.fill-2.ensures, x.fill_lengths.ensures ∙ ap (replicate (length z.args.left_length.now)) minus-one-literal)))
 
-pub refuse-triplets-spec : {M : Type 1} → statement M
-refuse-triplets-spec =
+pub refuse_triplets_spec : {M : Type 1} → statement M
+refuse_triplets_spec =
     tie.close
     (tie.spec
     fill-requires

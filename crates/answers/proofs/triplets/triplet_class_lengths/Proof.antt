@@ -2,11 +2,11 @@ use borrow.Author.Tests.{eq-eqb, ne_eqb}
 use Rattle.answers.proofs.triplets.triplet_class_lengths.Statement.{statement}
 use Rattle.answers.proofs.triplets.triplet_class_lengths.Tie as tie
 
-returns : tie.Need-returns
-returns c = rw (eq-eqb c.before.args.d 3 c.if1.true)
+returns : tie.Need-returns-then-d-eq3
+returns c = rw (eq-eqb c.args.d 3 c.if-d-eq3.true)
 
-returns-2 : tie.Need-returns-2
-returns-2 c = rw (ne_eqb c.before.args.d 3 c.if1.false)
+returns-2 : tie.Need-returns-else-d-eq3
+returns-2 c = rw (ne_eqb c.args.d 3 c.if-d-eq3.false)
 
-pub triplet-class-lengths-spec : {M : Type 1} → statement M
-triplet-class-lengths-spec = tie.close (tie.spec returns returns-2)
+pub triplet_class_lengths_spec : {M : Type 1} → statement M
+triplet_class_lengths_spec = tie.close (tie.spec returns returns-2)

@@ -5,21 +5,21 @@ use borrow.Author.Rules.{rules}
 use Rattle.answers.proofs.triplets.triplets_number.Statement.{statement}
 use Rattle.answers.proofs.triplets.triplets_number.Tie as tie
 
-enum_told : tie.Need-enum-told
+enum_told : tie.Need-enum_told-1
 enum_told c = search rules
 
-enum-known-answer : tie.Need-enum-known-answer
+enum-known-answer : tie.Need-enum_known-answer
 enum-known-answer c = search rules
 
 answer-requires : tie.Need-answer-requires
 answer-requires c κs = search rules
 
-returns : tie.Need-returns
-returns c = sym (ap triplets_number c.enum_told.given.1)
+returns : tie.Need-returns-in-Written
+returns c = sym (ap triplets_number c.in-Written.is)
 
-returns-2 : tie.Need-returns-2
-returns-2 c = held-is c.answer2.result c.answer2.type-inv ∙ c.answer2.ensures ∙ sym (ap triplets_number c.before.before.answer.given.1)
+returns-2 : tie.Need-returns-in-Refused
+returns-2 c = held-is c.answer.result c.answer.type_inv ∙ c.answer.ensures ∙ sym (ap triplets_number c.in-Refused.is)
 
-pub triplets-number-spec : {M : Type 1} → statement M
-triplets-number-spec =
+pub triplets_number_spec : {M : Type 1} → statement M
+triplets_number_spec =
     tie.close (tie.spec enum_told enum-known-answer answer-requires returns returns-2)

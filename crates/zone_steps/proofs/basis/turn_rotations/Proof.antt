@@ -6,95 +6,93 @@ use borrow.Author.Rules.{rules}
 use Rattle.zone_steps.proofs.basis.turn_rotations.Statement.{statement}
 use Rattle.zone_steps.proofs.basis.turn_rotations.Tie as tie
 
-slice-aggregate-reciprocal-group : tie.Need-slice-aggregate-reciprocal-group
+slice-aggregate-reciprocal-group : tie.Need-slice_bounds-reciprocal_group-end
 slice-aggregate-reciprocal-group c = search rules
 
-reciprocal-group-requires : tie.Need-reciprocal-group-requires
+reciprocal-group-requires : tie.Need-reciprocal_group-requires
 reciprocal-group-requires c κs = search rules
 
-enum-known-n : tie.Need-enum-known-n
+enum-known-n : tie.Need-enum_known-n
 enum-known-n c = search rules
 
-mul-transform-rotations : tie.Need-overflow-mul-transform-rotations
+mul-transform-rotations : tie.Need-overflow_mul-n
 mul-transform-rotations c =
-    let s = c.before.before.before.before.before.before in
-    let h = few-rotations s.args.rotations.now s.args.is-time-reversal c.before.before.before.before.reciprocal-group.ensures.0 c.before.n.given.1 in
+    let s = c in
+    let h = few-rotations s.args.rotations.now s.args.is_time_reversal c.reciprocal_group.ensures.0 c.in-Rotations.is in
     search rules
 
-sub-transform-rotations : tie.Need-overflow-sub-transform-rotations
+sub-transform-rotations : tie.Need-slice_bounds-transform_rotations-count
 sub-transform-rotations c = search rules
 
-part-transform-rotations-start : tie.Need-slice-bounds-transform-rotations-start
+part-transform-rotations-start : tie.Need-slice_bounds-transform_rotations-start
 part-transform-rotations-start c = search rules
 
-part-transform-rotations-end : tie.Need-slice-bounds-transform-rotations-end
+part-transform-rotations-end : tie.Need-slice_bounds-transform_rotations-end
 part-transform-rotations-end c =
-    let s = c.before.before.before.before.before.before.before in
-    let h = few-rotations s.args.rotations.now s.args.is-time-reversal c.before.before.before.before.before.reciprocal-group.ensures.0 c.before.before.n.given.1 in
+    let s = c in
+    let h = few-rotations s.args.rotations.now s.args.is_time_reversal c.reciprocal_group.ensures.0 c.in-Rotations.is in
     search rules
 
-mul-transform-rotations-2 : tie.Need-overflow-mul-transform-rotations-2
+mul-transform-rotations-2 : tie.Need-overflow_mul-n-in-Rotations
 mul-transform-rotations-2 c =
-    let s = c.before.before.before.before.before.before.before.before in
-    let h = few-rotations s.args.rotations.now s.args.is-time-reversal c.before.before.before.before.before.before.reciprocal-group.ensures.0 c.before.before.before.n.given.1 in
+    let s = c in
+    let h = few-rotations s.args.rotations.now s.args.is_time_reversal c.reciprocal_group.ensures.0 c.in-Rotations.is in
     search rules
 
-sub-transform-rotations-2 : tie.Need-overflow-sub-transform-rotations-2
+sub-transform-rotations-2 : tie.Need-slice_bounds-transform_rotations-count-in-Rotations
 sub-transform-rotations-2 c = search rules
 
-part-transform-rotations-start-2 : tie.Need-slice-bounds-transform-rotations-start-2
+part-transform-rotations-start-2 : tie.Need-slice_bounds-transform_rotations-start-in-Rotations
 part-transform-rotations-start-2 c = search rules
 
-part-transform-rotations-end-2 : tie.Need-slice-bounds-transform-rotations-end-2
+part-transform-rotations-end-2 : tie.Need-slice_bounds-transform_rotations-end-in-Rotations
 part-transform-rotations-end-2 c =
-    let s = c.before.before.before.before.before.before.before.before in
-    let h = few-rotations s.args.rotations.now s.args.is-time-reversal c.before.before.before.before.before.before.reciprocal-group.ensures.0 c.before.before.before.n.given.1 in
+    let s = c in
+    let h = few-rotations s.args.rotations.now s.args.is_time_reversal c.reciprocal_group.ensures.0 c.in-Rotations.is in
     search rules
 
-transform-rotations-requires : tie.Need-transform-rotations-requires
+transform-rotations-requires : tie.Need-transform_rotations-requires
 transform-rotations-requires c κs = search rules
 
-enum_told : tie.Need-enum-told
+enum_told : tie.Need-enum_told-1
 enum_told c = search rules
 
-enum-known-r : tie.Need-enum-known-r
+enum-known-r : tie.Need-enum_known-r
 enum-known-r c = search rules
 
-enum-known-r-2 : tie.Need-enum-known-r-2
+enum-known-r-2 : tie.Need-enum_known-r-in-Refused-reciprocal_group
 enum-known-r-2 c = search rules
 
-same_length : tie.Need-same-length
+same_length : tie.Need-shape_of-out-in-Written
 same_length c = search rules
 
-returns : tie.Need-returns
+returns : tie.Need-returns-in-Written
 returns c =
-    let s = c.before.before.before.before.before.before.before.before.before.before.before.before.before in
-    let g = c.before.before.before.before.before.before.before.before.before.before.before.reciprocal-group.ensures in
-    let f = c.before.before.before.before.before.before.before.before.n.given.1 in
-    let t = c.before.before.before.transform-rotations in
-    let m : length t.new.1.1.1.0 ≡ length (take (c.before.before.before.before.before.before.before.before.n.given.0.0 * 9 - 0) s.args.out.now) = search rules in (
-      sym (ap transform_tested c.enum_told.given.1) ∙ turned-tested s.args.rotations.now s.args.is-time-reversal g.0 f s.args.d s.args.q s.args.out.now s.requires g.1 t.ensures.0,
-      (few-rotations s.args.rotations.now s.args.is-time-reversal g.0 f, turned-list s.args.rotations.now s.args.is-time-reversal g.0 f s.args.d s.args.q s.args.out.now s.requires g.1 t.ensures.1 m _),
+    let s = c in
+    let g = c.reciprocal_group.ensures in
+    let t = c.transform_rotations in
+    let m : length t.new.out ≡ length (take (c.in-Rotations.n * 9 - 0) s.args.out.now) = search rules in (
+      sym (ap transform_tested c.in-Written.is) ∙ turned-tested s.args.rotations.now s.args.is_time_reversal g.0 c.in-Rotations.is s.args.d s.args.q s.args.out.now s.requires g.1 t.ensures.0,
+      (few-rotations s.args.rotations.now s.args.is_time_reversal g.0 c.in-Rotations.is, turned-list s.args.rotations.now s.args.is_time_reversal g.0 c.in-Rotations.is s.args.d s.args.q s.args.out.now s.requires g.1 t.ensures.1 m _),
     )
 
-same-length-2 : tie.Need-same-length-2
+same-length-2 : tie.Need-shape_of-out-in-Refused-transform_rotations
 same-length-2 c = search rules
 
-returns-2 : tie.Need-returns-2
+returns-2 : tie.Need-returns-in-Refused-transform_rotations
 returns-2 c =
-    let s = c.before.before.before.before.before.before.before.before.before.before.before.before.before.before in
-    let g = c.before.before.before.before.before.before.before.before.before.before.before.before.reciprocal-group.ensures in
-    let f = c.before.before.before.before.before.before.before.before.before.n.given.1 in
-    let t = c.before.before.before.before.transform-rotations in
-    (sym (ap transform_tested c.before.r.given.1) ∙ turned-tested s.args.rotations.now s.args.is-time-reversal g.0 f s.args.d s.args.q s.args.out.now s.requires g.1 t.ensures.0, tt)
+    let s = c in
+    let g = c.reciprocal_group.ensures in
+    let t = c.transform_rotations in
+    (sym (ap transform_tested c.in-Refused-transform_rotations.is) ∙ turned-tested s.args.rotations.now s.args.is_time_reversal g.0 c.in-Rotations.is s.args.d s.args.q s.args.out.now s.requires g.1 t.ensures.0, tt)
 
-returns-3 : tie.Need-returns-3
+returns-3 : tie.Need-returns-in-Refused
 returns-3 c =
-    let s = c.before.before.before.before.before.before in
-    (turned-refused s.args.rotations.now s.args.is-time-reversal s.args.d s.args.q c.before.before.before.before.reciprocal-group.ensures.0 c.before.r2.given.1, tt)
+    let s = c in
+    (turned-refused s.args.rotations.now s.args.is_time_reversal s.args.d s.args.q c.reciprocal_group.ensures.0 c.in-Refused.is, tt)
 
-pub turn-rotations-spec : {M : Type 1} → statement M
-turn-rotations-spec =
+pub turn_rotations_spec : {M : Type 1} → statement M
+turn_rotations_spec =
     tie.close
     (tie.spec
     slice-aggregate-reciprocal-group

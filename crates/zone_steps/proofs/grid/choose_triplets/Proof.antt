@@ -5,84 +5,84 @@ use borrow.Author.Rules.{rules}
 use Rattle.zone_steps.proofs.grid.choose_triplets.Statement.{statement}
 use Rattle.zone_steps.proofs.grid.choose_triplets.Tie as tie
 
-own-places-requires : tie.Need-own-places-requires
+own-places-requires : tie.Need-own_places-k-requires
 own-places-requires c κs = search rules
 
-mul-bz-triplets-at-q : tie.Need-overflow-mul-bz-triplets-at-q
+mul-bz-triplets-at-q : tie.Need-overflow_mul-k
 mul-bz-triplets-at-q c = search rules
 
-sub-bz-triplets-at-q : tie.Need-overflow-sub-bz-triplets-at-q
+sub-bz-triplets-at-q : tie.Need-slice_bounds-bz_triplets_at_q-count
 sub-bz-triplets-at-q c = search rules
 
-part-bz-triplets-at-q-start : tie.Need-slice-bounds-bz-triplets-at-q-start
+part-bz-triplets-at-q-start : tie.Need-slice_bounds-bz_triplets_at_q-start
 part-bz-triplets-at-q-start c = search rules
 
-part-bz-triplets-at-q-end : tie.Need-slice-bounds-bz-triplets-at-q-end
+part-bz-triplets-at-q-end : tie.Need-slice_bounds-bz_triplets_at_q-end
 part-bz-triplets-at-q-end c = search rules
 
-sub-bz-triplets-at-q-2 : tie.Need-overflow-sub-bz-triplets-at-q-2
+sub-bz-triplets-at-q-2 : tie.Need-slice_bounds-bz_triplets_at_q-count-2
 sub-bz-triplets-at-q-2 c = search rules
 
-part-bz-triplets-at-q-start-2 : tie.Need-slice-bounds-bz-triplets-at-q-start-2
+part-bz-triplets-at-q-start-2 : tie.Need-slice_bounds-bz_triplets_at_q-start-2
 part-bz-triplets-at-q-start-2 c = search rules
 
-part-bz-triplets-at-q-end-2 : tie.Need-slice-bounds-bz-triplets-at-q-end-2
+part-bz-triplets-at-q-end-2 : tie.Need-slice_bounds-bz_triplets_at_q-end-2
 part-bz-triplets-at-q-end-2 c = search rules
 
-sub-bz-triplets-at-q-3 : tie.Need-overflow-sub-bz-triplets-at-q-3
+sub-bz-triplets-at-q-3 : tie.Need-slice_bounds-bz_triplets_at_q-count-3
 sub-bz-triplets-at-q-3 c = search rules
 
-part-bz-triplets-at-q-start-3 : tie.Need-slice-bounds-bz-triplets-at-q-start-3
+part-bz-triplets-at-q-start-3 : tie.Need-slice_bounds-bz_triplets_at_q-start-3
 part-bz-triplets-at-q-start-3 c = search rules
 
-part-bz-triplets-at-q-end-3 : tie.Need-slice-bounds-bz-triplets-at-q-end-3
+part-bz-triplets-at-q-end-3 : tie.Need-slice_bounds-bz_triplets_at_q-end-3
 part-bz-triplets-at-q-end-3 c = search rules
 
-bz-triplets-at-q-requires : tie.Need-bz-triplets-at-q-requires
+bz-triplets-at-q-requires : tie.Need-bz_triplets_at_q-requires
 bz-triplets-at-q-requires c κs = search rules
 
-enum_told : tie.Need-enum-told
+enum_told : tie.Need-enum_told-1
 enum_told c = search rules
 
-enum-known-r : tie.Need-enum-known-r
+enum-known-r : tie.Need-enum_known-r
 enum-known-r c = search rules
 
-same_length : tie.Need-same-length
+same_length : tie.Need-shape_of-triplets-in-Written
 same_length c = search rules
 
-same-length-2 : tie.Need-same-length-2
+same-length-2 : tie.Need-shape_of-left-in-Written
 same-length-2 c = search rules
 
-same-length-3 : tie.Need-same-length-3
+same-length-3 : tie.Need-shape_of-lengths-in-Written
 same-length-3 c = search rules
 
-returns : tie.Need-returns
+returns : tie.Need-returns-in-Written
 returns c =
-    let s = c.before.before.before.before.before.before.before.before.before.before.before.before in
-    let o = c.before.before.before.before.before.before.before.before.before.before.own-places in
-    let r = c.before.before.before.before.before.before.bz-triplets-at-q.ensures in
-    triplets-chosen s.args.start s.args.addresses.now s.args.map.now s.args.classes.now s.args.d s.args.q s.args.lattice s.args.bz-grid-type s.args.triplets.now s.args.left.now s.args.lengths.now o.result
-    o.ensures.0 o.ensures.1 s.requires (to_z-of_z s.ranges.start) (to_z-of_z s.ranges.bz-grid-type) r.0 r.1.0 r.1.1.0 r.1.1.1 (sym (ap triplet_tested c.enum_told.given.1))
+    let s = c in
+    let o = c.own_places-k in
+    let r = c.bz_triplets_at_q.ensures in
+    triplets-chosen s.args.start s.args.addresses.now s.args.map.now s.args.classes.now s.args.d s.args.q s.args.lattice s.args.bz_grid_type s.args.triplets.now s.args.left.now s.args.lengths.now o.result
+    o.ensures.0 o.ensures.1 s.requires (to_z-of_z s.ranges.start) (to_z-of_z s.ranges.bz_grid_type) r.0 r.1.0 r.1.1.0 r.1.1.1 (sym (ap triplet_tested c.in-Written.is))
 
-same-length-4 : tie.Need-same-length-4
+same-length-4 : tie.Need-shape_of-triplets-in-Refused
 same-length-4 c = search rules
 
-same-length-5 : tie.Need-same-length-5
+same-length-5 : tie.Need-shape_of-left-in-Refused
 same-length-5 c = search rules
 
-same-length-6 : tie.Need-same-length-6
+same-length-6 : tie.Need-shape_of-lengths-in-Refused
 same-length-6 c = search rules
 
-returns-2 : tie.Need-returns-2
+returns-2 : tie.Need-returns-in-Refused
 returns-2 c =
-    let s = c.before.before.before.before.before.before.before.before.before.before.before.before.before in
-    let o = c.before.before.before.before.before.before.before.before.before.before.before.own-places in
-    let r = c.before.before.before.before.before.before.before.bz-triplets-at-q.ensures in
-    triplets-chosen s.args.start s.args.addresses.now s.args.map.now s.args.classes.now s.args.d s.args.q s.args.lattice s.args.bz-grid-type s.args.triplets.now s.args.left.now s.args.lengths.now o.result
-    o.ensures.0 o.ensures.1 s.requires (to_z-of_z s.ranges.start) (to_z-of_z s.ranges.bz-grid-type) r.0 r.1.0 r.1.1.0 r.1.1.1 (sym (ap triplet_tested c.before.r.given.1))
+    let s = c in
+    let o = c.own_places-k in
+    let r = c.bz_triplets_at_q.ensures in
+    triplets-chosen s.args.start s.args.addresses.now s.args.map.now s.args.classes.now s.args.d s.args.q s.args.lattice s.args.bz_grid_type s.args.triplets.now s.args.left.now s.args.lengths.now o.result
+    o.ensures.0 o.ensures.1 s.requires (to_z-of_z s.ranges.start) (to_z-of_z s.ranges.bz_grid_type) r.0 r.1.0 r.1.1.0 r.1.1.1 (sym (ap triplet_tested c.in-Refused.is))
 
-pub choose-triplets-spec : {M : Type 1} → statement M
-choose-triplets-spec =
+pub choose_triplets_spec : {M : Type 1} → statement M
+choose_triplets_spec =
     tie.close
     (tie.spec
     own-places-requires

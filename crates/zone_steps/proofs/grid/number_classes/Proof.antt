@@ -5,61 +5,61 @@ use borrow.Author.Rules.{rules}
 use Rattle.zone_steps.proofs.grid.number_classes.Statement.{statement}
 use Rattle.zone_steps.proofs.grid.number_classes.Tie as tie
 
-sub-ir-triplets-at-q : tie.Need-overflow-sub-ir-triplets-at-q
+sub-ir-triplets-at-q : tie.Need-slice_bounds-ir_triplets_at_q-count
 sub-ir-triplets-at-q c = search rules
 
-part-ir-triplets-at-q-start : tie.Need-slice-bounds-ir-triplets-at-q-start
+part-ir-triplets-at-q-start : tie.Need-slice_bounds-ir_triplets_at_q-start
 part-ir-triplets-at-q-start c = search rules
 
-part-ir-triplets-at-q-end : tie.Need-slice-bounds-ir-triplets-at-q-end
+part-ir-triplets-at-q-end : tie.Need-slice_bounds-ir_triplets_at_q-end
 part-ir-triplets-at-q-end c = search rules
 
-sub-ir-triplets-at-q-2 : tie.Need-overflow-sub-ir-triplets-at-q-2
+sub-ir-triplets-at-q-2 : tie.Need-slice_bounds-ir_triplets_at_q-count-2
 sub-ir-triplets-at-q-2 c = search rules
 
-part-ir-triplets-at-q-start-2 : tie.Need-slice-bounds-ir-triplets-at-q-start-2
+part-ir-triplets-at-q-start-2 : tie.Need-slice_bounds-ir_triplets_at_q-start-2
 part-ir-triplets-at-q-start-2 c = search rules
 
-part-ir-triplets-at-q-end-2 : tie.Need-slice-bounds-ir-triplets-at-q-end-2
+part-ir-triplets-at-q-end-2 : tie.Need-slice_bounds-ir_triplets_at_q-end-2
 part-ir-triplets-at-q-end-2 c = search rules
 
-ir-triplets-at-q-requires : tie.Need-ir-triplets-at-q-requires
+ir-triplets-at-q-requires : tie.Need-ir_triplets_at_q-requires
 ir-triplets-at-q-requires c κs = search rules
 
-enum_told : tie.Need-enum-told
+enum_told : tie.Need-enum_told-1
 enum_told c = search rules
 
-enum-known-r : tie.Need-enum-known-r
+enum-known-r : tie.Need-enum_known-r
 enum-known-r c = search rules
 
-same_length : tie.Need-same-length
+same_length : tie.Need-shape_of-classes-in-Classes
 same_length c = search rules
 
-same-length-2 : tie.Need-same-length-2
+same-length-2 : tie.Need-shape_of-points-in-Classes
 same-length-2 c = search rules
 
-returns : tie.Need-returns
+returns : tie.Need-returns-in-Classes
 returns c =
-    let s = c.before.before.before.before.before.before.before in
-    let r = c.before.before.before.before.ir-triplets-at-q.ensures in
-    classes-numbered s.args.q0 s.args.d s.args.rotations.now s.args.is-time-reversal s.args.swappable s.args.n s.args.classes.now s.args.points.now s.requires.0 s.requires.1
-    (to_z-of_z s.ranges.q0) r.0 r.1.0 r.1.1 (sym (ap class_tested c.enum_told.given.1))
+    let s = c in
+    let r = c.ir_triplets_at_q.ensures in
+    classes-numbered s.args.q0 s.args.d s.args.rotations.now s.args.is_time_reversal s.args.swappable s.args.n s.args.classes.now s.args.points.now s.requires.0 s.requires.1
+    (to_z-of_z s.ranges.q0) r.0 r.1.0 r.1.1 (sym (ap class_tested c.in-Classes.is))
 
-same-length-3 : tie.Need-same-length-3
+same-length-3 : tie.Need-shape_of-classes-in-Refused
 same-length-3 c = search rules
 
-same-length-4 : tie.Need-same-length-4
+same-length-4 : tie.Need-shape_of-points-in-Refused
 same-length-4 c = search rules
 
-returns-2 : tie.Need-returns-2
+returns-2 : tie.Need-returns-in-Refused
 returns-2 c =
-    let s = c.before.before.before.before.before.before.before.before in
-    let r = c.before.before.before.before.before.ir-triplets-at-q.ensures in
-    classes-numbered s.args.q0 s.args.d s.args.rotations.now s.args.is-time-reversal s.args.swappable s.args.n s.args.classes.now s.args.points.now s.requires.0 s.requires.1
-    (to_z-of_z s.ranges.q0) r.0 r.1.0 r.1.1 (sym (ap class_tested c.before.r.given.1))
+    let s = c in
+    let r = c.ir_triplets_at_q.ensures in
+    classes-numbered s.args.q0 s.args.d s.args.rotations.now s.args.is_time_reversal s.args.swappable s.args.n s.args.classes.now s.args.points.now s.requires.0 s.requires.1
+    (to_z-of_z s.ranges.q0) r.0 r.1.0 r.1.1 (sym (ap class_tested c.in-Refused.is))
 
-pub number-classes-spec : {M : Type 1} → statement M
-number-classes-spec =
+pub number_classes_spec : {M : Type 1} → statement M
+number_classes_spec =
     tie.close
     (tie.spec
     sub-ir-triplets-at-q

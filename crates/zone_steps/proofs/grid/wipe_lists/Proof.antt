@@ -17,30 +17,30 @@ fill-requires-3 c κs = search rules
 fill-requires-4 : tie.Need-fill-requires-4
 fill-requires-4 c κs = search rules
 
-fill-lengths-requires : tie.Need-fill-lengths-requires
+fill-lengths-requires : tie.Need-fill_lengths-requires
 fill-lengths-requires c κs = search rules
 
-same_length : tie.Need-same-length
+same_length : tie.Need-shape_of-classes
 same_length c = search rules
 
-same-length-2 : tie.Need-same-length-2
+same-length-2 : tie.Need-shape_of-points
 same-length-2 c = search rules
 
-same-length-3 : tie.Need-same-length-3
+same-length-3 : tie.Need-shape_of-triplets
 same-length-3 c = search rules
 
-same-length-4 : tie.Need-same-length-4
+same-length-4 : tie.Need-shape_of-left
 same-length-4 c = search rules
 
-same-length-5 : tie.Need-same-length-5
+same-length-5 : tie.Need-shape_of-lengths
 same-length-5 c = search rules
 
 returns : tie.Need-returns
 returns c =
-    (c.before.before.before.before.before.before.before.before.before.before.before.before.before.before.fill.ensures, (c.before.before.before.before.before.before.before.before.before.before.before.fill2.ensures, (c.before.before.before.before.before.before.before.before.fill3.ensures, (c.before.before.before.before.before.fill4.ensures, c.before.before.fill-lengths.ensures ∙ ap (replicate (length c.before.before.before.before.before.before.before.before.before.before.before.before.before.before.before.before.before.args.lengths.now)) minus-one-literal))))
+    (c.fill.ensures, (c.fill-2.ensures, (c.fill-3.ensures, (c.fill-4.ensures, c.fill_lengths.ensures ∙ ap (replicate (length c.args.lengths.now)) minus-one-literal))))
 
-pub wipe-lists-spec : {M : Type 1} → statement M
-wipe-lists-spec =
+pub wipe_lists_spec : {M : Type 1} → statement M
+wipe_lists_spec =
     tie.close
     (tie.spec
     fill-requires

@@ -30,7 +30,7 @@ same_length c = search rules
 returns : tie.Need-returns-in-Classes
 returns c =
     let s = c in
-    (sym (ap classes_number c.in-Classes.is), stored s.args.told.now s.requires _ ∙ ap (λ z. z ∷ []) (to_z-of_z {w = w64} (record { sfits = c.known_told-1.given.0.1 })) ∙ sym (ap classes_told c.in-Classes.is))
+    (sym (ap classes_number c.in-Classes.is), stored s.args.told.now s.requires _ ∙ ap (λ z. z ∷ []) (to_z-of_z {w = w64} {z = c.in-Classes.n} (search rules)) ∙ sym (ap classes_told c.in-Classes.is))
 
 same-length-2 : tie.Need-shape_of-told-in-Refused
 same-length-2 c = search rules

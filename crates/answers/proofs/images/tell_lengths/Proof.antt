@@ -13,19 +13,19 @@ enum-known-answer : tie.Need-enum_known-answer
 enum-known-answer c = search rules
 
 cast-told : tie.Need-overflow_cast-told
-cast-told c = let k = c.answer-1.given in record { sfits = (c.requires.1.held k.0.0 k.1).addresses }
+cast-told c = record { sfits = (c.requires.1.held c.in-Built.l c.in-Built.is).addresses }
 
 slice-set-from-told : tie.Need-bounds-told-0
 slice-set-from-told c = search rules
 
 cast-told-2 : tie.Need-overflow_cast-told-in-Built
-cast-told-2 c = let k = c.answer-1.given in record { sfits = (c.requires.1.held k.0.0 k.1).map }
+cast-told-2 c = record { sfits = (c.requires.1.held c.in-Built.l c.in-Built.is).map }
 
 slice-set-from-told-2 : tie.Need-bounds-told-1
 slice-set-from-told-2 c = search rules
 
 cast-told-3 : tie.Need-overflow_cast-told-in-Built-2
-cast-told-3 c = let k = c.answer-1.given in record { sfits = (c.requires.1.held k.0.0 k.1).grg }
+cast-told-3 c = record { sfits = (c.requires.1.held c.in-Built.l c.in-Built.is).grg }
 
 slice-set-from-told-3 : tie.Need-bounds-told-2
 slice-set-from-told-3 c = search rules

@@ -44,7 +44,7 @@ same_length c = search rules
 returns : tie.Need-returns-in-Image
 returns c =
     let s = c in
-    (sym (ap rotated_number c.in-Image.is), stored-two s.args.told.now s.requires _ _ ∙ ap (λ z. z ∷ pos 0 ∷ []) (to_z-of_z {w = w64} (record { sfits = c.known_told-1.given.0.1 })) ∙ sym (ap rotated_told c.in-Image.is))
+    (sym (ap rotated_number c.in-Image.is), stored-two s.args.told.now s.requires _ _ ∙ ap (λ z. z ∷ pos 0 ∷ []) (to_z-of_z {w = w64} {z = c.in-Image.i} (search rules)) ∙ sym (ap rotated_told c.in-Image.is))
 
 same-length-2 : tie.Need-shape_of-told-in-Fallback
 same-length-2 c = search rules
@@ -52,7 +52,7 @@ same-length-2 c = search rules
 returns-2 : tie.Need-returns-in-Fallback
 returns-2 c =
     let s = c in
-    (sym (ap rotated_number c.in-Fallback.is), stored-two s.args.told.now s.requires _ _ ∙ ap (λ z. z ∷ pos 1 ∷ []) (to_z-of_z {w = w64} (record { sfits = c.known_told-in-Fallback-1.given.0.1 })) ∙ sym (ap rotated_told c.in-Fallback.is))
+    (sym (ap rotated_number c.in-Fallback.is), stored-two s.args.told.now s.requires _ _ ∙ ap (λ z. z ∷ pos 1 ∷ []) (to_z-of_z {w = w64} {z = c.in-Fallback.i} (search rules)) ∙ sym (ap rotated_told c.in-Fallback.is))
 
 same-length-3 : tie.Need-shape_of-told-in-Refused
 same-length-3 c = search rules

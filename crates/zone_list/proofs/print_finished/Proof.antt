@@ -8,98 +8,96 @@ use borrow.Author.Rules.{rules}
 use Rattle.zone_list.proofs.print_finished.Statement.{statement}
 use Rattle.zone_list.proofs.print_finished.Tie as tie
 
-enum-known-t : tie.Need-enum-known-t
+enum-known-t : tie.Need-enum_known-t
 enum-known-t c = search rules
 
 clear-requires : tie.Need-clear-requires
 clear-requires c κs = search rules
 
-same_length : tie.Need-same-length
+same_length : tie.Need-shape_of-text-in-Refused
 same_length c = search rules
 
-returns : tie.Need-returns
+returns : tie.Need-returns-in-Refused
 returns c =
-    let s = c.before.before.before.before.before.before.before.before in
-    print-refused s.args.f s.args.classes.now s.args.triplets.now (length s.args.text.now) c.before.before.before.before.before.t.given.1 c.before.before.clear.ensures
+    let s = c in
+    print-refused s.args.f s.args.classes.now s.args.triplets.now (length s.args.text.now) c.in-Refused.is c.clear.ensures
 
-enum_told : tie.Need-enum-told
+enum_told : tie.Need-enum_told-1
 enum_told c = search rules
 
-grid-of-requires : tie.Need-grid-of-requires
-grid-of-requires c κs = let s = c.before.before.before.before in (s.requires c.before.enum_told.given.1).grid
+grid-of-requires : tie.Need-grid_of-requires
+grid-of-requires c κs = let s = c in (s.requires c.in_default.is).grid
 
-points-requires : tie.Need-points-requires
-points-requires c κs = let s = c.before.before.before.before.before in rw c.grid-of.ensures (grid-fits s.args.f.d (s.requires c.before.before.enum_told.given.1).grid)
+points-requires : tie.Need-points-n-requires
+points-requires c κs = let s = c in rw c.grid_of.ensures (grid-fits s.args.f.d (s.requires c.in_default.is).grid)
 
-cast-k : tie.Need-overflow-cast-k
+cast-k : tie.Need-overflow_cast-k
 cast-k c =
-    let w = c.before.before.before.before.before.before.before.before.requires c.before.before.before.before.before.enum_told.given.1 in
+    let w = c.requires c.in_default.is in
     let h = count_small w in
     (count-natural w, search rules)
 
-mul-k : tie.Need-overflow-mul-k
+mul-k : tie.Need-overflow_mul-k
 mul-k c =
-    let h = count_small (c.before.before.before.before.before.before.before.before.requires c.before.before.before.before.before.enum_told.given.1) in
+    let h = count_small (c.requires c.in_default.is) in
     search rules
 
-sub-print-listing : tie.Need-overflow-sub-print-listing
+sub-print-listing : tie.Need-slice_bounds-print_listing-count
 sub-print-listing c = search rules
 
-part-print-listing-start : tie.Need-slice-bounds-print-listing-start
+part-print-listing-start : tie.Need-slice_bounds-print_listing-start
 part-print-listing-start c = search rules
 
-part-print-listing-end : tie.Need-slice-bounds-print-listing-end
+part-print-listing-end : tie.Need-slice_bounds-print_listing-end
 part-print-listing-end c =
-    let w = c.before.before.before.before.before.before.before.before.requires c.before.before.before.before.before.enum_told.given.1 in
-    let h = subst (λ n. n ≤ length c.before.before.before.before.before.before.before.before.args.classes.now) (sym (c.before.before.points.ensures ∙ ap size c.before.before.before.grid-of.ensures)) w.classes-in in
+    let w = c.requires c.in_default.is in
+    let h = subst (λ n. n ≤ length c.args.classes.now) (sym (c.points-n.ensures ∙ ap size c.grid_of.ensures)) w.classes-in in
     search rules
 
-sub-print-listing-2 : tie.Need-overflow-sub-print-listing-2
+sub-print-listing-2 : tie.Need-slice_bounds-print_listing-count-2
 sub-print-listing-2 c = search rules
 
-part-print-listing-start-2 : tie.Need-slice-bounds-print-listing-start-2
+part-print-listing-start-2 : tie.Need-slice_bounds-print_listing-start-2
 part-print-listing-start-2 c = search rules
 
-part-print-listing-end-2 : tie.Need-slice-bounds-print-listing-end-2
+part-print-listing-end-2 : tie.Need-slice_bounds-print_listing-end-2
 part-print-listing-end-2 c =
-    let h = count_room (c.before.before.before.before.before.before.before.before.before.requires c.before.before.before.before.before.before.enum_told.given.1) in
+    let h = count_room (c.requires c.in_default.is) in
     search rules
 
-print-listing-requires : tie.Need-print-listing-requires
+print-listing-requires : tie.Need-print_listing-requires
 print-listing-requires c κs = search rules
 
-enum-known-b : tie.Need-enum-known-b
+enum-known-b : tie.Need-enum_known-b
 enum-known-b c = search rules
 
-enum-told-2 : tie.Need-enum-told-2
+enum-told-2 : tie.Need-enum_told-in-NoRoom
 enum-told-2 c = search rules
 
-same-length-2 : tie.Need-same-length-2
+same-length-2 : tie.Need-shape_of-text-in-Bytes
 same-length-2 c = search rules
 
-returns-2 : tie.Need-returns-2
+returns-2 : tie.Need-returns-in-Bytes
 returns-2 c =
-    let s = c.before.before.before.before.before.before.before.before.before.before.before.before.before.before.before.before.before.before in
-    let e = c.before.before.before.before.before.before.before.before.before.before.before.before.before.before.before.enum_told.given.1 in
-    let p = c.before.before.before.before.before.print-listing.ensures in
-    let h = first-places s.args.classes.now (c.before.before.before.before.before.before.before.before.before.before.before.before.points.ensures ∙ ap size c.before.before.before.before.before.before.before.before.before.before.before.before.before.grid-of.ensures) in
-    let r = print-accepted s.args.f s.args.classes.now s.args.triplets.now (length s.args.text.now) e (held-count (s.requires e)) p.0 p.1 (search rules) in
-    (sym (ap listing_of c.before.b.given.1) ∙ r.0, r.1)
+    let s = c in
+    let p = c.print_listing.ensures in
+    let h = first-places s.args.classes.now (c.points-n.ensures ∙ ap size c.grid_of.ensures) in
+    let r = print-accepted s.args.f s.args.classes.now s.args.triplets.now (length s.args.text.now) c.in_default.is (held-count (s.requires c.in_default.is)) p.0 p.1 (search rules) in
+    (sym (ap listing_of c.in-Bytes.is) ∙ r.0, r.1)
 
-same-length-3 : tie.Need-same-length-3
+same-length-3 : tie.Need-shape_of-text-in-NoRoom
 same-length-3 c = search rules
 
-returns-3 : tie.Need-returns-3
+returns-3 : tie.Need-returns-in-NoRoom
 returns-3 c =
-    let s = c.before.before.before.before.before.before.before.before.before.before.before.before.before.before.before.before.before in
-    let e = c.before.before.before.before.before.before.before.before.before.before.before.before.before.before.enum_told.given.1 in
-    let p = c.before.before.before.before.print-listing.ensures in
-    let h = first-places s.args.classes.now (c.before.before.before.before.before.before.before.before.before.before.before.points.ensures ∙ ap size c.before.before.before.before.before.before.before.before.before.before.before.before.grid-of.ensures) in
-    let r = print-accepted s.args.f s.args.classes.now s.args.triplets.now (length s.args.text.now) e (held-count (s.requires e)) p.0 p.1 (search rules) in
-    (sym (ap listing_of c.enum-told2.given.1) ∙ r.0, r.1)
+    let s = c in
+    let p = c.print_listing.ensures in
+    let h = first-places s.args.classes.now (c.points-n.ensures ∙ ap size c.grid_of.ensures) in
+    let r = print-accepted s.args.f s.args.classes.now s.args.triplets.now (length s.args.text.now) c.in_default.is (held-count (s.requires c.in_default.is)) p.0 p.1 (search rules) in
+    (sym (ap listing_of c.in-NoRoom.is) ∙ r.0, r.1)
 
-pub print-finished-spec : {M : Type 1} → statement M
-print-finished-spec =
+pub print_finished_spec : {M : Type 1} → statement M
+print_finished_spec =
     tie.close
     (tie.spec
     enum-known-t

@@ -42,33 +42,33 @@ sized c f = ap₂ f (same-rooms c) (room c)
 list-requires : tie.Need-list-requires
 list-requires c κs = search rules
 
-enum-known-n : tie.Need-enum-known-n
+enum-known-n : tie.Need-enum_known-n
 enum-known-n c = search rules
 
-enum-known-r : tie.Need-enum-known-r
+enum-known-r : tie.Need-enum_known-r
 enum-known-r c = search rules
 
-print-refused-requires : tie.Need-print-refused-requires
+print-refused-requires : tie.Need-print_refused-requires
 print-refused-requires c κs = search rules
 
-returns : tie.Need-returns
+returns : tie.Need-returns-in-Bytes
 returns c =
-    let d = c.before.before.before in
+    let d = c.before in
     let e = d.list.ensures in
     let b = (start d).args.bytes.now in
     listing-printed b (e.1.0 ∙ sized d (list_addresses b)) (e.1.1.0 ∙ sized d (list_map b)) (e.1.1.1.0 ∙ sized d (list_grg b)) (e.1.1.1.1.0 ∙ sized d (list_lists b))
-    (sym c.before.n.given.1 ∙ e.0 ∙ sized d (list_answer b)) (e.1.1.1.1.1 ∙ sized d (list_text b))
+    (sym c.in-Bytes.is ∙ e.0 ∙ sized d (list_answer b)) (e.1.1.1.1.1 ∙ sized d (list_text b))
 
-returns-2 : tie.Need-returns-2
+returns-2 : tie.Need-returns-in-Refused
 returns-2 c =
-    let d = c.before.before.before.before.before in
+    let d = c.before.before.before in
     let e = d.list.ensures in
     let b = (start d).args.bytes.now in
-    let p = c.print-refused.ensures in
+    let p = c.print_refused.ensures in
     line-printed b (e.1.0 ∙ sized d (list_addresses b)) (e.1.1.0 ∙ sized d (list_map b)) (e.1.1.1.0 ∙ sized d (list_grg b)) (e.1.1.1.1.0 ∙ sized d (list_lists b))
-    (sym c.before.before.before.r.given.1 ∙ e.0 ∙ sized d (list_answer b)) (let k = p.0 in omega arith) p.1
+    (sym c.in-Refused.is ∙ e.0 ∙ sized d (list_answer b)) (let k = p.0 in omega arith) p.1
 
-pub print-bytes-spec : {M : Type 1} → statement M
-print-bytes-spec =
+pub print_bytes_spec : {M : Type 1} → statement M
+print_bytes_spec =
     tie.close
     (tie.spec list-requires enum-known-n enum-known-r print-refused-requires returns returns-2)

@@ -8,13 +8,13 @@ use Rattle.zone_print.proofs.JobText.{refusal-printed}
 use Rattle.zone_print.proofs.print_refused.Statement.{statement}
 use Rattle.zone_print.proofs.print_refused.Tie as tie
 
-print-refusal-requires : tie.Need-print-refusal-requires
+print-refusal-requires : tie.Need-print_refusal-requires
 print-refusal-requires c κs = search rules
 
-enum-known-n : tie.Need-enum-known-n
+enum-known-n : tie.Need-enum_known-n
 enum-known-n c = search rules
 
-enum_told : tie.Need-enum-told
+enum_told : tie.Need-enum_told-1
 enum_told c = search rules
 
 not-printed : {n : ℕ} → NoRoom ≡ Bytes n → ⊥
@@ -24,21 +24,21 @@ same_bytes : {m n : ℕ} → Bytes m ≡ Bytes n → m ≡ n
 same_bytes e = cc
 
 -- the array's length
-room : (c : tie.After-print-refusal) → length c.before.before.args.text.now ≡ 8192
+room : (c : tie.After-print_refusal) → length c.args.text.now ≡ 8192
 room c = search rules
 
-returns : tie.Need-returns
+returns : tie.Need-returns-in_default
 returns c =
-    let d = c.before.before in
-    let p = rw (room d) at d.print-refusal.ensures.0 in
-    absurd (not-printed (sym c.enum_told.given.1 ∙ refusal-printed _ p))
+    let d = c.before in
+    let p = rw (room d) at d.print_refusal.ensures.0 in
+    absurd (not-printed (sym c.in_default.is ∙ refusal-printed _ p))
 
-returns-2 : tie.Need-returns-2
+returns-2 : tie.Need-returns
 returns-2 c =
-    let d = c.before.before.before in
-    let p = rw (room d) at d.print-refusal.ensures.0 in
-    (same_bytes (sym c.before.n.given.1 ∙ refusal-printed _ p), rw (room d) at d.print-refusal.ensures.1)
+    let d = c.before in
+    let p = rw (room d) at d.print_refusal.ensures.0 in
+    (same_bytes (sym c.in-Bytes.is ∙ refusal-printed _ p), rw (room d) at d.print_refusal.ensures.1)
 
-pub print-refused-spec : {M : Type 1} → statement M
-print-refused-spec =
+pub print_refused_spec : {M : Type 1} → statement M
+print_refused_spec =
     tie.close (tie.spec print-refusal-requires enum-known-n enum_told returns returns-2)

@@ -9,61 +9,61 @@ use borrow.Author.Rules.{rules}
 use Rattle.zone_c.proofs.diagonal.zone_smith3x3.Statement.{statement}
 use Rattle.zone_c.proofs.diagonal.zone_smith3x3.Tie as tie
 
-smith-lengths-requires : tie.Need-smith-lengths-requires
+smith-lengths-requires : tie.Need-smith_lengths-requires
 smith-lengths-requires c κs = search rules
 
-refuse-three-requires : tie.Need-refuse-three-requires
+refuse-three-requires : tie.Need-refuse_three-requires
 refuse-three-requires c κs = search rules
 
-same_length : tie.Need-same-length
+same_length : tie.Need-shape_of-d-then-not-smith_lengths
 same_length c = search rules
 
-same-length-2 : tie.Need-same-length-2
+same-length-2 : tie.Need-shape_of-p-then-not-smith_lengths
 same-length-2 c = search rules
 
-same-length-3 : tie.Need-same-length-3
+same-length-3 : tie.Need-shape_of-q-then-not-smith_lengths
 same-length-3 c = search rules
 
-returns : tie.Need-returns
+returns : tie.Need-returns-then-not-smith_lengths
 returns c =
-    let s = c.before.before.before.before.before.before.before.before.before in
-    let t = c.before.before.before.refuse-three in
+    let s = c in
+    let t = c.refuse_three in
     let e = t.ensures in
-    told-unsized (of_smith (smith_form s.args.a.now)) (length s.args.d.now) (length s.args.p.now) (length s.args.q.now) (no c.before.before.before.before.before.before.before.before.smith-lengths.ensures c.before.before.before.before.before.before.before.if1.true)
-    (held-is t.result t.type-inv ∙ e.0) e.1.0 e.1.1.0 e.1.1.1
+    told-unsized (of_smith (smith_form s.args.a.now)) (length s.args.d.now) (length s.args.p.now) (length s.args.q.now) (no c.smith_lengths.ensures c.if-not-smith_lengths.true-raw)
+    (held-is t.result t.type_inv ∙ e.0) e.1.0 e.1.1.0 e.1.1.1
 
-matrix-at-requires : tie.Need-matrix-at-requires
+matrix-at-requires : tie.Need-matrix_at-requires
 matrix-at-requires c κs =
-    let s = c.before.before in
-    omega (arith, smith-matrix-length (length s.args.a.now) (length s.args.d.now) (length s.args.p.now) (length s.args.q.now) (yes c.before.smith-lengths.ensures c.if1.false))
+    let s = c in
+    omega (arith, smith-matrix-length (length s.args.a.now) (length s.args.d.now) (length s.args.p.now) (length s.args.q.now) (yes c.smith_lengths.ensures c.if-not-smith_lengths.false-raw))
 
 smith3x3-requires : tie.Need-smith3x3-requires
 smith3x3-requires c κs = search rules
 
-tell-smith-requires : tie.Need-tell-smith-requires
+tell-smith-requires : tie.Need-tell_smith-requires
 tell-smith-requires c κs =
-    let s = c.before.before.before.before.before.before.before in
-    smith-result-lengths (length s.args.a.now) (length s.args.d.now) (length s.args.p.now) (length s.args.q.now) (yes c.before.before.before.before.before.before.smith-lengths.ensures c.before.before.before.before.before.if1.false)
+    let s = c in
+    smith-result-lengths (length s.args.a.now) (length s.args.d.now) (length s.args.p.now) (length s.args.q.now) (yes c.smith_lengths.ensures c.if-not-smith_lengths.false-raw)
 
-same-length-4 : tie.Need-same-length-4
+same-length-4 : tie.Need-shape_of-d
 same-length-4 c = search rules
 
-same-length-5 : tie.Need-same-length-5
+same-length-5 : tie.Need-shape_of-p
 same-length-5 c = search rules
 
-same-length-6 : tie.Need-same-length-6
+same-length-6 : tie.Need-shape_of-q
 same-length-6 c = search rules
 
-returns-2 : tie.Need-returns-2
+returns-2 : tie.Need-returns
 returns-2 c =
-    let s = c.before.before.before.before.before.before.before.before.before.before.before in
-    let t = c.before.before.before.tell-smith in
+    let s = c in
+    let t = c.tell_smith in
     let e = t.ensures in
-    smith-passed s.args.a.now (length s.args.d.now) (length s.args.p.now) (length s.args.q.now) (yes c.before.before.before.before.before.before.before.before.before.before.smith-lengths.ensures c.before.before.before.before.before.before.before.before.before.if1.false)
-    c.before.before.before.before.before.before.before.before.matrix-at.ensures c.before.before.before.before.before.before.before.smith3x3.ensures.0 (held-is t.result t.type-inv ∙ e.0) e.1.0 e.1.1.0 e.1.1.1
+    smith-passed s.args.a.now (length s.args.d.now) (length s.args.p.now) (length s.args.q.now) (yes c.smith_lengths.ensures c.if-not-smith_lengths.false-raw)
+    c.matrix_at.ensures c.smith3x3.ensures.0 (held-is t.result t.type_inv ∙ e.0) e.1.0 e.1.1.0 e.1.1.1
 
-pub zone-smith3x3-spec : {M : Type 1} → statement M
-zone-smith3x3-spec =
+pub zone_smith3x3_spec : {M : Type 1} → statement M
+zone_smith3x3_spec =
     tie.close
     (tie.spec
     smith-lengths-requires

@@ -13,50 +13,50 @@ fill-requires c κs = search rules
 answer-requires : tie.Need-answer-requires
 answer-requires c κs = search rules
 
-same_length : tie.Need-same-length
+same_length : tie.Need-shape_of-out-then-d-ne3
 same_length c = search rules
 
-returns : tie.Need-returns
+returns : tie.Need-returns-then-d-ne3
 returns c =
-    let s = c.before.before.before.before.before in
-    addresses-unsized s.args.d.now (length s.args.out.now) c.before.before.before.before.if1.true (held-is c.answer.result c.answer.type-inv ∙ c.answer.ensures) c.before.before.fill.ensures
+    let s = c in
+    addresses-unsized s.args.d.now (length s.args.out.now) c.if-d-ne3.true (held-is c.answer.result c.answer.type_inv ∙ c.answer.ensures) c.fill.ensures
 
-row-at-requires : tie.Need-row-at-requires
+row-at-requires : tie.Need-row_at-requires
 row-at-requires c κs = search rules
 
-all-grid-addresses-requires : tie.Need-all-grid-addresses-requires
+all-grid-addresses-requires : tie.Need-all_grid_addresses-requires
 all-grid-addresses-requires c κs = search rules
 
-enum_told : tie.Need-enum-told
+enum_told : tie.Need-enum_told-1
 enum_told c = search rules
 
-enum-known-r : tie.Need-enum-known-r
+enum-known-r : tie.Need-enum_known-r
 enum-known-r c = search rules
 
-answer-requires-2 : tie.Need-answer-requires-2
+answer-requires-2 : tie.Need-answer-requires-in-Refused
 answer-requires-2 c κs = search rules
 
-same-length-2 : tie.Need-same-length-2
+same-length-2 : tie.Need-shape_of-out-in-Written
 same-length-2 c = search rules
 
-returns-2 : tie.Need-returns-2
+returns-2 : tie.Need-returns-in-Written
 returns-2 c =
-    let s = c.before.before.before.before.before.before.before in
-    let a = c.before.before.before.all-grid-addresses.ensures in
-    addresses-passed s.args.d.now (length s.args.out.now) c.before.before.before.before.before.before.if1.false c.before.before.before.before.before.row_at.ensures a.0 a.1 (sym (ap addresses_number c.enum_told.given.1))
+    let s = c in
+    let a = c.all_grid_addresses.ensures in
+    addresses-passed s.args.d.now (length s.args.out.now) c.if-d-ne3.false c.row_at.ensures a.0 a.1 (sym (ap addresses_number c.in-Written.is))
 
-same-length-3 : tie.Need-same-length-3
+same-length-3 : tie.Need-shape_of-out-in-Refused
 same-length-3 c = search rules
 
-returns-3 : tie.Need-returns-3
+returns-3 : tie.Need-returns-in-Refused
 returns-3 c =
-    let s = c.before.before.before.before.before.before.before.before.before in
-    let a = c.before.before.before.before.before.all-grid-addresses.ensures in
-    addresses-passed s.args.d.now (length s.args.out.now) c.before.before.before.before.before.before.before.before.if1.false c.before.before.before.before.before.before.before.row_at.ensures a.0 a.1
-    (held-is c.answer2.result c.answer2.type-inv ∙ c.answer2.ensures ∙ sym (ap addresses_number c.before.before.r.given.1))
+    let s = c in
+    let a = c.all_grid_addresses.ensures in
+    addresses-passed s.args.d.now (length s.args.out.now) c.if-d-ne3.false c.row_at.ensures a.0 a.1
+    (held-is c.answer-in-Refused.result c.answer-in-Refused.type_inv ∙ c.answer-in-Refused.ensures ∙ sym (ap addresses_number c.in-Refused.is))
 
-pub zone-all-grid-addresses-spec : {M : Type 1} → statement M
-zone-all-grid-addresses-spec =
+pub zone_all_grid_addresses_spec : {M : Type 1} → statement M
+zone_all_grid_addresses_spec =
     tie.close
     (tie.spec
     fill-requires

@@ -10,7 +10,7 @@ use borrow.Author.Rules.{rules}
 use Rattle.zone_c.proofs.marks.zone_mark_candidates.Statement.{statement}
 use Rattle.zone_c.proofs.marks.zone_mark_candidates.Tie as tie
 
-mark-lengths-requires : tie.Need-mark-lengths-requires
+mark-lengths-requires : tie.Need-mark_lengths-requires
 mark-lengths-requires c κs = search rules
 
 fill-requires : tie.Need-fill-requires
@@ -19,65 +19,65 @@ fill-requires c κs = search rules
 answer-requires : tie.Need-answer-requires
 answer-requires c κs = search rules
 
-same_length : tie.Need-same-length
+same_length : tie.Need-shape_of-marks-then-not-mark_lengths
 same_length c = search rules
 
-returns : tie.Need-returns
+returns : tie.Need-returns-then-not-mark_lengths
 returns c =
-    let s = c.before.before.before.before.before.before in
-    marks-unsized s.args.d.now s.args.q.now s.args.ps.now s.args.lowest.now s.args.highest.now s.args.point (length s.args.marks.now) (no c.before.before.before.before.before.mark-lengths.ensures c.before.before.before.before.if1.true)
-    (held-is c.answer.result c.answer.type-inv ∙ c.answer.ensures) c.before.before.fill.ensures
+    let s = c in
+    marks-unsized s.args.d.now s.args.q.now s.args.ps.now s.args.lowest.now s.args.highest.now s.args.point (length s.args.marks.now) (no c.mark_lengths.ensures c.if-not-mark_lengths.true-raw)
+    (held-is c.answer.result c.answer.type_inv ∙ c.answer.ensures) c.fill.ensures
 
-row-at-requires : tie.Need-row-at-requires
-row-at-requires c κs = let s = c.before.before in omega (arith, (mark-lengths (length s.args.d.now) (length s.args.q.now) (length s.args.ps.now) (length s.args.lowest.now) (length s.args.highest.now) (yes c.before.mark-lengths.ensures c.if1.false)).0)
+row-at-requires : tie.Need-row_at-requires
+row-at-requires c κs = let s = c in omega (arith, (mark-lengths (length s.args.d.now) (length s.args.q.now) (length s.args.ps.now) (length s.args.lowest.now) (length s.args.highest.now) (yes c.mark_lengths.ensures c.if-not-mark_lengths.false-raw)).0)
 
-matrix-at-requires : tie.Need-matrix-at-requires
-matrix-at-requires c κs = let s = c.before.before.before in omega (arith, (mark-lengths (length s.args.d.now) (length s.args.q.now) (length s.args.ps.now) (length s.args.lowest.now) (length s.args.highest.now) (yes c.before.before.mark-lengths.ensures c.before.if1.false)).1)
+matrix-at-requires : tie.Need-matrix_at-requires
+matrix-at-requires c κs = let s = c in omega (arith, (mark-lengths (length s.args.d.now) (length s.args.q.now) (length s.args.ps.now) (length s.args.lowest.now) (length s.args.highest.now) (yes c.mark_lengths.ensures c.if-not-mark_lengths.false-raw)).1)
 
-row-at-requires-2 : tie.Need-row-at-requires-2
-row-at-requires-2 c κs = let s = c.before.before.before.before in omega (arith, (mark-lengths (length s.args.d.now) (length s.args.q.now) (length s.args.ps.now) (length s.args.lowest.now) (length s.args.highest.now) (yes c.before.before.before.mark-lengths.ensures c.before.before.if1.false)).2)
+row-at-requires-2 : tie.Need-row_at-requires-2
+row-at-requires-2 c κs = let s = c in omega (arith, (mark-lengths (length s.args.d.now) (length s.args.q.now) (length s.args.ps.now) (length s.args.lowest.now) (length s.args.highest.now) (yes c.mark_lengths.ensures c.if-not-mark_lengths.false-raw)).2)
 
-ranges-at-requires : tie.Need-ranges-at-requires
-ranges-at-requires c κs = let s = c.before.before.before.before.before in (mark-lengths (length s.args.d.now) (length s.args.q.now) (length s.args.ps.now) (length s.args.lowest.now) (length s.args.highest.now) (yes c.before.before.before.before.mark-lengths.ensures c.before.before.before.if1.false)).3
+ranges-at-requires : tie.Need-ranges_at-requires
+ranges-at-requires c κs = let s = c in (mark-lengths (length s.args.d.now) (length s.args.q.now) (length s.args.ps.now) (length s.args.lowest.now) (length s.args.highest.now) (yes c.mark_lengths.ensures c.if-not-mark_lengths.false-raw)).3
 
-mark-candidates-requires : tie.Need-mark-candidates-requires
+mark-candidates-requires : tie.Need-mark_candidates-requires
 mark-candidates-requires c κs = search rules
 
-enum_told : tie.Need-enum-told
+enum_told : tie.Need-enum_told-1
 enum_told c = search rules
 
-enum-known-r : tie.Need-enum-known-r
+enum-known-r : tie.Need-enum_known-r
 enum-known-r c = search rules
 
-answer-requires-2 : tie.Need-answer-requires-2
+answer-requires-2 : tie.Need-answer-requires-in-Refused
 answer-requires-2 c κs = search rules
 
-same-length-2 : tie.Need-same-length-2
+same-length-2 : tie.Need-shape_of-marks-in-Accepted
 same-length-2 c = search rules
 
-returns-2 : tie.Need-returns-2
+returns-2 : tie.Need-returns-in-Accepted
 returns-2 c =
-    let s = c.before.before.before.before.before.before.before.before.before.before.before in
-    let a = c.before.before.before.mark-candidates.ensures in
-    let r = c.before.before.before.before.before.ranges-at.ensures in
-    marks-passed s.args.d.now s.args.q.now s.args.ps.now s.args.lowest.now s.args.highest.now s.args.point (length s.args.marks.now) (yes c.before.before.before.before.before.before.before.before.before.before.mark-lengths.ensures c.before.before.before.before.before.before.before.before.before.if1.false)
-    c.before.before.before.before.before.before.before.before.row_at.ensures c.before.before.before.before.before.before.before.matrix-at.ensures c.before.before.before.before.before.before.row-at2.ensures r.0 r.1 (to_z-of_z s.ranges.point) a.0 a.1
-    (sym (ap answer_of c.enum_told.given.1))
+    let s = c in
+    let a = c.mark_candidates.ensures in
+    let r = c.ranges_at.ensures in
+    marks-passed s.args.d.now s.args.q.now s.args.ps.now s.args.lowest.now s.args.highest.now s.args.point (length s.args.marks.now) (yes c.mark_lengths.ensures c.if-not-mark_lengths.false-raw)
+    c.row_at.ensures c.matrix_at.ensures c.row_at-2.ensures r.0 r.1 (to_z-of_z s.ranges.point) a.0 a.1
+    (sym (ap answer_of c.in-Accepted.is))
 
-same-length-3 : tie.Need-same-length-3
+same-length-3 : tie.Need-shape_of-marks-in-Refused
 same-length-3 c = search rules
 
-returns-3 : tie.Need-returns-3
+returns-3 : tie.Need-returns-in-Refused
 returns-3 c =
-    let s = c.before.before.before.before.before.before.before.before.before.before.before.before.before in
-    let a = c.before.before.before.before.before.mark-candidates.ensures in
-    let r = c.before.before.before.before.before.before.before.ranges-at.ensures in
-    marks-passed s.args.d.now s.args.q.now s.args.ps.now s.args.lowest.now s.args.highest.now s.args.point (length s.args.marks.now) (yes c.before.before.before.before.before.before.before.before.before.before.before.before.mark-lengths.ensures c.before.before.before.before.before.before.before.before.before.before.before.if1.false)
-    c.before.before.before.before.before.before.before.before.before.before.row_at.ensures c.before.before.before.before.before.before.before.before.before.matrix-at.ensures c.before.before.before.before.before.before.before.before.row-at2.ensures r.0 r.1 (to_z-of_z s.ranges.point) a.0 a.1
-    (held-is c.answer2.result c.answer2.type-inv ∙ c.answer2.ensures ∙ sym (ap answer_of c.before.before.r.given.1))
+    let s = c in
+    let a = c.mark_candidates.ensures in
+    let r = c.ranges_at.ensures in
+    marks-passed s.args.d.now s.args.q.now s.args.ps.now s.args.lowest.now s.args.highest.now s.args.point (length s.args.marks.now) (yes c.mark_lengths.ensures c.if-not-mark_lengths.false-raw)
+    c.row_at.ensures c.matrix_at.ensures c.row_at-2.ensures r.0 r.1 (to_z-of_z s.ranges.point) a.0 a.1
+    (held-is c.answer-in-Refused.result c.answer-in-Refused.type_inv ∙ c.answer-in-Refused.ensures ∙ sym (ap answer_of c.in-Refused.is))
 
-pub zone-mark-candidates-spec : {M : Type 1} → statement M
-zone-mark-candidates-spec =
+pub zone_mark_candidates_spec : {M : Type 1} → statement M
+zone_mark_candidates_spec =
     tie.close
     (tie.spec
     mark-lengths-requires

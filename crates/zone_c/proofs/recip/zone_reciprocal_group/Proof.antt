@@ -5,24 +5,24 @@ use Rattle.answers.proofs.GroupAnswers.{group-passed-on}
 use Rattle.zone_c.proofs.recip.zone_reciprocal_group.Statement.{statement}
 use Rattle.zone_c.proofs.recip.zone_reciprocal_group.Tie as tie
 
-reciprocal-group-requires : tie.Need-reciprocal-group-requires
+reciprocal-group-requires : tie.Need-reciprocal_group-answer-requires
 reciprocal-group-requires c κs = search rules
 
-tell-group-requires : tie.Need-tell-group-requires
+tell-group-requires : tie.Need-tell_group-requires
 tell-group-requires c κs =
-    let a = c.before.before.before.before.before.args in
-    rw c.before.before.before.reciprocal-group.ensures.0 (count_small a.rotations.now a.time-reversal (length a.out.now))
+    let a = c.args in
+    rw c.reciprocal_group-answer.ensures.0 (count_small a.rotations.now a.time_reversal (length a.out.now))
 
-same_length : tie.Need-same-length
+same_length : tie.Need-shape_of-out
 same_length c = search rules
 
-same-length-2 : tie.Need-same-length-2
+same-length-2 : tie.Need-shape_of-told
 same-length-2 c = search rules
 
 returns : tie.Need-returns
-returns c = group-passed-on c.before.before.tell-group.type-inv c.before.before.before.before.before.before.reciprocal-group.ensures.0 c.before.before.before.before.before.before.reciprocal-group.ensures.1 (search rules) c.before.before.tell-group.ensures
+returns c = group-passed-on c.tell_group.type_inv c.reciprocal_group-answer.ensures.0 c.reciprocal_group-answer.ensures.1 (search rules) c.tell_group.ensures
 
-pub zone-reciprocal-group-spec : {M : Type 1} → statement M
-zone-reciprocal-group-spec =
+pub zone_reciprocal_group_spec : {M : Type 1} → statement M
+zone_reciprocal_group_spec =
     tie.close
     (tie.spec reciprocal-group-requires tell-group-requires same_length same-length-2 returns)

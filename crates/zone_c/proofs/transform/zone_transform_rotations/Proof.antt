@@ -9,7 +9,7 @@ use borrow.Author.Rules.{rules}
 use Rattle.zone_c.proofs.transform.zone_transform_rotations.Statement.{statement}
 use Rattle.zone_c.proofs.transform.zone_transform_rotations.Tie as tie
 
-transform-lengths-requires : tie.Need-transform-lengths-requires
+transform-lengths-requires : tie.Need-transform_lengths-requires
 transform-lengths-requires c κs = search rules
 
 fill-requires : tie.Need-fill-requires
@@ -18,58 +18,58 @@ fill-requires c κs = search rules
 answer-requires : tie.Need-answer-requires
 answer-requires c κs = search rules
 
-same_length : tie.Need-same-length
+same_length : tie.Need-shape_of-out-then-not-transform_lengths
 same_length c = search rules
 
-returns : tie.Need-returns
+returns : tie.Need-returns-then-not-transform_lengths
 returns c =
-    let s = c.before.before.before.before.before.before in
-    transform-unsized s.args.rotations.now s.args.d.now s.args.q.now (length s.args.out.now) (no c.before.before.before.before.before.transform-lengths.ensures c.before.before.before.before.if1.true) (held-is c.answer.result c.answer.type-inv ∙ c.answer.ensures) c.before.before.fill.ensures
+    let s = c in
+    transform-unsized s.args.rotations.now s.args.d.now s.args.q.now (length s.args.out.now) (no c.transform_lengths.ensures c.if-not-transform_lengths.true-raw) (held-is c.answer.result c.answer.type_inv ∙ c.answer.ensures) c.fill.ensures
 
-row-at-requires : tie.Need-row-at-requires
+row-at-requires : tie.Need-row_at-requires
 row-at-requires c κs =
-    let s = c.before.before in
-    omega (arith, (lengths (length s.args.d.now) (length s.args.q.now) (yes c.before.transform-lengths.ensures c.if1.false)).0)
+    let s = c in
+    omega (arith, (lengths (length s.args.d.now) (length s.args.q.now) (yes c.transform_lengths.ensures c.if-not-transform_lengths.false-raw)).0)
 
-matrix-at-requires : tie.Need-matrix-at-requires
+matrix-at-requires : tie.Need-matrix_at-requires
 matrix-at-requires c κs =
-    let s = c.before.before.before in
-    omega (arith, (lengths (length s.args.d.now) (length s.args.q.now) (yes c.before.before.transform-lengths.ensures c.before.if1.false)).1)
+    let s = c in
+    omega (arith, (lengths (length s.args.d.now) (length s.args.q.now) (yes c.transform_lengths.ensures c.if-not-transform_lengths.false-raw)).1)
 
-transform-rotations-requires : tie.Need-transform-rotations-requires
+transform-rotations-requires : tie.Need-transform_rotations-requires
 transform-rotations-requires c κs = search rules
 
-enum_told : tie.Need-enum-told
+enum_told : tie.Need-enum_told-1
 enum_told c = search rules
 
-enum-known-r : tie.Need-enum-known-r
+enum-known-r : tie.Need-enum_known-r
 enum-known-r c = search rules
 
-answer-requires-2 : tie.Need-answer-requires-2
+answer-requires-2 : tie.Need-answer-requires-in-Refused
 answer-requires-2 c κs = search rules
 
-same-length-2 : tie.Need-same-length-2
+same-length-2 : tie.Need-shape_of-out-in-Written
 same-length-2 c = search rules
 
-returns-2 : tie.Need-returns-2
+returns-2 : tie.Need-returns-in-Written
 returns-2 c =
-    let s = c.before.before.before.before.before.before.before.before.before in
-    let a = c.before.before.before.transform-rotations.ensures in
-    transform-passed s.args.rotations.now s.args.d.now s.args.q.now (length s.args.out.now) (yes c.before.before.before.before.before.before.before.before.transform-lengths.ensures c.before.before.before.before.before.before.before.if1.false)
-    c.before.before.before.before.before.before.row_at.ensures c.before.before.before.before.before.matrix-at.ensures a.0 a.1 (sym (ap transformed_number c.enum_told.given.1))
+    let s = c in
+    let a = c.transform_rotations.ensures in
+    transform-passed s.args.rotations.now s.args.d.now s.args.q.now (length s.args.out.now) (yes c.transform_lengths.ensures c.if-not-transform_lengths.false-raw)
+    c.row_at.ensures c.matrix_at.ensures a.0 a.1 (sym (ap transformed_number c.in-Written.is))
 
-same-length-3 : tie.Need-same-length-3
+same-length-3 : tie.Need-shape_of-out-in-Refused
 same-length-3 c = search rules
 
-returns-3 : tie.Need-returns-3
+returns-3 : tie.Need-returns-in-Refused
 returns-3 c =
-    let s = c.before.before.before.before.before.before.before.before.before.before.before in
-    let a = c.before.before.before.before.before.transform-rotations.ensures in
-    transform-passed s.args.rotations.now s.args.d.now s.args.q.now (length s.args.out.now) (yes c.before.before.before.before.before.before.before.before.before.before.transform-lengths.ensures c.before.before.before.before.before.before.before.before.before.if1.false)
-    c.before.before.before.before.before.before.before.before.row_at.ensures c.before.before.before.before.before.before.before.matrix-at.ensures a.0 a.1 (held-is c.answer2.result c.answer2.type-inv ∙ c.answer2.ensures ∙ sym (ap transformed_number c.before.before.r.given.1))
+    let s = c in
+    let a = c.transform_rotations.ensures in
+    transform-passed s.args.rotations.now s.args.d.now s.args.q.now (length s.args.out.now) (yes c.transform_lengths.ensures c.if-not-transform_lengths.false-raw)
+    c.row_at.ensures c.matrix_at.ensures a.0 a.1 (held-is c.answer-in-Refused.result c.answer-in-Refused.type_inv ∙ c.answer-in-Refused.ensures ∙ sym (ap transformed_number c.in-Refused.is))
 
-pub zone-transform-rotations-spec : {M : Type 1} → statement M
-zone-transform-rotations-spec =
+pub zone_transform_rotations_spec : {M : Type 1} → statement M
+zone_transform_rotations_spec =
     tie.close
     (tie.spec
     transform-lengths-requires

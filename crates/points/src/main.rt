@@ -3,19 +3,10 @@
 
 mod pairs;
 
-fn print_number(n: i64) {
-    if n < 0 {
-        io::write_all(1, b"-");
-    }
-    io::print_decimal(1, integer::unsigned_abs(n));
-}
+use std::io;
 
-fn round(name: &[u8], x: f64) {
-    io::write_all(1, b"round ");
-    io::write_all(1, name);
-    io::write_all(1, b": ");
-    print_number(numbers_c::zone_nint(x));
-    io::write_all(1, b"\n");
+fn round(rt: &impl Print, name: &str, x: f64) -> io::Result<()> {
+    println!(rt; "round {name}: {}", numbers_c::zone_nint(x))
 }
 
 fn store(list: &mut [i64], at: usize, v: i64) {
@@ -37,7 +28,12 @@ fn distinct(rotations: &mut [i64]) {
 }
 
 // The reciprocal point group of a list of distinct rotations: the answer, and the count told.
-fn reciprocal(name: &[u8], rotations: &mut [i64], time_reversal: bool) {
+fn reciprocal(
+    rt: &impl Print,
+    name: &str,
+    rotations: &mut [i64],
+    time_reversal: bool,
+) -> io::Result<()> {
     distinct(rotations);
     let mut out = [0i64; 432];
     let mut told = [0i64; 1];
@@ -48,27 +44,20 @@ fn reciprocal(name: &[u8], rotations: &mut [i64], time_reversal: bool) {
         &mut out,
         &mut told,
     );
-    io::write_all(1, name);
-    io::write_all(1, b": ");
-    print_number(answer);
-    io::write_all(1, b", count ");
-    print_number(told[0]);
-    io::write_all(1, b"\n");
+    let count = told[0];
+    println!(rt; "{name}: {answer}, count {count}")
 }
 
-fn print_list(name: &[u8], list: &[i64]) {
-    io::write_all(1, name);
-    let mut i = 0;
-    while i < list.len() {
-        io::write_all(1, b" ");
-        print_number(list[i]);
-        i += 1;
+fn print_list(rt: &impl Print, name: &str, list: &[i64]) -> io::Result<()> {
+    print!(rt; "{name}")?;
+    for n in list {
+        print!(rt; " {n}")?;
     }
-    io::write_all(1, b"\n");
+    println!(rt;)
 }
 
 // The images of d (2,1,1), identity Q and lattice.
-fn images() {
+fn images(rt: &impl Print) -> io::Result<()> {
     let mut addresses = [0i64; 9];
     let mut map = [0i64; 3];
     let mut grg = [0i64; 3];
@@ -84,13 +73,13 @@ fn images() {
         &mut grg,
         &mut told,
     );
-    print_list(b"images, d (2,1,1):", &[answer]);
-    print_list(b"addresses:", &addresses);
-    print_list(b"dense map:", &map);
+    print_list(rt, "images, d (2,1,1):", &[answer])?;
+    print_list(rt, "addresses:", &addresses)?;
+    print_list(rt, "dense map:", &map)
 }
 
 // The triplets of the listing, in a dense table of three points with one image each.
-fn triplets() {
+fn triplets(rt: &impl Print) -> io::Result<()> {
     let mut out = [0i64; 6];
     let mut left = [0i64; 2];
     let mut left_length = [0.0f64; 2];
@@ -107,37 +96,38 @@ fn triplets() {
         &mut left,
         &mut left_length,
     );
-    print_list(b"triplets, d (1,1,3), q0 = 1:", &[answer]);
-    print_list(b"places:", &out);
-    print_list(b"closed:", &left);
-    round(b"the length left over", left_length[1]);
+    print_list(rt, "triplets, d (1,1,3), q0 = 1:", &[answer])?;
+    print_list(rt, "places:", &out)?;
+    print_list(rt, "closed:", &left)?;
+    round(rt, "the length left over", left_length[1])
 }
 
-fn worst_pair(name: &[u8], limit: i64) {
+fn worst_pair(rt: &impl Print, name: &str, limit: i64) -> io::Result<()> {
     let mut told = [0i64; 3];
     let answer = zone_c::zone_worst_pair(limit, &mut told);
-    print_list(name, &[answer, told[0], told[1], told[2]]);
+    print_list(rt, name, &[answer, told[0], told[1], told[2]])
 }
 
-fn main() {
-    round(b"2.5", 2.5);
-    round(b"-2.5", -2.5);
-    round(b"0.49999999999999994", 0.49999999999999994);
+fn main(rt: HostRuntime) -> io::Result<()> {
+    round(&rt, "2.5", 2.5)?;
+    round(&rt, "-2.5", -2.5)?;
+    round(&rt, "0.49999999999999994", 0.49999999999999994)?;
     let mut list = [0i64; 432];
-    reciprocal(b"48 rotations", &mut list, false);
+    reciprocal(&rt, "48 rotations", &mut list, false)?;
     let mut list = [0i64; 441];
-    reciprocal(b"49 rotations", &mut list, false);
+    reciprocal(&rt, "49 rotations", &mut list, false)?;
     let mut list = [0i64; 216];
-    reciprocal(b"24 rotations, time reversal", &mut list, true);
+    reciprocal(&rt, "24 rotations, time reversal", &mut list, true)?;
     let mut list = [0i64; 225];
-    reciprocal(b"25 rotations, time reversal", &mut list, true);
-    images();
-    triplets();
-    worst_pair(b"worst pair up to 1000000:", 1000000);
-    worst_pair(b"up to 0:", 0);
-    worst_pair(b"up to 1000001:", 1000001);
+    reciprocal(&rt, "25 rotations, time reversal", &mut list, true)?;
+    images(&rt)?;
+    triplets(&rt)?;
+    worst_pair(&rt, "worst pair up to 1000000:", 1000000)?;
+    worst_pair(&rt, "up to 0:", 0)?;
+    worst_pair(&rt, "up to 1000001:", 1000001)?;
     print_list(
-        b"limits to 300 whose worst pair the trial of all pairs finds:",
+        &rt,
+        "limits to 300 whose worst pair the trial of all pairs finds:",
         &[pairs::agreeing()],
-    );
+    )
 }

@@ -7,6 +7,8 @@
 mod marks;
 mod weights;
 
+use std::io;
+use std::rt::Files;
 use vectors::tally::Tally;
 use vectors::{Verdict, text};
 
@@ -36,16 +38,16 @@ fn replay(function: usize, altered: bool, lines: &[u8]) -> Tally {
     tally
 }
 
-fn replay_file(function: usize, name: &[u8]) {
-    let mut lines = io::large_buffer();
-    let n = replaying::read_vectors(name, &mut lines);
+fn replay_file(rt: &(impl Files + Print), function: usize, name: &[u8]) -> io::Result<()> {
+    let mut lines = [0u8; 65536];
+    let n = replaying::read_vectors(rt, name, &mut lines);
     let tally = replay(function, false, &lines[..n]);
     let altered = replay(function, true, &lines[..n]);
-    replaying::print(name, tally, altered);
+    replaying::print(rt, name, tally, altered)
 }
 
-fn main() {
-    replay_file(CLASS_WEIGHTS, b"class_weights");
-    replay_file(MARK_CANDIDATES, b"mark_candidates");
-    replay_file(CLASS_WEIGHTS, b"control");
+fn main(rt: HostRuntime) -> io::Result<()> {
+    replay_file(&rt, CLASS_WEIGHTS, b"class_weights")?;
+    replay_file(&rt, MARK_CANDIDATES, b"mark_candidates")?;
+    replay_file(&rt, CLASS_WEIGHTS, b"control")
 }

@@ -8,6 +8,8 @@ mod matrices;
 mod outputs;
 mod pairs;
 
+use std::io;
+use std::rt::Files;
 use vectors::tally::Tally;
 use vectors::{Verdict, text};
 
@@ -36,26 +38,26 @@ fn replay(function: usize, altered: bool, lines: &[u8]) -> Tally {
     tally
 }
 
-fn replay_file(function: usize, name: &[u8]) {
-    let mut lines = io::large_buffer();
-    let n = replaying::read_vectors(name, &mut lines);
+fn replay_file(rt: &(impl Files + Print), function: usize, name: &[u8]) -> io::Result<()> {
+    let mut lines = [0u8; 65536];
+    let n = replaying::read_vectors(rt, name, &mut lines);
     let tally = replay(function, false, &lines[..n]);
     let altered = replay(function, true, &lines[..n]);
-    replaying::print(name, tally, altered);
+    replaying::print(rt, name, tally, altered)
 }
 
-fn main() {
-    replay_file(outputs::RECIPROCAL_POINT_GROUP, b"reciprocal_point_group");
-    replay_file(outputs::RECIPROCAL_ROTATIONS, b"reciprocal_rotations");
-    replay_file(outputs::RECIPROCAL_GROUP, b"reciprocal_group");
-    replay_file(outputs::IR_GRID_MAP, b"ir_grid_map");
-    replay_file(outputs::ALL_GRID_ADDRESSES, b"all_grid_addresses");
-    replay_file(matrices::SNF3X3, b"snf3x3");
-    replay_file(matrices::SMITH3X3, b"smith3x3");
-    replay_file(matrices::HERMITE3X3, b"hermite3x3");
-    replay_file(matrices::ORDER_FORMS, b"order_forms");
-    replay_file(matrices::SAME_GRID, b"same_grid");
-    replay_file(pairs::WORST_PAIR, b"worst_pair");
-    replay_file(outputs::TRANSFORM_ROTATIONS, b"transform_rotations");
-    replay_file(outputs::IR_GRID_MAP, b"control");
+fn main(rt: HostRuntime) -> io::Result<()> {
+    replay_file(&rt, outputs::RECIPROCAL_POINT_GROUP, b"reciprocal_point_group")?;
+    replay_file(&rt, outputs::RECIPROCAL_ROTATIONS, b"reciprocal_rotations")?;
+    replay_file(&rt, outputs::RECIPROCAL_GROUP, b"reciprocal_group")?;
+    replay_file(&rt, outputs::IR_GRID_MAP, b"ir_grid_map")?;
+    replay_file(&rt, outputs::ALL_GRID_ADDRESSES, b"all_grid_addresses")?;
+    replay_file(&rt, matrices::SNF3X3, b"snf3x3")?;
+    replay_file(&rt, matrices::SMITH3X3, b"smith3x3")?;
+    replay_file(&rt, matrices::HERMITE3X3, b"hermite3x3")?;
+    replay_file(&rt, matrices::ORDER_FORMS, b"order_forms")?;
+    replay_file(&rt, matrices::SAME_GRID, b"same_grid")?;
+    replay_file(&rt, pairs::WORST_PAIR, b"worst_pair")?;
+    replay_file(&rt, outputs::TRANSFORM_ROTATIONS, b"transform_rotations")?;
+    replay_file(&rt, outputs::IR_GRID_MAP, b"control")
 }

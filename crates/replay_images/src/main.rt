@@ -7,6 +7,8 @@
 mod points;
 mod tables;
 
+use std::io;
+use std::rt::Files;
 use vectors::tally::Tally;
 use vectors::{Verdict, text};
 
@@ -39,17 +41,17 @@ fn replay(function: usize, altered: bool, lines: &[u8]) -> Tally {
     tally
 }
 
-fn replay_file(function: usize, name: &[u8]) {
-    let mut lines = io::large_buffer();
-    let n = replaying::read_vectors(name, &mut lines);
+fn replay_file(rt: &(impl Files + Print), function: usize, name: &[u8]) -> io::Result<()> {
+    let mut lines = [0u8; 65536];
+    let n = replaying::read_vectors(rt, name, &mut lines);
     let tally = replay(function, false, &lines[..n]);
     let altered = replay(function, true, &lines[..n]);
-    replaying::print(name, tally, altered);
+    replaying::print(rt, name, tally, altered)
 }
 
-fn main() {
-    replay_file(BZ_GRID_ADDRESSES, b"bz_grid_addresses");
-    replay_file(ROTATE_BZ_GRID_INDEX, b"rotate_bz_grid_index");
-    replay_file(NEIGHBORING_GRID_POINTS, b"neighboring_grid_points");
-    replay_file(BZ_GRID_ADDRESSES, b"control");
+fn main(rt: HostRuntime) -> io::Result<()> {
+    replay_file(&rt, BZ_GRID_ADDRESSES, b"bz_grid_addresses")?;
+    replay_file(&rt, ROTATE_BZ_GRID_INDEX, b"rotate_bz_grid_index")?;
+    replay_file(&rt, NEIGHBORING_GRID_POINTS, b"neighboring_grid_points")?;
+    replay_file(&rt, BZ_GRID_ADDRESSES, b"control")
 }

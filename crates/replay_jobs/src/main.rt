@@ -7,6 +7,8 @@
 mod job_file;
 mod runs;
 
+use std::io;
+use std::rt::Files;
 use vectors::tally::Tally;
 use vectors::{Verdict, text};
 
@@ -29,17 +31,17 @@ fn replay(export: bool, altered: bool, lines: &[u8]) -> Tally {
     tally
 }
 
-fn replay_file(export: bool, name: &[u8], call: &[u8]) {
-    let mut lines = io::large_buffer();
-    let n = replaying::read_vectors(name, &mut lines);
+fn replay_file(rt: &(impl Files + Print), export: bool, name: &[u8], call: &[u8]) -> io::Result<()> {
+    let mut lines = [0u8; 65536];
+    let n = replaying::read_vectors(rt, name, &mut lines);
     let tally = replay(export, false, &lines[..n]);
     let altered = replay(export, true, &lines[..n]);
-    replaying::print(call, tally, altered);
+    replaying::print(rt, call, tally, altered)
 }
 
-fn main() {
-    replay_file(false, b"zone_list", b"print_job");
-    replay_file(true, b"zone_list", b"zone_list");
-    replay_file(false, b"control", b"control of print_job");
-    replay_file(true, b"control", b"control of zone_list");
+fn main(rt: HostRuntime) -> io::Result<()> {
+    replay_file(&rt, false, b"zone_list", b"print_job")?;
+    replay_file(&rt, true, b"zone_list", b"zone_list")?;
+    replay_file(&rt, false, b"control", b"control of print_job")?;
+    replay_file(&rt, true, b"control", b"control of zone_list")
 }

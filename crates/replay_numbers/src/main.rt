@@ -8,6 +8,8 @@ mod checked;
 mod floats;
 mod gcd;
 
+use std::io;
+use std::rt::Files;
 use vectors::tally::Tally;
 use vectors::{Verdict, text};
 
@@ -36,32 +38,32 @@ fn replay(function: usize, altered: bool, lines: &[u8]) -> Tally {
     tally
 }
 
-fn replay_file(function: usize, name: &[u8]) {
-    let mut lines = io::large_buffer();
-    let n = replaying::read_vectors(name, &mut lines);
+fn replay_file(rt: &(impl Files + Print), function: usize, name: &[u8]) -> io::Result<()> {
+    let mut lines = [0u8; 65536];
+    let n = replaying::read_vectors(rt, name, &mut lines);
     let tally = replay(function, false, &lines[..n]);
     let altered = replay(function, true, &lines[..n]);
-    replaying::print(name, tally, altered);
+    replaying::print(rt, name, tally, altered)
 }
 
-fn main() {
-    replay_file(checked::ADD, b"checked_add");
-    replay_file(checked::SUB, b"checked_sub");
-    replay_file(checked::MUL, b"checked_mul");
-    replay_file(checked::NEG, b"checked_neg");
-    replay_file(checked::DIV_EUCLID, b"checked_div_euclid");
-    replay_file(checked::REM_EUCLID, b"checked_rem_euclid");
-    replay_file(checked::DIV, b"checked_div");
-    replay_file(checked::REM, b"checked_rem");
-    replay_file(floats::ROUND, b"round");
-    replay_file(floats::FLOOR, b"floor");
-    replay_file(floats::CEIL, b"ceil");
-    replay_file(floats::ABS, b"abs");
-    replay_file(floats::SQRT, b"sqrt");
-    replay_file(floats::TO_I64, b"to_i64");
-    replay_file(floats::NINT, b"nint");
-    replay_file(floats::IS_FINITE, b"is_finite");
-    replay_file(floats::TO_F64, b"to_f64");
-    replay_file(gcd::EXTENDED_GCD, b"extended_gcd");
-    replay_file(checked::DIV, b"control");
+fn main(rt: HostRuntime) -> io::Result<()> {
+    replay_file(&rt, checked::ADD, b"checked_add")?;
+    replay_file(&rt, checked::SUB, b"checked_sub")?;
+    replay_file(&rt, checked::MUL, b"checked_mul")?;
+    replay_file(&rt, checked::NEG, b"checked_neg")?;
+    replay_file(&rt, checked::DIV_EUCLID, b"checked_div_euclid")?;
+    replay_file(&rt, checked::REM_EUCLID, b"checked_rem_euclid")?;
+    replay_file(&rt, checked::DIV, b"checked_div")?;
+    replay_file(&rt, checked::REM, b"checked_rem")?;
+    replay_file(&rt, floats::ROUND, b"round")?;
+    replay_file(&rt, floats::FLOOR, b"floor")?;
+    replay_file(&rt, floats::CEIL, b"ceil")?;
+    replay_file(&rt, floats::ABS, b"abs")?;
+    replay_file(&rt, floats::SQRT, b"sqrt")?;
+    replay_file(&rt, floats::TO_I64, b"to_i64")?;
+    replay_file(&rt, floats::NINT, b"nint")?;
+    replay_file(&rt, floats::IS_FINITE, b"is_finite")?;
+    replay_file(&rt, floats::TO_F64, b"to_f64")?;
+    replay_file(&rt, gcd::EXTENDED_GCD, b"extended_gcd")?;
+    replay_file(&rt, checked::DIV, b"control")
 }

@@ -7,6 +7,8 @@
 mod choices;
 mod classes;
 
+use std::io;
+use std::rt::Files;
 use vectors::tally::Tally;
 use vectors::{Verdict, text};
 
@@ -37,16 +39,16 @@ fn replay(function: usize, altered: bool, lines: &[u8]) -> Tally {
     tally
 }
 
-fn replay_file(function: usize, name: &[u8]) {
-    let mut lines = io::large_buffer();
-    let n = replaying::read_vectors(name, &mut lines);
+fn replay_file(rt: &(impl Files + Print), function: usize, name: &[u8]) -> io::Result<()> {
+    let mut lines = [0u8; 65536];
+    let n = replaying::read_vectors(rt, name, &mut lines);
     let tally = replay(function, false, &lines[..n]);
     let altered = replay(function, true, &lines[..n]);
-    replaying::print(name, tally, altered);
+    replaying::print(rt, name, tally, altered)
 }
 
-fn main() {
-    replay_file(IR_TRIPLETS_AT_Q, b"ir_triplets_at_q");
-    replay_file(BZ_TRIPLETS_AT_Q, b"bz_triplets_at_q");
-    replay_file(BZ_TRIPLETS_AT_Q, b"control");
+fn main(rt: HostRuntime) -> io::Result<()> {
+    replay_file(&rt, IR_TRIPLETS_AT_Q, b"ir_triplets_at_q")?;
+    replay_file(&rt, BZ_TRIPLETS_AT_Q, b"bz_triplets_at_q")?;
+    replay_file(&rt, BZ_TRIPLETS_AT_Q, b"control")
 }

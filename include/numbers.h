@@ -1,4 +1,4 @@
-/* numbers.h: libnumbers_c.a (`rt staticlib numbers_c`), the whole numbers and floats that the port has in the place of
+/* numbers.h: libnumbers_c.a (`tools/archive numbers_c`), the whole numbers and floats that the port has in the place of
  * Rust's own, and the extended gcd inside of zone_snf3x3. The oracle compares them with the Rust; a program that folds
  * crystals needs zone.h alone. */
 #ifndef NUMBERS_H

@@ -1,4 +1,4 @@
-/* zone.h: the zone folding of a diffuse-scattering camera. Archive libzone_c.a (`rt staticlib zone_c`), for C99,
+/* zone.h: the zone folding of a diffuse-scattering camera. Archive libzone_c.a (`tools/archive zone_c`), for C99,
  * C++ and Rust on x86-64 Linux; it needs memcpy and memset and nothing else. examples/ folds a crystal in C and in
  * Rust.
  *

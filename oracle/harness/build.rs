@@ -1,5 +1,5 @@
 //! Links the port's archives: of each crate with exports the file that its
-//! variable names, by default the one that `rt staticlib` writes. Only the exports
+//! variable names, by default the one that `tools/archive` writes. Only the exports
 //! are global symbols there, so the library code that both archives hold does not
 //! collide.
 
@@ -17,7 +17,7 @@ fn link(name: &str, variable: &str) {
     let archive = env::var(variable).unwrap_or(default);
     println!("cargo:rerun-if-changed={archive}");
     let Ok(archive) = Path::new(&archive).canonicalize() else {
-        println!("cargo::error={archive} is missing (rt staticlib {name} writes it)");
+        println!("cargo::error={archive} is missing (tools/archive {name} writes it)");
         process::exit(0);
     };
     // By its path, so that an archive of any name is taken; behind the objects

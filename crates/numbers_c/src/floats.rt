@@ -6,64 +6,55 @@ ghost use Rattle.std.specs.Float.Ieee.Scale.{finite};
 ghost use Rattle.float.specs.Rounding.{round_of, floor_of, ceil_of, abs_of, nint_of};
 ghost use Rattle.float.specs.Sqrt.{sqrt_of};
 
-#[unsafe(no_mangle)]
-pub extern "C" fn zone_round(x: f64) -> f64
+pub fn zone_round(x: f64) -> f64
     ensures { result ≡ round_of x }
 {
     float::round(x)
 }
 
-#[unsafe(no_mangle)]
-pub extern "C" fn zone_floor(x: f64) -> f64
+pub fn zone_floor(x: f64) -> f64
     ensures { result ≡ floor_of x }
 {
     float::floor(x)
 }
 
-#[unsafe(no_mangle)]
-pub extern "C" fn zone_ceil(x: f64) -> f64
+pub fn zone_ceil(x: f64) -> f64
     ensures { result ≡ ceil_of x }
 {
     float::ceil(x)
 }
 
-#[unsafe(no_mangle)]
-pub extern "C" fn zone_abs(x: f64) -> f64
+pub fn zone_abs(x: f64) -> f64
     ensures { result ≡ abs_of x }
 {
     float::abs(x)
 }
 
-#[unsafe(no_mangle)]
-pub extern "C" fn zone_sqrt(x: f64) -> f64
+pub fn zone_sqrt(x: f64) -> f64
     ensures { result ≡ sqrt_of x }
 {
     float::sqrt(x)
 }
 
-#[unsafe(no_mangle)]
-pub extern "C" fn zone_to_i64(x: f64) -> i64
+pub fn zone_to_i64(x: f64) -> i64
     ensures { result ≡ to_signed 63 x }
 {
     float::to_i64(x)
 }
 
-#[unsafe(no_mangle)]
-pub extern "C" fn zone_nint(x: f64) -> i64
+pub fn zone_nint(x: f64) -> i64
     ensures { result ≡ nint_of x }
 {
     float::nint(x)
 }
 
-#[unsafe(no_mangle)]
-pub extern "C" fn zone_to_f64(n: i64) -> f64
+pub fn zone_to_f64(n: i64) -> f64
     ensures { result ≡ of_int binary64 n }
 {
     float::to_f64(n)
 }
 
-#[unsafe(no_mangle)]
-pub extern "C" fn zone_is_finite(x: f64) -> bool
+pub fn zone_is_finite(x: f64) -> bool
     ensures { result ≡ finite x }
 {
     float::is_finite(x)

@@ -6,8 +6,7 @@ use common::Refusal;
 use snf_steps::gcd;
 use snf_steps::gcd::Counted;
 
-#[unsafe(no_mangle)]
-pub extern "C" fn zone_extended_gcd(a: i64, b: i64, told: &mut [i64]) -> i64
+pub fn zone_extended_gcd(a: i64, b: i64, told: &mut [i64]) -> i64
     ensures { GcdTold a b (length told.old) result told.new }
 {
     if told.len() != 4 {

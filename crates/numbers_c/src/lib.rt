@@ -1,5 +1,5 @@
-// Checked operations on i64, functions of f64 and the extended gcd, exported for the comparison with the Rust's own.
-// No part of the archive for the camera, zone_c.
+// Checked operations on i64, functions of f64 and the extended gcd, which numbers_archive exports for the
+// comparison with the Rust's own. No part of the archive for the camera, zone_archive.
 #![tactic(auto)]
 
 mod floats;
@@ -42,57 +42,49 @@ fn tell(answer: Checked, out: &mut [i64]) -> i64
     }
 }
 
-#[unsafe(no_mangle)]
-pub extern "C" fn zone_checked_add(a: i64, b: i64, out: &mut [i64]) -> i64
+pub fn zone_checked_add(a: i64, b: i64, out: &mut [i64]) -> i64
     ensures { Told (checked (a +ℤ b)) out.old result out.new }
 {
     tell(integer::checked_add(a, b), out)
 }
 
-#[unsafe(no_mangle)]
-pub extern "C" fn zone_checked_sub(a: i64, b: i64, out: &mut [i64]) -> i64
+pub fn zone_checked_sub(a: i64, b: i64, out: &mut [i64]) -> i64
     ensures { Told (checked (a -ℤ b)) out.old result out.new }
 {
     tell(integer::checked_sub(a, b), out)
 }
 
-#[unsafe(no_mangle)]
-pub extern "C" fn zone_checked_mul(a: i64, b: i64, out: &mut [i64]) -> i64
+pub fn zone_checked_mul(a: i64, b: i64, out: &mut [i64]) -> i64
     ensures { Told (checked (a *ℤ b)) out.old result out.new }
 {
     tell(integer::checked_mul(a, b), out)
 }
 
-#[unsafe(no_mangle)]
-pub extern "C" fn zone_checked_div(a: i64, d: i64, out: &mut [i64]) -> i64
+pub fn zone_checked_div(a: i64, d: i64, out: &mut [i64]) -> i64
     ensures { Told (divided d (quot_z a d) (quot_z a d)) out.old result out.new }
 {
     tell(integer::checked_div(a, d), out)
 }
 
-#[unsafe(no_mangle)]
-pub extern "C" fn zone_checked_rem(a: i64, d: i64, out: &mut [i64]) -> i64
+pub fn zone_checked_rem(a: i64, d: i64, out: &mut [i64]) -> i64
     ensures { Told (divided d (quot_z a d) (rem_z a d)) out.old result out.new }
 {
     tell(integer::checked_rem(a, d), out)
 }
 
-#[unsafe(no_mangle)]
-pub extern "C" fn zone_checked_div_euclid(a: i64, d: i64, out: &mut [i64]) -> i64
+pub fn zone_checked_div_euclid(a: i64, d: i64, out: &mut [i64]) -> i64
     ensures { Told (divided d (div_euclid a d) (div_euclid a d)) out.old result out.new }
 {
     tell(integer::checked_div_euclid(a, d), out)
 }
 
-#[unsafe(no_mangle)]
-pub extern "C" fn zone_checked_rem_euclid(a: i64, d: i64, out: &mut [i64]) -> i64
+pub fn zone_checked_rem_euclid(a: i64, d: i64, out: &mut [i64]) -> i64
     ensures { Told (divided d (div_euclid a d) (rem_euclid a d)) out.old result out.new }
 {
     tell(integer::checked_rem_euclid(a, d), out)
 }
 
-#[unsafe(no_mangle)]
-pub extern "C" fn zone_checked_neg(a: i64, out: &mut [i64]) -> i64
+pub fn zone_checked_neg(a: i64, out: &mut [i64]) -> i64
     ensures { Told (checked (neg_ℤ a)) out.old result out.new }
 {
     tell(integer::checked_neg(a), out)

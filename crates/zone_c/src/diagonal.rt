@@ -2,14 +2,7 @@
 ghost use Rattle.std.specs.Prelude.{length};
 ghost use Rattle.answers.specs.Diagonals.{Snf3x3Told, Smith3x3Told};
 
-#[unsafe(no_mangle)]
-pub extern "C" fn zone_snf3x3(
-    a: &[i64],
-    d: &mut [i64],
-    p: &mut [i64],
-    q: &mut [i64],
-    told: &mut [i64],
-) -> i64
+pub fn zone_snf3x3(a: &[i64], d: &mut [i64], p: &mut [i64], q: &mut [i64], told: &mut [i64]) -> i64
     ensures { Snf3x3Told a.now (length d.old) (length p.old) (length q.old) (length told.old) result d.new p.new q.new told.new }
 {
     if !answers::diagonal_lengths(a.len(), d.len(), p.len(), q.len(), told.len()) {
@@ -18,8 +11,7 @@ pub extern "C" fn zone_snf3x3(
     answers::tell_diagonal(snf3x3::snf3x3(common::matrix_at(a, 0)), d, p, q, told)
 }
 
-#[unsafe(no_mangle)]
-pub extern "C" fn zone_smith3x3(a: &[i64], d: &mut [i64], p: &mut [i64], q: &mut [i64]) -> i64
+pub fn zone_smith3x3(a: &[i64], d: &mut [i64], p: &mut [i64], q: &mut [i64]) -> i64
     ensures { Smith3x3Told a.now (length d.old) (length p.old) (length q.old)
         result d.new p.new q.new }
 {

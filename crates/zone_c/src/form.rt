@@ -4,8 +4,7 @@ ghost use Rattle.answers.specs.Forms.{Hermite3x3Told, OrderFormsTold, SameGridTo
 
 use common::Refusal;
 
-#[unsafe(no_mangle)]
-pub extern "C" fn zone_hermite3x3(a: &[i64], h: &mut [i64]) -> i64
+pub fn zone_hermite3x3(a: &[i64], h: &mut [i64]) -> i64
     ensures { Hermite3x3Told a.now (length h.old) result h.new }
 {
     if !answers::form_lengths(a.len(), h.len()) {
@@ -16,8 +15,7 @@ pub extern "C" fn zone_hermite3x3(a: &[i64], h: &mut [i64]) -> i64
 }
 
 // Whether the first comes before the second (0), is equal to it (1), or comes after it (2).
-#[unsafe(no_mangle)]
-pub extern "C" fn zone_order_forms(g: &[i64], h: &[i64], told: &mut [i64]) -> i64
+pub fn zone_order_forms(g: &[i64], h: &[i64], told: &mut [i64]) -> i64
     ensures { OrderFormsTold g.now h.now (length told.old) result told.new }
 {
     if !common::all_three(g.len() == 9, h.len() == 9, told.len() == 1) {
@@ -29,8 +27,7 @@ pub extern "C" fn zone_order_forms(g: &[i64], h: &[i64], told: &mut [i64]) -> i6
     answers::tell_order(hermite3x3::order_forms(first, second), told)
 }
 
-#[unsafe(no_mangle)]
-pub extern "C" fn zone_same_grid(a: &[i64], b: &[i64], told: &mut [i64]) -> i64
+pub fn zone_same_grid(a: &[i64], b: &[i64], told: &mut [i64]) -> i64
     ensures { SameGridTold a.now b.now (length told.old) result told.new }
 {
     if !common::all_three(a.len() == 9, b.len() == 9, told.len() == 1) {

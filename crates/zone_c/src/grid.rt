@@ -5,8 +5,7 @@ ghost use Rattle.answers.specs.Grids.{IrGridMapTold, AddressesTold};
 use common::Refusal;
 use grgrid::Addresses;
 
-#[unsafe(no_mangle)]
-pub extern "C" fn zone_ir_grid_map(
+pub fn zone_ir_grid_map(
     rotations: &[i64],
     d: &[i64],
     ps: &[i64],
@@ -26,8 +25,7 @@ pub extern "C" fn zone_ir_grid_map(
     )
 }
 
-#[unsafe(no_mangle)]
-pub extern "C" fn zone_all_grid_addresses(d: &[i64], out: &mut [i64]) -> i64
+pub fn zone_all_grid_addresses(d: &[i64], out: &mut [i64]) -> i64
     ensures { AddressesTold d.now (length out.old) result out.new }
 {
     if d.len() != 3 {

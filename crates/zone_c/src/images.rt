@@ -5,8 +5,7 @@ ghost use Rattle.answers.specs.Images.{BzGridAddressesTold, RotateTold, Neighbou
 use bztable::Neighbours;
 use common::Refusal;
 
-#[unsafe(no_mangle)]
-pub extern "C" fn zone_bz_grid_addresses(
+pub fn zone_bz_grid_addresses(
     d: &[i64],
     q: &[i64],
     ps: &[i64],
@@ -37,8 +36,7 @@ pub extern "C" fn zone_bz_grid_addresses(
     )
 }
 
-#[unsafe(no_mangle)]
-pub extern "C" fn zone_rotate_bz_grid_index(
+pub fn zone_rotate_bz_grid_index(
     index: i64,
     rotation: &[i64],
     addresses: &[i64],
@@ -68,8 +66,7 @@ pub extern "C" fn zone_rotate_bz_grid_index(
     )
 }
 
-#[unsafe(no_mangle)]
-pub extern "C" fn zone_neighboring_grid_points(
+pub fn zone_neighboring_grid_points(
     points: &[i64],
     offsets: &[i64],
     addresses: &[i64],

@@ -1,4 +1,4 @@
-// The exports for C and Rust. Each answers 0, or document 01's number of the refusal.
+// The calls that zone_archive exports for C and Rust. Each answers 0, or document 01's number of the refusal.
 #![tactic(auto)]
 
 mod diagonal;

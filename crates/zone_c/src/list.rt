@@ -51,8 +51,7 @@ fn tell_listing(answer: Listing, told: &mut [i64]) -> i64
     }
 }
 
-#[unsafe(no_mangle)]
-pub extern "C" fn zone_list(job: &[u8], text: &mut [u8], told: &mut [i64]) -> i64
+pub fn zone_list(job: &[u8], text: &mut [u8], told: &mut [i64]) -> i64
     ensures { ZoneListTold job.now (length text.old) (length told.old) result text.new told.new }
 {
     if told.len() != 1 {

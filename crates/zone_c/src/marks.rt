@@ -4,8 +4,7 @@ ghost use Rattle.answers.specs.Marks.{MarkCandidatesTold};
 
 use common::{Refusal, Tested};
 
-#[unsafe(no_mangle)]
-pub extern "C" fn zone_mark_candidates(
+pub fn zone_mark_candidates(
     d: &[i64],
     q: &[i64],
     ps: &[i64],

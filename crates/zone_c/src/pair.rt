@@ -4,8 +4,7 @@ ghost use Rattle.answers.specs.WorstPairs.{WorstPairTold};
 
 use common::Refusal;
 
-#[unsafe(no_mangle)]
-pub extern "C" fn zone_worst_pair(limit: i64, told: &mut [i64]) -> i64
+pub fn zone_worst_pair(limit: i64, told: &mut [i64]) -> i64
     ensures { WorstPairTold limit (length told.old) result told.new }
 {
     let pair = worst_pair::worst_pair(limit);

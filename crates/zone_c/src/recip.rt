@@ -4,8 +4,7 @@ ghost use Rattle.recip_rotations.specs.PointGroup.{point_group_answer, point_gro
 ghost use Rattle.rotation_group.specs.ReciprocalGroup.{reciprocal_answer, reciprocal_written};
 ghost use Rattle.answers.specs.PointGroupTold.{PointGroupTold};
 
-#[unsafe(no_mangle)]
-pub extern "C" fn zone_reciprocal_point_group(
+pub fn zone_reciprocal_point_group(
     rotations: &[i64],
     time_reversal: bool,
     transpose: bool,
@@ -23,8 +22,7 @@ pub extern "C" fn zone_reciprocal_point_group(
     answers::tell_group(answer, out, told)
 }
 
-#[unsafe(no_mangle)]
-pub extern "C" fn zone_reciprocal_rotations(
+pub fn zone_reciprocal_rotations(
     rotations: &[i64],
     time_reversal: bool,
     out: &mut [i64],
@@ -36,8 +34,7 @@ pub extern "C" fn zone_reciprocal_rotations(
     answers::tell_group(answer, out, told)
 }
 
-#[unsafe(no_mangle)]
-pub extern "C" fn zone_reciprocal_group(
+pub fn zone_reciprocal_group(
     rotations: &[i64],
     time_reversal: bool,
     out: &mut [i64],

@@ -5,13 +5,7 @@ ghost use Rattle.answers.specs.Transforms.{TransformRotationsTold};
 use common::Refusal;
 use transform_rotations::Transformed;
 
-#[unsafe(no_mangle)]
-pub extern "C" fn zone_transform_rotations(
-    rotations: &[i64],
-    d: &[i64],
-    q: &[i64],
-    out: &mut [i64],
-) -> i64
+pub fn zone_transform_rotations(rotations: &[i64], d: &[i64], q: &[i64], out: &mut [i64]) -> i64
     ensures { TransformRotationsTold rotations.now d.now q.now (length out.old) result out.new }
 {
     if !answers::transform_lengths(d.len(), q.len()) {

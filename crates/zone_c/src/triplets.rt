@@ -2,8 +2,7 @@
 ghost use Rattle.std.specs.Prelude.{length};
 ghost use Rattle.answers.specs.Triplets.{IrTripletsTold, BzTripletsTold};
 
-#[unsafe(no_mangle)]
-pub extern "C" fn zone_ir_triplets_at_q(
+pub fn zone_ir_triplets_at_q(
     q0: i64,
     d: &[i64],
     rotations: &[i64],
@@ -32,8 +31,7 @@ pub extern "C" fn zone_ir_triplets_at_q(
     )
 }
 
-#[unsafe(no_mangle)]
-pub extern "C" fn zone_bz_triplets_at_q(
+pub fn zone_bz_triplets_at_q(
     q0: i64,
     addresses: &[i64],
     map: &[i64],

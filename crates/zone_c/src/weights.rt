@@ -3,8 +3,7 @@ ghost use Rattle.std.specs.Prelude.{length};
 ghost use Rattle.class_weights.specs.ClassWeights.{rooms_of};
 ghost use Rattle.answers.specs.ClassWeights.{weight_lengths, weights_outcome, WeightsTold};
 
-#[unsafe(no_mangle)]
-pub extern "C" fn zone_class_weights(
+pub fn zone_class_weights(
     rotations: &[i64],
     d: &[i64],
     ps: &[i64],

@@ -1,0 +1,59 @@
+// The exports of triplet_grid and bz_triplets.
+ghost use Rattle.std.specs.Prelude.{length};
+ghost use Rattle.answers.specs.Triplets.{IrTripletsTold, BzTripletsTold};
+
+#[unsafe(no_mangle)]
+pub extern "C" fn zone_ir_triplets_at_q(
+    q0: i64,
+    d: &[i64],
+    rotations: &[i64],
+    time_reversal: bool,
+    swappable: bool,
+    map_triplets: &mut [i64],
+    map_q: &mut [i64],
+    told: &mut [i64],
+) -> i64
+    ensures { IrTripletsTold q0 d.now rotations.now time_reversal swappable (length map_triplets.old) (length map_q.old) (length told.old) result map_triplets.new map_q.new told.new }
+{
+    zone_c::zone_ir_triplets_at_q(
+        q0,
+        d,
+        rotations,
+        time_reversal,
+        swappable,
+        map_triplets,
+        map_q,
+        told,
+    )
+}
+
+#[unsafe(no_mangle)]
+pub extern "C" fn zone_bz_triplets_at_q(
+    q0: i64,
+    addresses: &[i64],
+    map: &[i64],
+    class_map: &[i64],
+    d: &[i64],
+    q: &[i64],
+    lattice: &[f64],
+    bz_grid_type: i64,
+    out: &mut [i64],
+    left: &mut [i64],
+    left_length: &mut [f64],
+) -> i64
+    ensures { BzTripletsTold q0 addresses.now map.now class_map.now d.now q.now lattice.now bz_grid_type (length out.old) (length left.old) (length left_length.old) result out.new left.new left_length.new }
+{
+    zone_c::zone_bz_triplets_at_q(
+        q0,
+        addresses,
+        map,
+        class_map,
+        d,
+        q,
+        lattice,
+        bz_grid_type,
+        out,
+        left,
+        left_length,
+    )
+}

@@ -61,6 +61,7 @@ fn clear(i: usize, j: usize, x: i64, y: i64, s: Rows) -> Rows
 }
 
 // Of row i, which has x on the diagonal.
+#[tactic(auto, using(crate::proofs::Stepping::sign_turned, crate::proofs::Stepping::sign_kept))]
 fn sign(i: usize, x: i64, s: Rows) -> Rows
     requires { i < 3 }
     ensures { rows_of result ≡ (rows_of s then walk.sign i x) }

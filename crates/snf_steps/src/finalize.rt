@@ -112,7 +112,8 @@ fn flip_pq(s: Triple) -> Triple
     if !integer_matrix::det_fits(p) {
         return overflowed();
     }
-    if integer_matrix::det_i(p) < 0 {
+    let negative = integer_matrix::det_i(p) < 0;
+    if negative {
         return negate_pq(s);
     }
     s

@@ -14,43 +14,15 @@ use Rattle.snf_steps.specs.StagesView.{three_of}
 use Rattle.snf_steps.proofs.Binding.{kept}
 use Rattle.snf_steps.proofs.Settled.{second-kept}
 use borrow.Author.Rules.{rules}
-use Rattle.snf_steps.proofs.stages.second.Statement.{statement}
-use Rattle.snf_steps.proofs.stages.second.Tie as tie
+use Rattle.snf_steps.proofs.stages.second.Goals as goal
 
 zero_held : (z : ℤ) → mag z < 0x8000000000000000 → T (is_zero (held z)) → z ≡ pos 0
 zero_held z h t = sym (held-is z h) ∙ zero_test (held z) t
 
-array-copy-out-both-zero : tie.Need-bounds-m-5
-array-copy-out-both-zero c = search rules
-
-array-copy-out-both-zero-2 : tie.Need-bounds-m-7
-array-copy-out-both-zero-2 c = search rules
-
-both-zero-requires : tie.Need-both_zero-requires
-both-zero-requires c κs = search rules
-
-returns : tie.Need-returns-then-both_zero
-returns c =
-    let v = c in
-    let s = v.args.s in
-    let both = holds (sym v.both_zero.ensures ∙ c.if-both_zero.true) in
+pub returns-then-both_zero : goal.returns-then-both_zero
+returns-then-both_zero c =
+    let s = c.args.s in
+    let both = holds (sym c.both_zero.ensures ∙ c.if-both_zero.true) in
     let f : T (is_zero (held (get_or s.a 5 (pos 0)))) = search (and_l, and_r) in
     let h : T (is_zero (held (get_or s.a 7 (pos 0)))) = search (and_l, and_r) in
     kept (fitting s.fits) (three_of s) second (second-kept (three_of s) (zero_held (get_or s.a 5 (pos 0)) (search rules) f) (zero_held (get_or s.a 7 (pos 0)) (search rules) h))
-
-second-steps-requires : tie.Need-second_steps-requires
-second-steps-requires c κs = search rules
-
-returns-2 : tie.Need-returns
-returns-2 c = search rules
-
-pub second_spec : {M : Type 1} → statement M
-second_spec =
-    tie.close
-    (tie.spec
-    array-copy-out-both-zero
-    array-copy-out-both-zero-2
-    both-zero-requires
-    returns
-    second-steps-requires
-    returns-2)

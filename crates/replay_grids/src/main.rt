@@ -47,7 +47,11 @@ fn replay_file(rt: &(impl Files + Print), function: usize, name: &[u8]) -> io::R
 }
 
 fn main(rt: HostRuntime) -> io::Result<()> {
-    replay_file(&rt, outputs::RECIPROCAL_POINT_GROUP, b"reciprocal_point_group")?;
+    replay_file(
+        &rt,
+        outputs::RECIPROCAL_POINT_GROUP,
+        b"reciprocal_point_group",
+    )?;
     replay_file(&rt, outputs::RECIPROCAL_ROTATIONS, b"reciprocal_rotations")?;
     replay_file(&rt, outputs::RECIPROCAL_GROUP, b"reciprocal_group")?;
     replay_file(&rt, outputs::IR_GRID_MAP, b"ir_grid_map")?;

@@ -31,7 +31,12 @@ fn replay(export: bool, altered: bool, lines: &[u8]) -> Tally {
     tally
 }
 
-fn replay_file(rt: &(impl Files + Print), export: bool, name: &[u8], call: &[u8]) -> io::Result<()> {
+fn replay_file(
+    rt: &(impl Files + Print),
+    export: bool,
+    name: &[u8],
+    call: &[u8],
+) -> io::Result<()> {
     let mut lines = [0u8; 65536];
     let n = replaying::read_vectors(rt, name, &mut lines);
     let tally = replay(export, false, &lines[..n]);

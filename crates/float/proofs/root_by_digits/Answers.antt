@@ -30,7 +30,7 @@ loop-i-preserved c =
     let inv = c.loop-i.invariant in
     let test = c.loop-i-test.true in
     elim c.if-rem-t.branch [
-      then-rem-t w ↦ rw (w.root-is, w.rem-is) (taken inv test w.if-rem-t.true)
+      | then-rem-t w ↦ rw (w.root-is, w.rem-is) (taken inv test w.if-rem-t.true)
       | else-rem-t w ↦ rw (w.root-is, w.rem-is) (skipped inv test w.if-rem-t.false)
     ]
 

@@ -32,11 +32,11 @@ loop-p-preserved c =
     let lower : c.first_lower-lower.result ≡ first_lower gs l.p = search rules in (
       search rules,
       elim c.if-lower-p.branch [
-        then-lower-p w ↦ ap length w.out-is ∙ (simp length-set) ∙ l.invariant.1
+        | then-lower-p w ↦ ap length w.out-is ∙ (simp length-set) ∙ l.invariant.1
         | else-lower-p w ↦ ap length w.out-is ∙ (simp length-set) ∙ l.invariant.1
       ],
       elim c.if-lower-p.branch [
-        then-lower-p w ↦ w.out-is ∙ ap (set l.out l.p) (held-is (get_or l.out _ (pos 0)) (search rules)) ∙ lower-stored gs l.p lower s.args.out.now l.out l.invariant.2 (search rules) (search rules)
+        | then-lower-p w ↦ w.out-is ∙ ap (set l.out l.p) (held-is (get_or l.out _ (pos 0)) (search rules)) ∙ lower-stored gs l.p lower s.args.out.now l.out l.invariant.2 (search rules) (search rules)
         | else-lower-p w ↦ w.out-is ∙ ap (set l.out l.p) (to_z_pos w64 (search rules)) ∙ own-stored gs l.p lower s.args.out.now l.out l.invariant.2 (search rules) (search rules)
       ],
     )

@@ -19,7 +19,7 @@ loop-i-preserved c =
     let a = c.args.list.now in (
       search rules,
       elim c.if-list-i.branch [
-        then-list-i w ↦ w.r-is ∙ ap (λ n. n + 1) l.invariant.1 ∙ own-more a l.i (let z = get_or a l.i (pos 0) in entry_place z l.i (entry-is z l.i (search rules) (omega arith) w.if-list-i.true))
+        | then-list-i w ↦ w.r-is ∙ ap (λ n. n + 1) l.invariant.1 ∙ own-more a l.i (let z = get_or a l.i (pos 0) in entry_place z l.i (entry-is z l.i (search rules) (omega arith) w.if-list-i.true))
         | else-list-i w ↦ w.r-is ∙ l.invariant.1 ∙ own_same a l.i (entry_other (get_or a l.i (pos 0)) l.i w.if-list-i.false)
       ],
     )

@@ -93,17 +93,17 @@ loop-again c =
     let a = partner-is d s.args.q0 l.q1 c.grid_address_from_index-address0.ensures in (
       search rules,
       elim c.if-own-q1.branch [
-        then-own-q1 w ↦ ap length w.map_triplets-is ∙ (simp length-set) ∙ l.invariant.1
+        | then-own-q1 w ↦ ap length w.map_triplets-is ∙ (simp length-set) ∙ l.invariant.1
         | else-own-q1 w ↦ ap length w.map_triplets-is ∙ (simp length-set) ∙ l.invariant.1
       ],
       elim c.if-own-q1.branch [
-        then-own-q1 w ↦
-        w.map_triplets-is
-        ∙ own-stored d s.args.q0 k s.args.map_triplets.now l.invariant.2 (search rules) (sym bits ∙ w.if-own-q1.true)
-        (held-is _ (search rules) ∙ w.swapped_number-number.ensures ∙ ap (λ p. pos (lower_of (get_or (map nat_abs m) p 0) l.q1)) a)
+        | then-own-q1 w ↦
+            w.map_triplets-is
+            ∙ own-stored d s.args.q0 k s.args.map_triplets.now l.invariant.2 (search rules) (sym bits ∙ w.if-own-q1.true)
+            (held-is _ (search rules) ∙ w.swapped_number-number.ensures ∙ ap (λ p. pos (lower_of (get_or (map nat_abs m) p 0) l.q1)) a)
         | else-own-q1 w ↦
-        w.map_triplets-is
-        ∙ other-stored d s.args.q0 k s.args.map_triplets.now l.invariant.2 (search rules) (search rules) (λ e. w.if-own-q1.false (bits ∙ e)) (ap nat_abs (number c.before).0) (held-is _ (search rules))
+            w.map_triplets-is
+            ∙ other-stored d s.args.q0 k s.args.map_triplets.now l.invariant.2 (search rules) (search rules) (λ e. w.if-own-q1.false (bits ∙ e)) (ap nat_abs (number c.before).0) (held-is _ (search rules))
       ],
     )
 

@@ -59,8 +59,8 @@ loop-again c =
       search rules,
       elim c.if-carried-q0.branch [ then-carried-q0 w ↦ search rules | else-carried-q0 w ↦ search rules ],
       elim c.if-carried-q0.branch [
-        then-carried-q0 w ↦
-        rw w.kept-is (front-more d s.args.q0 s.args.group.now l.invariant.2 r w.if-carried-q0.true m (w.group-is ∙ w.store_matrix.ensures))
+        | then-carried-q0 w ↦
+            rw w.kept-is (front-more d s.args.q0 s.args.group.now l.invariant.2 r w.if-carried-q0.true m (w.group-is ∙ w.store_matrix.ensures))
         | else-carried-q0 w ↦ rw (w.group-is, w.kept-is) (front_same d s.args.q0 s.args.group.now l.invariant.2 r w.if-carried-q0.false)
       ],
     )

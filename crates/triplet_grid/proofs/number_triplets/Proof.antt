@@ -28,10 +28,10 @@ written c =
     let p = c.requires in
     let l = map nat_abs a.map_q.now in
     elim c.if-swappable.branch [
-      then-swappable w ↦ w.map_triplets-is ∙ w.ir_triplets_at_q_perm_q1q2.ensures ∙ ap (λ t. map pos (map_triplets_of t (sides a.g) a.q0 l)) (sym w.if-swappable.true)
+      | then-swappable w ↦ w.map_triplets-is ∙ w.ir_triplets_at_q_perm_q1q2.ensures ∙ ap (λ t. map pos (map_triplets_of t (sides a.g) a.q0 l)) (sym w.if-swappable.true)
       | else-swappable w ↦
-      w.map_triplets-is ∙ w.ir_triplets_at_q_noperm.ensures ∙ p.1.1.0.natural ∙ ap (map pos) (sym (plain (sides a.g) a.q0 l (length-map a.map_q.now nat_abs ∙ p.1.1.1.0)))
-      ∙ ap (λ t. map pos (map_triplets_of t (sides a.g) a.q0 l)) (sym w.if-swappable.false)
+          w.map_triplets-is ∙ w.ir_triplets_at_q_noperm.ensures ∙ p.1.1.0.natural ∙ ap (map pos) (sym (plain (sides a.g) a.q0 l (length-map a.map_q.now nat_abs ∙ p.1.1.1.0)))
+          ∙ ap (λ t. map pos (map_triplets_of t (sides a.g) a.q0 l)) (sym w.if-swappable.false)
     ]
 
 places : (c : tie.Joined-swappable) → length c.if-swappable.map_triplets ≡ size (sides c.args.g)

@@ -60,7 +60,7 @@ returns-3 c =
     let e1 = whole c.before.before.before.before.before in
     let e2 = grid c.before.before.before in
     elim c.then-triplets-n.branch [
-      then-triplets-n-via-then-triplets-n w ↦ rw (e1, e2, ne_eqb a.triplets n (λ e. w.if-triplets-n.true (e ∙ sym p)))
+      | then-triplets-n-via-then-triplets-n w ↦ rw (e1, e2, ne_eqb a.triplets n (λ e. w.if-triplets-n.true (e ∙ sym p)))
       | then-triplets-n-via-else-triplets-n+then-classes-n w ↦ rw (e1, e2, eq-eqb a.triplets n (w.if-triplets-n.false ∙ p), ap (eqb a.classes) (sym p) ∙ not-true _ w.if-classes-n.true-raw)
     ]
 

@@ -103,8 +103,7 @@ returns-3 c =
     let es = c.snf3x3-s.ensures.0 in
     let q = c.nested.ensures in
     let eu = to_z-of_z s.ranges.bz_grid_type in
-    let ei = to_z-of_z s.ranges.q0 in
-    (
+    let ei = to_z-of_z s.ranges.q0 in (
       chain-finished (job_at s) (rooms_at s) agree es c.in_default.is q eu ei l.0 c.in-Accepted.is (l.1 c.in-Accepted.is) c.count_classes.ensures,
       λ _. chain-listed (job_at s) (rooms_at s) agree es c.in_default.is q eu ei l.0 c.in-Accepted.is (l.1 c.in-Accepted.is),
     )

@@ -137,14 +137,14 @@ loop-again c =
     let m = s.args.class_map.now in (
       search rules,
       elim c.if-class_map-q1.branch [
-        then-class_map-q1+else-not-found w ↦
-        let r = w.triplet_of-found.result in
-        let d = filled_more (triplet s) m l.invariant.1 i.loop-q1-test.true (is-own (record { before = c.before; if-class_map-q1 = w.if-class_map-q1 })) (state_of r)
+        | then-class_map-q1+else-not-found w ↦
+            let r = w.triplet_of-found.result in
+            let d = filled_more (triplet s) m l.invariant.1 i.loop-q1-test.true (is-own (record { before = c.before; if-class_map-q1 = w.if-class_map-q1 })) (state_of r)
             (view-right r.inside (state_of r) w.triplet_of-found.ensures.0 w.if-not-found.false) in
-        filled-as w.at-is (w.out-is ∙ w.store_places.ensures) (w.left-is ∙ ap (set l.left l.at) (held-is w.mark_of-mark.result (search rules) ∙ w.mark_of-mark.ensures))
-        (w.left_length-is ∙ ap (set l.left_length l.at) w.length_of.ensures) d
+            filled-as w.at-is (w.out-is ∙ w.store_places.ensures) (w.left-is ∙ ap (set l.left l.at) (held-is w.mark_of-mark.result (search rules) ∙ w.mark_of-mark.ensures))
+            (w.left_length-is ∙ ap (set l.left_length l.at) w.length_of.ensures) d
         | else-class_map-q1 w ↦
-        filled-as w.at-is w.out-is w.left-is w.left_length-is (filled_on (triplet s) m l.invariant.1 (entry_other (get_or m l.q1 (pos 0)) l.q1 w.if-class_map-q1.false))
+            filled-as w.at-is w.out-is w.left-is w.left_length-is (filled_on (triplet s) m l.invariant.1 (entry_other (get_or m l.q1 (pos 0)) l.q1 w.if-class_map-q1.false))
       ],
     )
 

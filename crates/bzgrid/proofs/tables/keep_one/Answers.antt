@@ -22,7 +22,7 @@ returns c =
     let m = vector_of a.m in
     let e = c.keep.ensures in
     let only : m ∷ [] ≡ chosen a.rest m = elim c.if-rest.branch [
-      then-rest+else-not-is_outside w ↦ rest-chosen m w.if-rest.true (yes w.is_outside.ensures w.if-not-is_outside.false-raw)
+      | then-rest+else-not-is_outside w ↦ rest-chosen m w.if-rest.true (yes w.is_outside.ensures w.if-not-is_outside.false-raw)
       | else-rest w ↦ first-chosen m w.if-rest.false
     ] in
     record { next_after = e.next_after ∙ ap (foldl (keeping a.bz a.p a.bound) (tables a.addresses.now a.grg.now a.c.at a.c.next)) only; at_le_next = e.at_le_next }

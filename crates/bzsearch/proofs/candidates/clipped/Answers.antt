@@ -13,7 +13,7 @@ from-below : (c : Joined-s) → let s = c.args.s in span_view c.if-s.t ≡ span_
 from-below c =
     let s = c.args.s in
     elim c.if-s.branch [
-      then-s w ↦ ap span_view w.t-is ∙ ap (λ (z : ℤ). span_of z s.hi) (max-taken s.lo (negsuc 1) (held-is s.lo (search rules)) w.if-s.true)
+      | then-s w ↦ ap span_view w.t-is ∙ ap (λ (z : ℤ). span_of z s.hi) (max-taken s.lo (negsuc 1) (held-is s.lo (search rules)) w.if-s.true)
       | else-s w ↦ ap span_view w.t-is ∙ ap (λ (z : ℤ). span_of z s.hi) (max-left s.lo (negsuc 1) (held-is s.lo (search rules)) w.if-s.false)
     ]
 

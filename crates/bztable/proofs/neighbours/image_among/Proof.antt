@@ -28,8 +28,7 @@ enum-told-2 c = search rules
 returns-2 : tie.Need-returns-in-At
 returns-2 c =
     let f = c in
-    let s = f in
-    (
+    let s = f in (
       several-images s.args.addresses.now (vector_of s.args.b) s.args.lo s.args.hi f.if-hi-lo.false (sym f.find.ensures.0 ∙ ap found_view c.in-At.is),
       lt_of_lt_of_le (subst (FoundBelow s.args.hi) c.in-At.is f.find.ensures.1) (le_of_lt s.requires.1),
     )

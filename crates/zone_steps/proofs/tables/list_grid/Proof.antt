@@ -99,8 +99,7 @@ returns-3 c =
     let eu = to_z-of_z s.ranges.bz_grid_type in
     let ei = to_z-of_z s.ranges.q0 in
     let n : c.points-n.result ≡ points_of (grid_at s) = c.points-n.ensures ∙ ap size c.grid_of.ensures in
-    let fits : c.points-n.result ≤ length s.args.classes.now = (let z = c.if-classes-n.false in omega arith) in
-    (
+    let fits : c.points-n.result ≤ length s.args.classes.now = (let z = c.if-classes-n.false in omega arith) in (
       grid-tested (grid_at s) s.args.ps (rooms_at s) n fits eu b.ensures.0 c.in_default.is b.ensures.1.0 b.ensures.1.1.0 b.ensures.1.1.1
           (l.0 ∙ (λ i. list_tests (grid_by s (eu i) (ei i)) x y)),
       λ k. grid-listed (grid_at s) s.args.ps (rooms_at s) n fits eu b.ensures.0 c.in_default.is b.ensures.1.0 b.ensures.1.1.0 b.ensures.1.1.1

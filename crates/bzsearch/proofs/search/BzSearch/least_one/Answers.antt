@@ -20,7 +20,7 @@ returns c =
     let a = c.args in
     let m = vector_of a.m in
     let only : m ∷ [] ≡ chosen a.rest m = elim c.if-rest.branch [
-      then-rest+else-not-is_outside w ↦ rest-chosen m w.if-rest.true (yes w.is_outside.ensures w.if-not-is_outside.false-raw)
+      | then-rest+else-not-is_outside w ↦ rest-chosen m w.if-rest.true (yes w.is_outside.ensures w.if-not-is_outside.false-raw)
       | else-rest w ↦ first-chosen m w.if-rest.false
     ] in
     c.lower.ensures

@@ -8,8 +8,7 @@ use Rattle.integer.proofs.Fits.{held}
 use Rattle.integer.proofs.Plain.{plain, p_atom, fits-plain, plain-is}
 use Rattle.mark_candidates.specs.Code.Table.{at, rises, least_of, most_of, verdict, against}
 use borrow.Author.Rules.{rules}
-use Rattle.mark_candidates.proofs.marks.against.Statement.{statement}
-use Rattle.mark_candidates.proofs.marks.against.Tie as tie
+use Rattle.mark_candidates.proofs.marks.against.Goals as goal
 
 -- u, a and b as the calls returned them
 module _ (t : List ℤ) (i j : ℕ) {u a b : ℤ} (f : nat_abs u ≤ 5153960755200000000) (g : nat_abs a ≤ 2576980377600000000) (h : nat_abs b ≤ 2576980377600000000)
@@ -24,57 +23,29 @@ module _ (t : List ℤ) (i j : ℕ) {u a b : ℤ} (f : nat_abs u ≤ 51539607552
   unfolding against
   by d e = ap₂ verdict (sym d ∙ ap (lt_z (pos 0)) least) (sym e ∙ ap (λ z. le_z z (pos 0)) most)
 
-rises-requires : tie.Need-rises-up-requires
-rises-requires c κs = search rules
-
-difference-requires : tie.Need-difference-requires
-difference-requires c κs = search rules
-
-sub-least : tie.Need-overflow_sub-least
-sub-least c = fits-plain (search (plain, p_atom) depth 20) tt
-
-difference-requires-2 : tie.Need-difference-requires-2
-difference-requires-2 c κs = search rules
-
-add_most : tie.Need-overflow_add-most
-add_most c = fits-plain (search (plain, p_atom) depth 20) tt
-
-returns : tie.Need-returns-then-least-gt0
-returns c =
+pub returns-then-least-gt0 : goal.returns-then-least-gt0
+returns-then-least-gt0 c =
     let b = c.difference-2 in
     let a = c.difference in
     let u = c.rises-up in
     let s = c.args in
     let h : lt_z (pos 0) (held (held a.result -ℤ held u.result)) ≡ true = search rules in
-    by s.t.now s.i s.j u.ensures.1 a.ensures.1 b.ensures.1 u.ensures.0 a.ensures.0 b.ensures.0 h refl
+    by s.t.now s.i s.j u.ensures.result_bound a.ensures.result_bound b.ensures.result_bound u.ensures.value a.ensures.value b.ensures.value h refl
 
-returns-2 : tie.Need-returns-then-most-le0
-returns-2 c =
+pub returns-then-most-le0 : goal.returns-then-most-le0
+returns-then-most-le0 c =
     let b = c.difference-2 in
     let a = c.difference in
     let u = c.rises-up in
     let s = c.args in
     let h : lt_z (pos 0) (held (held a.result -ℤ held u.result)) ≡ false = search rules in
-    by s.t.now s.i s.j u.ensures.1 a.ensures.1 b.ensures.1 u.ensures.0 a.ensures.0 b.ensures.0 h c.if-most-le0.true
+    by s.t.now s.i s.j u.ensures.result_bound a.ensures.result_bound b.ensures.result_bound u.ensures.value a.ensures.value b.ensures.value h c.if-most-le0.true
 
-returns-3 : tie.Need-returns
-returns-3 c =
+pub returns : goal.returns
+returns c =
     let b = c.difference-2 in
     let a = c.difference in
     let u = c.rises-up in
     let s = c.args in
     let h : lt_z (pos 0) (held (held a.result -ℤ held u.result)) ≡ false = search rules in
-    by s.t.now s.i s.j u.ensures.1 a.ensures.1 b.ensures.1 u.ensures.0 a.ensures.0 b.ensures.0 h c.if-most-le0.false
-
-pub against_spec : {M : Type 1} → statement M
-against_spec =
-    tie.close
-    (tie.spec
-    rises-requires
-    difference-requires
-    sub-least
-    difference-requires-2
-    add_most
-    returns
-    returns-2
-    returns-3)
+    by s.t.now s.i s.j u.ensures.result_bound a.ensures.result_bound b.ensures.result_bound u.ensures.value a.ensures.value b.ensures.value h c.if-most-le0.false

@@ -10,9 +10,11 @@ use lib.ListN.{get_or}
 use mir.Syntax.{w64}
 use mir.Val.{SFits, to_z}
 use mir.Facts.{to_z_pos, to_z-of_z}
+use borrow.Author.Tests.{lt-ltb}
+use Rattle.integer.specs.Checked.{pick}
 use Rattle.integer.proofs.Fits.{held, range-sfits}
 use Rattle.integer.proofs.Parts.{difference}
-use Rattle.job.specs.Job.{little_endian}
+use Rattle.job.specs.Job.{little_endian, signed}
 
 -- ---- n bytes, those from place at + k on read: the next lower one
 module _ (n k : ℕ) (h : 0 < k) (l : k ≤ n) where
@@ -43,3 +45,7 @@ module _ {w : ℕ} (h : w < 0x100000000) where
 
   pub negative-word : held (to_z w64 w -ℤ pos 0x100000000) ≡ pos w -ℤ pos 0x100000000
   negative-word = to_z-of_z negative_fits ∙ ap (λ z. z -ℤ pos 0x100000000) held_word
+
+pub small_word : (w : ℕ) → w < 0x80000000 → to_z w64 w ≡ signed w
+unfolding signed
+small_word w h = to_z_pos w64 (omega arith) ∙ sym (ap (λ t. pick t (pos w) (pos w -ℤ pos 0x100000000)) (lt-ltb w 0x80000000 h))

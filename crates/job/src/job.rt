@@ -47,6 +47,7 @@ fn word(bytes: &[u8], at: usize) -> usize
     little_endian(bytes, at, 4) as usize
 }
 
+#[tactic(auto, using(crate::proofs::Words::small_word))]
 fn signed(w: usize) -> i64
     requires { w < 0x100000000 }
     ensures { result ≡ signed w }

@@ -1,9 +1,8 @@
 -- Euclidean division, as Rust's div_euclid and rem_euclid: the remainder is never negative. Division toward zero, Rust's / and %, is `quot_z` and `rem_z`
--- of lib.Signed.
-use Rattle.std.specs.Prelude.{ℤ, pos, negsuc, neg_ℤ, nat_abs, suc, ◌-◌, ◌/◌, ◌%◌, ◌<◌}
-use lib.Signed.{quot_z}
+-- of std's Int.Signed.
+use Rattle.std.specs.Prelude.{ℤ, pos, negsuc, neg_ℤ, nat_abs, suc, ◌-◌, ◌/◌, ◌%◌, ◌<◌, FitsSigned}
 use Rattle.std.specs.Int.{w64}
-use Rattle.std.proofs.Common.{SFits}
+use Rattle.std.specs.Int.Signed.{quot_z}
 
 abbrev pub div_euclid : ℤ → ℤ → ℤ
 div_euclid (pos a) (pos d) = pos (a / d)
@@ -18,4 +17,4 @@ rem_euclid (negsuc a) d = pos (nat_abs d - suc (a % nat_abs d))
 -- what a division of two i64 asks
 pub record Divisible (a d : ℤ) : Type 0 where
   pub nonzero : 0 < nat_abs d
-  pub fits : SFits w64 (quot_z a d)
+  pub fits : FitsSigned w64 (quot_z a d)

@@ -1,6 +1,5 @@
 -- `ir_triplets_at_q`: the tests, in document 01's order, the answer and the two outputs, which have n and m places.
-use Rattle.std.specs.Prelude.{Bool, true, false, ◌&&◌, List, map, ℕ, eqb, ltb, ℤ, nat_abs, get_or}
-use Rattle.std.proofs.Math.IntN.{pos}
+use Rattle.std.specs.Prelude.{Bool, true, false, ◌&&◌, List, map, ℕ, eqb, ltb, ℤ, pos, nat_abs, get_or}
 use Rattle.integer.specs.Checked.{pick}
 use Rattle.common.specs.Matrix.{Vec, Mat, origin}
 use Rattle.common.specs.Array.{sides_of, matrices}

@@ -3,12 +3,12 @@ ghost use Rattle.std.specs.Prelude.{◌≡◌, ◌++◌, ◌*◌, ◌≤◌, T, 
 ghost use Rattle.std.specs.Float.{binary64};
 ghost use Rattle.std.specs.Float.Ieee.{of_int};
 ghost use Rattle.std.specs.Int.Signed.{non_neg};
-ghost use Rattle.common.specs.Tested.{Accepted};
+ghost use Rattle.common.specs.Tested.{Accepted, without_value};
 ghost use Rattle.common.specs.Array.{sides_of};
 ghost use Rattle.grgrid.specs.Grid.{size};
 ghost use Rattle.bzgrid.specs.BzGridAddresses.{bz_answer, addresses_written, map_written, grg_written};
 ghost use Rattle.triplet_grid.specs.IrTriplets.{triplet_tests, map_triplets_written, map_qwritten};
-ghost use Rattle.zone_steps.specs.Steps.{images_tested, start_of, list_tests, lists_of};
+ghost use Rattle.zone_steps.specs.Steps.{start_of, list_tests, lists_of};
 ghost use Rattle.zone_steps.specs.StepsView.{grid, lists, Roomy, Chosen};
 
 use bzgrid::GridType;
@@ -24,7 +24,7 @@ pub fn build_images(
     map: &mut [i64],
     grg: &mut [i64],
 ) -> Result<(), Refusal>
-    ensures value { result ≡ images_tested (bz_answer d q ps lattice bz_grid_type (length addresses.old) (length map.old) (length grg.old)) }
+    ensures value { result ≡ without_value (bz_answer d q ps lattice bz_grid_type (length addresses.old) (length map.old) (length grg.old)) }
     ensures addresses_after { addresses.new ≡ addresses_written d q ps lattice bz_grid_type (length addresses.old) (length map.old) (length grg.old) }
     ensures map_after { map.new ≡ map_written d q ps lattice bz_grid_type (length addresses.old) (length map.old) (length grg.old) }
     ensures grg_after { grg.new ≡ grg_written d q ps lattice bz_grid_type (length addresses.old) (length map.old) (length grg.old) }

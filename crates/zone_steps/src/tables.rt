@@ -5,7 +5,6 @@ ghost use Rattle.common.specs.Tested.{after, Accepted};
 ghost use Rattle.zone_steps.specs.Steps.{transformed, rotation_tests, grid_tests};
 ghost use Rattle.zone_steps.specs.StepsView.{grid, rooms, lists, Agreed, Listed};
 
-use crate::basis::Turned;
 use crate::{basis, grid};
 use common::Refusal;
 

@@ -1,7 +1,8 @@
 use mathlib.Core.Path.{◌≡◌, sym, ◌∙◌, ap}
 use Prim.Native.Nat.{◌*◌, ◌-◌}
 use lib.ListN.{length, take}
-use Rattle.zone_steps.proofs.CallSteps.{transform_tested, few-rotations, turned-tested, turned-list, turned-refused}
+use Rattle.common.specs.Tested.{without_value}
+use Rattle.zone_steps.proofs.CallSteps.{few-rotations, turned-tested, turned-list, turned-refused}
 use borrow.Author.Rules.{rules}
 use Rattle.zone_steps.proofs.basis.turn_rotations.Statement.{statement}
 use Rattle.zone_steps.proofs.basis.turn_rotations.Tie as tie
@@ -72,7 +73,7 @@ returns c =
     let g = c.reciprocal_group.ensures in
     let t = c.transform_rotations in
     let m : length t.new.out ≡ length (take (c.in-Ok.n * 9 - 0) s.args.out.now) = search rules in (
-      sym (ap transform_tested c.in-Ok.is) ∙ turned-tested s.args.rotations.now s.args.is_time_reversal g.0 c.in-Ok.is s.args.d s.args.q s.args.out.now s.requires g.1 t.ensures.0,
+      sym (ap without_value c.in-Ok.is) ∙ turned-tested s.args.rotations.now s.args.is_time_reversal g.0 c.in-Ok.is s.args.d s.args.q s.args.out.now s.requires g.1 t.ensures.0,
       (few-rotations s.args.rotations.now s.args.is_time_reversal g.0 c.in-Ok.is, turned-list s.args.rotations.now s.args.is_time_reversal g.0 c.in-Ok.is s.args.d s.args.q s.args.out.now s.requires g.1 t.ensures.1 m _),
     )
 
@@ -84,7 +85,7 @@ returns-2 c =
     let s = c in
     let g = c.reciprocal_group.ensures in
     let t = c.transform_rotations in
-    (sym (ap transform_tested c.in-Err-transform_rotations.is) ∙ turned-tested s.args.rotations.now s.args.is_time_reversal g.0 c.in-Ok.is s.args.d s.args.q s.args.out.now s.requires g.1 t.ensures.0, tt)
+    (sym (ap without_value c.in-Err-transform_rotations.is) ∙ turned-tested s.args.rotations.now s.args.is_time_reversal g.0 c.in-Ok.is s.args.d s.args.q s.args.out.now s.requires g.1 t.ensures.0, tt)
 
 returns-3 : tie.Need-returns-in-Err
 returns-3 c =

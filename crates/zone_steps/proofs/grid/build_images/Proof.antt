@@ -1,7 +1,7 @@
 use mathlib.Core.Path.{sym, ap}
 use lib.ListN.{length}
 use mir.Facts.{to_z-of_z}
-use Rattle.zone_steps.specs.Steps.{images_tested}
+use Rattle.common.specs.Tested.{without_value}
 use Rattle.zone_steps.proofs.CallSteps.{images-built}
 use borrow.Author.Rules.{rules}
 use Rattle.zone_steps.proofs.grid.build_images.Statement.{statement}
@@ -30,7 +30,7 @@ returns c =
     let s = c in
     let r = c.bz_grid_addresses.ensures in
     images-built s.args.d s.args.q s.args.ps s.args.lattice s.args.bz_grid_type (length s.args.addresses.now) (length s.args.map.now) (length s.args.grg.now)
-    (to_z-of_z s.ranges.bz_grid_type) r.0 r.1.0 r.1.1.0 r.1.1.1 (sym (ap images_tested c.in-Ok.is))
+    (to_z-of_z s.ranges.bz_grid_type) r.0 r.1.0 r.1.1.0 r.1.1.1 (sym (ap without_value c.in-Ok.is))
 
 same-length-4 : tie.Need-shape_of-addresses-in-Err
 same-length-4 c = search rules
@@ -46,7 +46,7 @@ returns-2 c =
     let s = c in
     let r = c.bz_grid_addresses.ensures in
     images-built s.args.d s.args.q s.args.ps s.args.lattice s.args.bz_grid_type (length s.args.addresses.now) (length s.args.map.now) (length s.args.grg.now)
-    (to_z-of_z s.ranges.bz_grid_type) r.0 r.1.0 r.1.1.0 r.1.1.1 (sym (ap images_tested c.in-Err.is))
+    (to_z-of_z s.ranges.bz_grid_type) r.0 r.1.0 r.1.1.0 r.1.1.1 (sym (ap without_value c.in-Err.is))
 
 pub build_images_spec : {M : Type 1} → statement M
 build_images_spec =

@@ -1,6 +1,7 @@
 use mathlib.Core.Path.{sym, ap}
 use mir.Facts.{to_z-of_z}
-use Rattle.zone_steps.proofs.CallSteps.{triplet_tested, triplets-chosen}
+use Rattle.common.specs.Tested.{without_value}
+use Rattle.zone_steps.proofs.CallSteps.{triplets-chosen}
 use borrow.Author.Rules.{rules}
 use Rattle.zone_steps.proofs.grid.choose_triplets.Statement.{statement}
 use Rattle.zone_steps.proofs.grid.choose_triplets.Tie as tie
@@ -62,7 +63,7 @@ returns c =
     let o = c.own_places-k in
     let r = c.bz_triplets_at_q.ensures in
     triplets-chosen s.args.start s.args.addresses.now s.args.map.now s.args.classes.now s.args.d s.args.q s.args.lattice s.args.bz_grid_type s.args.triplets.now s.args.left.now s.args.lengths.now o.result
-    o.ensures.0 o.ensures.1 s.requires (to_z-of_z s.ranges.start) (to_z-of_z s.ranges.bz_grid_type) r.0 r.1.0 r.1.1.0 r.1.1.1 (sym (ap triplet_tested c.in-Ok.is))
+    o.ensures.0 o.ensures.1 s.requires (to_z-of_z s.ranges.start) (to_z-of_z s.ranges.bz_grid_type) r.0 r.1.0 r.1.1.0 r.1.1.1 (sym (ap without_value c.in-Ok.is))
 
 same-length-4 : tie.Need-shape_of-triplets-in-Err
 same-length-4 c = search rules
@@ -79,7 +80,7 @@ returns-2 c =
     let o = c.own_places-k in
     let r = c.bz_triplets_at_q.ensures in
     triplets-chosen s.args.start s.args.addresses.now s.args.map.now s.args.classes.now s.args.d s.args.q s.args.lattice s.args.bz_grid_type s.args.triplets.now s.args.left.now s.args.lengths.now o.result
-    o.ensures.0 o.ensures.1 s.requires (to_z-of_z s.ranges.start) (to_z-of_z s.ranges.bz_grid_type) r.0 r.1.0 r.1.1.0 r.1.1.1 (sym (ap triplet_tested c.in-Err.is))
+    o.ensures.0 o.ensures.1 s.requires (to_z-of_z s.ranges.start) (to_z-of_z s.ranges.bz_grid_type) r.0 r.1.0 r.1.1.0 r.1.1.1 (sym (ap without_value c.in-Err.is))
 
 pub choose_triplets_spec : {M : Type 1} → statement M
 choose_triplets_spec =

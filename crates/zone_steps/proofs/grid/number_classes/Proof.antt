@@ -1,6 +1,7 @@
 use mathlib.Core.Path.{sym, ap}
 use mir.Facts.{to_z-of_z}
-use Rattle.zone_steps.proofs.CallSteps.{class_tested, classes-numbered}
+use Rattle.common.specs.Tested.{without_value}
+use Rattle.zone_steps.proofs.CallSteps.{classes-numbered}
 use borrow.Author.Rules.{rules}
 use Rattle.zone_steps.proofs.grid.number_classes.Statement.{statement}
 use Rattle.zone_steps.proofs.grid.number_classes.Tie as tie
@@ -43,7 +44,7 @@ returns c =
     let s = c in
     let r = c.ir_triplets_at_q.ensures in
     classes-numbered s.args.q0 s.args.d s.args.rotations.now s.args.is_time_reversal s.args.swappable s.args.n s.args.classes.now s.args.points.now s.requires.0 s.requires.1
-    (to_z-of_z s.ranges.q0) r.0 r.1.0 r.1.1 (sym (ap class_tested c.in-Ok.is))
+    (to_z-of_z s.ranges.q0) r.0 r.1.0 r.1.1 (sym (ap without_value c.in-Ok.is))
 
 same-length-3 : tie.Need-shape_of-classes-in-Err
 same-length-3 c = search rules
@@ -56,7 +57,7 @@ returns-2 c =
     let s = c in
     let r = c.ir_triplets_at_q.ensures in
     classes-numbered s.args.q0 s.args.d s.args.rotations.now s.args.is_time_reversal s.args.swappable s.args.n s.args.classes.now s.args.points.now s.requires.0 s.requires.1
-    (to_z-of_z s.ranges.q0) r.0 r.1.0 r.1.1 (sym (ap class_tested c.in-Err.is))
+    (to_z-of_z s.ranges.q0) r.0 r.1.0 r.1.1 (sym (ap without_value c.in-Err.is))
 
 pub number_classes_spec : {M : Type 1} → statement M
 number_classes_spec =

@@ -19,18 +19,7 @@ pub fn turn_rotations(
     ensures turned_into { TurnedInto (transformed rotations.now is_time_reversal d q) out.new result }
 {
     let mut group = [0; 432];
-    match rotation_group::reciprocal_group(rotations, is_time_reversal, &mut group) {
-        Ok(n) => {
-            match transform_rotations::transform_rotations(
-                &group[0..n * 9],
-                d,
-                q,
-                &mut out[0..n * 9],
-            ) {
-                Ok(()) => Ok(n),
-                Err(r) => Err(r),
-            }
-        }
-        Err(r) => Err(r),
-    }
+    let n = rotation_group::reciprocal_group(rotations, is_time_reversal, &mut group)?;
+    transform_rotations::transform_rotations(&group[0..n * 9], d, q, &mut out[0..n * 9])?;
+    Ok(n)
 }

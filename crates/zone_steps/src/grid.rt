@@ -29,10 +29,8 @@ pub fn build_images(
     ensures map_after { map.new ≡ map_written d q ps lattice bz_grid_type (length addresses.old) (length map.old) (length grg.old) }
     ensures grg_after { grg.new ≡ grg_written d q ps lattice bz_grid_type (length addresses.old) (length map.old) (length grg.old) }
 {
-    match bzgrid::bz_grid_addresses(d, q, ps, lattice, bz_grid_type, addresses, map, grg) {
-        Ok(_) => Ok(()),
-        Err(r) => Err(r),
-    }
+    bzgrid::bz_grid_addresses(d, q, ps, lattice, bz_grid_type, addresses, map, grg)?;
+    Ok(())
 }
 
 // In the first n places of the two maps.
@@ -51,7 +49,7 @@ fn number_classes(
     ensures classes_after { classes.new ≡ map_triplets_written q0 d rotations.now is_time_reversal swappable n n ++ drop n classes.old }
     ensures points_after { points.new ≡ map_qwritten q0 d rotations.now is_time_reversal swappable n n ++ drop n points.old }
 {
-    match triplet_grid::ir_triplets_at_q(
+    triplet_grid::ir_triplets_at_q(
         q0,
         d,
         rotations,
@@ -59,10 +57,8 @@ fn number_classes(
         swappable,
         &mut classes[0..n],
         &mut points[0..n],
-    ) {
-        Ok(_) => Ok(()),
-        Err(r) => Err(r),
-    }
+    )?;
+    Ok(())
 }
 
 // Type 2 starts from the first image of q0.
@@ -101,7 +97,7 @@ fn choose_triplets(
     ensures { Chosen start addresses.now map.now classes.now d q lattice bz_grid_type result triplets.old left.old lengths.old triplets.new left.new lengths.new }
 {
     let k = grgrid::own_places(classes);
-    match bz_triplets::bz_triplets_at_q(
+    bz_triplets::bz_triplets_at_q(
         start,
         addresses,
         map,
@@ -113,10 +109,7 @@ fn choose_triplets(
         &mut triplets[0..k * 3],
         &mut left[0..k],
         &mut lengths[0..k],
-    ) {
-        Ok(()) => Ok(()),
-        Err(r) => Err(r),
-    }
+    )
 }
 
 // -1 in every place.
@@ -171,7 +164,7 @@ pub fn list_classes(
         &mut *left,
         &mut *lengths,
     );
-    if let Err(r) = number_classes(
+    number_classes(
         q0,
         d,
         rotations,
@@ -180,9 +173,7 @@ pub fn list_classes(
         n,
         &mut *classes,
         &mut *points,
-    ) {
-        return Err(r);
-    }
+    )?;
     let start = start_of(bzgrid::grid_type(bz_grid_type), map, q0);
     choose_triplets(
         start,

@@ -1,26 +1,20 @@
 -- The loops and tests of limits.
-use mathlib.Core.Path.{◌≡◌, sym, ◌∙◌, ap, ap₂, refl}
-use mathlib.Core.Bool.{true, false, ◌&&◌}
+use mathlib.Core.Path.{◌≡◌, ◌∙◌, ap₂, refl}
 use mathlib.Core.List.{List, [], ◌∷◌}
-use Prim.Native.Nat.{ℕ, zero, suc, ◌+◌, ◌*◌, ◌<◌, ◌≤◌, zero-le}
+use Prim.Native.Nat.{ℕ, zero, suc, ◌*◌, ◌<◌, ◌≤◌, zero-le}
 use native.Mathlib.Nat.{lt_of_le_of_lt}
-use native.Mathlib.Numerals.{add-one}
-use native.Mathlib.Omega.{arith}
-use lib.Dec.{T, ltb, leb, leb→le, le→leb, ltb→lt, lit≤}
-use lib.IntN.{ℤ, pos, negsuc, nat_abs, ◌-ℤ◌}
-use lib.Signed.{le_z, le_z_yes, mag}
-use lib.ListN.{length, get_or, drop, drop_of_length-le}
-use lib.Seq.{drop-cons}
+use lib.Dec.{T, ltb, leb→le, le→leb, ltb→lt, lit≤}
+use lib.IntN.{ℤ, pos, negsuc, nat_abs}
+use lib.Signed.{le_z, mag}
+use lib.ListN.{get_or}
 use mir.Facts.{to_z-of_z}
 use mir.Syntax.{w64}
-use Rattle.integer.proofs.Test.{and_l, and_r, and_in, is_true, same_test}
-use Rattle.integer.proofs.Parts.{ints, le_parts, parts-le, difference}
+use Rattle.integer.proofs.Test.{and_l, and_r}
 use Rattle.integer.proofs.Size.{sfits-abs}
 use Rattle.integer.proofs.Fits.{held, held-is}
 use Rattle.integer.proofs.Plain.{Plain, plain, p_atom, plain-within}
 use Rattle.common.proofs.Matrix.{axes-of, all-axes, side-vector, entry-matrix}
 use Rattle.common.proofs.Whole.{sized-dot}
-use Rattle.common.proofs.Tests.{first_holds, first-fails}
 use Rattle.common.specs.Matrix.{Axis, Mat, side, entry, all_axes, ◌▹◌}
 use Rattle.common.specs.Array.{number, along, vector_of, items, matrix_of, dot_of, Sized, SizedRows}
 use Rattle.common.specs.IntegerMatrix.{dot_fits, apply_fits}
@@ -30,27 +24,6 @@ use Rattle.common.specs.Limits.{within, all_within, matrix_within, side_fits}
 pub side-above : (z : ℤ) → T (side_fits z) → z ≡ pos (nat_abs z)
 side-above (pos n) t = refl
 side-above (negsuc n) t = absurd t
-
--- a size by the two ends -k and k
-pub within-ends : (k : ℕ) (z : ℤ) → le_z (pos 0 -ℤ pos k) z && le_z z (pos k) ≡ within k z
-within-ends k (pos n) = sym (first_holds (leb n k) (is_true (le_z (pos 0 -ℤ pos k) (pos n)) (parts-le {x = pos 0 -ℤ pos k} {y = pos n} (omega (arith, ints, difference (pos 0) (pos k)))).le))
-within-ends k (negsuc n) =
-    same_test (le_z (pos 0 -ℤ pos k) (negsuc n) && true) (leb (suc n) k)
-    (λ t. le→leb (suc n) k (omega (arith, ints, difference (pos 0) (pos k), le_parts {x = pos 0 -ℤ pos k} {y = negsuc n} (le_z_yes (and_l (le_z (pos 0 -ℤ pos k) (negsuc n)) true t)))))
-    (λ t. and_in (le_z (pos 0 -ℤ pos k) (negsuc n)) true (parts-le {x = pos 0 -ℤ pos k} {y = negsuc n} (omega (arith, ints, difference (pos 0) (pos k), leb→le (suc n) k t))).le tt)
-
-module _ (k : ℕ) (l : List ℤ) (i : ℕ) (h : i < length l) where
-  at_place : all_within k (drop i l) ≡ within k (get_or l i (pos 0)) && all_within k (drop (suc i) l)
-  at_place = ap (all_within k) (drop-cons l i (pos 0) h)
-
-  pub within_on : within k (get_or l i (pos 0)) ≡ true → all_within k (drop i l) ≡ all_within k (drop (i + 1) l)
-  within_on e = at_place ∙ sym (first_holds (all_within k (drop (suc i) l)) e) ∙ ap (λ n. all_within k (drop n l)) (sym (add-one i))
-
-  pub within-stop : within k (get_or l i (pos 0)) ≡ false → all_within k (drop i l) ≡ false
-  within-stop e = at_place ∙ sym (first-fails (all_within k (drop (suc i) l)) e)
-
-pub within_end : (k : ℕ) (l : List ℤ) (i : ℕ) → length l ≤ i → all_within k (drop i l) ≡ true
-within_end k l i h = ap (all_within k) (drop_of_length-le l h)
 
 pub entry-within : (k : ℕ) (l : List ℤ) → T (all_within k l) → (n : ℕ) → nat_abs (get_or l n (pos 0)) ≤ k
 entry-within k [] t n = zero-le

@@ -14,25 +14,25 @@ pub use limits::{
 };
 
 // Why a call gives no result. The Rust's own errors have the Rust's names.
-#[derive(Clone, Copy)]
+#[derive(Clone, Copy, Debug, PartialEq, Eq)]
 pub enum Refusal {
-    Singular,
-    NotConverged,
-    OutsideLimits,
-    Overflow,
-    SingularQ,
-    SymmetryBroken,
-    TooManyRotations,
-    TooManyForInversion,
-    BadGridType,
-    NotUnimodularQ,
-    SingularReciprocalLattice,
-    SearchFailed,
-    WrongLength,
-    OutsideTable,
-    BadHeader,
-    NotGroup,
-    InvertedRange,
+    Singular = 1,
+    NotConverged = 2,
+    OutsideLimits = 3,
+    Overflow = 4,
+    SingularQ = 5,
+    SymmetryBroken = 6,
+    TooManyRotations = 7,
+    TooManyForInversion = 8,
+    BadGridType = 9,
+    NotUnimodularQ = 10,
+    SingularReciprocalLattice = 11,
+    SearchFailed = 12,
+    WrongLength = 13,
+    OutsideTable = 14,
+    BadHeader = 15,
+    NotGroup = 18,
+    InvertedRange = 20,
 }
 
 impl Refusal {
@@ -40,25 +40,7 @@ impl Refusal {
         ensures value { result ≡ number_of self }
         ensures upper_bound { result < 21 }
     {
-        match self {
-            Refusal::Singular => 1,
-            Refusal::NotConverged => 2,
-            Refusal::OutsideLimits => 3,
-            Refusal::Overflow => 4,
-            Refusal::SingularQ => 5,
-            Refusal::SymmetryBroken => 6,
-            Refusal::TooManyRotations => 7,
-            Refusal::TooManyForInversion => 8,
-            Refusal::BadGridType => 9,
-            Refusal::NotUnimodularQ => 10,
-            Refusal::SingularReciprocalLattice => 11,
-            Refusal::SearchFailed => 12,
-            Refusal::WrongLength => 13,
-            Refusal::OutsideTable => 14,
-            Refusal::BadHeader => 15,
-            Refusal::NotGroup => 18,
-            Refusal::InvertedRange => 20,
-        }
+        self as u64
     }
 
     // As an export answers it.
@@ -73,9 +55,5 @@ impl Refusal {
 pub fn fill(out: &mut [i64], v: i64)
     ensures { out.new ≡ replicate (length out.old) v }
 {
-    let mut i = 0;
-    while i < out.len() {
-        out[i] = v;
-        i += 1;
-    }
+    out.fill(v)
 }

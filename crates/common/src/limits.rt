@@ -4,58 +4,40 @@ ghost use Rattle.common.specs.Matrix.{all_axes, same_vector};
 ghost use Rattle.common.specs.Array.{along, matrix_of, vector_of};
 ghost use Rattle.common.specs.Limits.{within, all_within, matrix_within, rotations_fit, whole_matrices, side_fits, diagonal_fits, half_fits, shift_fits, point_fits};
 
-// By its two ends, which for a known k is one comparison.
 pub fn within(z: i64, k: u64) -> bool
     ensures { result ≡ within k z }
 {
-    if k > 0x7fff_ffff_ffff_ffff {
-        return true;
-    }
-    let n = k as i64;
-    -n <= z && z <= n
+    z.unsigned_abs() <= k
 }
 
 pub fn all_within(list: &[i64], k: u64) -> bool
     ensures { result ≡ all_within k list.now }
 {
-    let mut i = 0;
-    while i < list.len() {
-        if !within(list[i], k) {
-            return false;
-        }
-        i += 1;
-    }
-    true
+    list.iter().all(|z| within(*z, k))
 }
 
 pub fn row_within(a: [i64; 3], k: u64) -> bool
     ensures { result ≡ all_axes (λ x. within k (along a x)) }
 {
-    all_three(within(a[0], k), within(a[1], k), within(a[2], k))
+    within(a[0], k) && within(a[1], k) && within(a[2], k)
 }
 
 pub fn same_row(a: [i64; 3], b: [i64; 3]) -> bool
     ensures { result ≡ same_vector (vector_of a) (vector_of b) }
 {
-    all_three(a[0] == b[0], a[1] == b[1], a[2] == b[2])
+    a == b
 }
 
 pub fn matrix_within(m: [[i64; 3]; 3], k: u64) -> bool
     ensures { result ≡ matrix_within k (matrix_of m) }
 {
-    let x = m[0];
-    let y = m[1];
-    let z = m[2];
-    all_three(row_within(x, k), row_within(y, k), row_within(z, k))
+    row_within(m[0], k) && row_within(m[1], k) && row_within(m[2], k)
 }
 
 pub fn is_thrice(n: usize, k: usize) -> bool
     ensures { result ≡ eqb n (k * 3) }
 {
-    if n % 3 != 0 {
-        return false;
-    }
-    n / 3 == k
+    k.checked_mul(3) == Some(n)
 }
 
 pub fn whole_matrices(list: &[i64]) -> bool
@@ -67,10 +49,7 @@ pub fn whole_matrices(list: &[i64]) -> bool
 pub fn rotations_fit(list: &[i64], k: u64) -> bool
     ensures { result ≡ rotations_fit k list.now }
 {
-    if list.len() <= 1728 {
-        return all_within(list, k);
-    }
-    false
+    list.len() <= 1728 && all_within(list, k)
 }
 
 fn side_fits(z: i64) -> bool
@@ -82,12 +61,7 @@ fn side_fits(z: i64) -> bool
 pub fn all_three(a: bool, b: bool, c: bool) -> bool
     ensures { result ≡ a && (b && c) }
 {
-    if a {
-        if b {
-            return c;
-        }
-    }
-    false
+    a && b && c
 }
 
 // The number of points.
@@ -95,16 +69,14 @@ fn volume_fits(a: i64, b: i64, c: i64) -> bool
     requires { (nat_abs a ≤ 256) × (nat_abs b ≤ 256) × (nat_abs c ≤ 256) }
     ensures { result ≡ leb (nat_abs a * nat_abs b * nat_abs c) 65536 }
 {
-    integer::unsigned_abs(a) * integer::unsigned_abs(b) * integer::unsigned_abs(c) <= 65536
+    a.unsigned_abs() * b.unsigned_abs() * c.unsigned_abs() <= 65536
 }
 
 pub fn diagonal_fits(d: [i64; 3]) -> bool
     ensures { result ≡ diagonal_fits d }
 {
-    if all_three(side_fits(d[0]), side_fits(d[1]), side_fits(d[2])) {
-        return volume_fits(d[0], d[1], d[2]);
-    }
-    false
+    let [x, y, z] = d;
+    side_fits(x) && side_fits(y) && side_fits(z) && volume_fits(x, y, z)
 }
 
 fn half_fits(z: i64) -> bool
@@ -116,7 +88,7 @@ fn half_fits(z: i64) -> bool
 pub fn shift_fits(ps: [i64; 3]) -> bool
     ensures { result ≡ shift_fits ps }
 {
-    all_three(half_fits(ps[0]), half_fits(ps[1]), half_fits(ps[2]))
+    half_fits(ps[0]) && half_fits(ps[1]) && half_fits(ps[2])
 }
 
 // q0, one of the grid's points.

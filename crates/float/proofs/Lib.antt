@@ -1,3 +1,4 @@
+pub mod Library
 pub mod Sign
 pub mod Order
 pub mod Rounds
@@ -5,14 +6,13 @@ pub mod Operations
 pub mod Whole
 pub mod Bounds
 pub mod Rounding
-pub mod Small
 pub mod Cast
 pub mod Quotient
 pub mod Root
 pub mod SqrtRounding
+pub mod SqrtLibrary
 pub mod Pattern
 pub mod SqrtValue
 pub mod Digits
-pub mod GuessTest
 pub mod SqrtNearest
 pub mod Examples

@@ -1,5 +1,5 @@
 -- The order of floats. Between finite values it is the order of the fractions, multiplied out. Away from NaN, infinities included, it is total.
-use Rattle.std.proofs.Common.{◌≡◌, ℕ, ◌+◌, ◌*◌, ◌<◌, ◌≤◌, Bool, true, false, not, ◌&&◌, ◌||◌, T, eqb, leb, ◌⊎◌, inl, inr, le_of_eq, le_of_lt, mul-le-mul_right, le_of_mul-le-mul_right, arith, eqb→eq, ltb→lt, lt→ltb, leb→le, T_not}
+use Rattle.std.proofs.Common.{◌≡◌, ℕ, ◌+◌, ◌*◌, ◌<◌, ◌≤◌, Bool, true, false, not, ◌&&◌, T, eqb, leb, ◌⊎◌, inl, inr, le_of_eq, le_of_lt, mul-le-mul_right, le_of_mul-le-mul_right, arith, eqb→eq, ltb→lt, lt→ltb, leb→le, T_not}
 use lib.Dec.{nleb→lt}
 use lib.Ieee.{Float, nan, inf, fin, up, down, neg, lt, le, eq, is_nan}
 use lib.Ieee.Fits.{eq→eqb}

@@ -1,5 +1,5 @@
 -- The bits of an f64 as a number. A pattern n below 2 ^ 63 has the exponent's field n / 2 ^ 52 and the digits n % 2 ^ 52.
-use Rattle.std.proofs.Common.{◌≡◌, ℕ, zero, suc, ◌+◌, ◌-◌, ◌*◌, ◌/◌, ◌%◌, ◌^◌, ◌<◌, ◌≤◌, Bool, true, false, cond, not, ◌&&◌, T, eqb, leb, sym, refl, ap, ◌∙◌, subst, inl, inr, lt_irrefl, mod-lt, mod-eq_of_lt, mul_assoc, mul-one, mul_right_comm, arith, lit<, le→leb, eqb→eq, leb→le, pow_pos, pow-add}
+use Rattle.std.proofs.Common.{◌≡◌, ℕ, zero, suc, ◌+◌, ◌-◌, ◌*◌, ◌/◌, ◌%◌, ◌^◌, ◌<◌, ◌≤◌, Bool, true, false, cond, not, T, eqb, leb, sym, refl, ap, ◌∙◌, subst, inl, inr, lt_irrefl, mod-lt, mod-eq_of_lt, mul_assoc, mul-one, mul_right_comm, arith, lit<, le→leb, eqb→eq, leb→le, pow_pos, pow-add}
 use native.Mathlib.Nat.{div-eq_of_lt-le, pow-succ'}
 use lib.Dec.{not_T}
 use lib.Ieee.{Float, nan, inf, fin, binary64, up, down, odd, of_fields, of_bits, to_bits, fits, is_nan, nan_bits}
@@ -148,21 +148,3 @@ module _ (x : Float) (fx : T (fits binary64 x)) (p : T (positive x)) where
       (mul_assoc (2 ^ 52 + d) (2 ^ k) (2 ^ 52) ∙ ap (λ (z : ℕ). (2 ^ 52 + d) * z) (sym (pow-add 2 k 52) ∙ ap (λ (z : ℕ). 2 ^ z) ex) ∙ ap (λ (z : ℕ). z * 2 ^ (n / 2 ^ 52 + 51)) ed)
       (times x false ((2 ^ 52 + d) * 2 ^ k) (2 ^ 1074) (2 ^ 52)
       (subst (λ (z : Float). HasValue z false ((2 ^ 52 + d) * 2 ^ k) (2 ^ 1074)) (ap (of_bits binary64) en ∙ back) (pattern-normal k d (omega arith) (mod-lt n (pow_pos 52)))))
-
--- ---- a pattern is a NaN's by its exponent and its digits
-pub no-digits : (a b : Bool) → b ≡ true → T (not (a && not b))
-no-digits true b e = rw e tt
-no-digits false b e = tt
-
-pub other-exponent : (a b : Bool) → a ≡ false → T (not (a && not b))
-other-exponent a b e = rw e tt
-
-is-nan : (x : Float) → T (is_nan x) → x ≡ nan
-unfolding is_nan
-is-nan nan e = refl
-is-nan (inf s) e = absurd e
-is-nan (fin s m d) e = absurd e
-
-pub nan_pattern : (b : ℕ) → eqb (b % 0x8000000000000000 / 0x10000000000000) 2047 ≡ true → eqb (b % 0x10000000000000) 0 ≡ false → of_bits binary64 b ≡ nan
-unfolding nan_bits
-nan_pattern b e d = is-nan (of_bits binary64 b) (rw (← nan_bits_is binary64 b, e, d) tt)

@@ -5,7 +5,7 @@ use Rattle.std.proofs.Common.{◌≡◌, ℕ, zero, suc, ◌+◌, ◌-◌, ◌*�
 use native.Mathlib.Nat.{pow-succ'}
 use lib.Dec.{not_T}
 use lib.IntN.{*ℤ_comm, +ℤ_invr}
-use lib.Ieee.{Float, nan, inf, fin, binary64, up, size, round, neg, sub, div, le, lt, fits, of_int, of_bits}
+use lib.Ieee.{Float, nan, inf, fin, binary64, size, round, neg, sub, div, le, lt, fits, of_int, of_bits}
 use lib.Ieee.Digits.{size-lt, size-le, size_reaches}
 use lib.Ieee.Fits.{round-fits, div-fits}
 use lib.Ieee.Order.{round_mono}

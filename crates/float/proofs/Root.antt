@@ -4,8 +4,13 @@ use native.Mathlib.Nat.{pow-succ'}
 use lib.Dec.{nleb→lt}
 use lib.Ieee.{size}
 use lib.Ieee.Digits.{size-lt}
-use Rattle.float.specs.Sqrt.{digit, root, NearRoot}
+use Rattle.float.specs.Sqrt.{digit, root}
 use Rattle.float.proofs.Order.{by-test}
+
+-- q is the whole number nearest to the square root of n: (q - 1/2) ^ 2 < n < (q + 1/2) ^ 2
+pub record NearRoot (n q : ℕ) : Type 0 where
+  pub low : q * q < n + q
+  pub high : n ≤ q * q + q
 
 -- r is the whole part of n's square root
 pub record IsRoot (n r : ℕ) : Type 0 where

@@ -1,17 +1,14 @@
 -- Rounding to whole numbers: `round_of`, `floor_of` and `ceil_of` are exact, and leave a whole number as it is.
-use Rattle.std.proofs.Common.{◌≡◌, ℕ, zero, suc, ◌+◌, ◌-◌, ◌*◌, ◌^◌, ◌<◌, ◌≤◌, Bool, true, false, cond, not, T, ℤ, pos, negsuc, sym, refl, ap, ◌∙◌, subst, le_trans, le_refl, lt_irrefl, mod-lt, mul-le-mul, div-add-mod', arith, lit<, lit≤, T_not, pow_pos}
+use Rattle.std.proofs.Common.{◌≡◌, ℕ, zero, suc, ◌+◌, ◌-◌, ◌*◌, ◌^◌, ◌<◌, ◌≤◌, Bool, true, false, cond, not, T, ℤ, pos, negsuc, sym, refl, ap, ◌∙◌, subst, le_trans, le_refl, lt_irrefl, mod-lt, mul-le-mul, div-add-mod', arith, lit<, lit≤, pow_pos}
 use native.Mathlib.Nat.{pow-succ', div-eq_of_lt-le}
-use lib.Dec.{not_T}
-use lib.Ieee.{Float, nan, inf, fin, binary64, up, down, round, neg, lt, le, fits, is_nan}
-use lib.Ieee.Fits.{down_pos, neg-fits, round-fits}
+use lib.Ieee.{Float, nan, inf, fin, binary64, up, down, neg, fits}
+use lib.Ieee.Fits.{down_pos, round-fits}
 use lib.Ieee.Exact.{HasValue}
 use lib.Ieee.Back.{round_whole}
 use lib.Ieee.Scale.{finite}
 use lib.Ieee.Positive.{num, den}
-use Rattle.float.specs.Value.{zero_f}
 use Rattle.float.specs.Rounding.{whole_below, whole_above, whole_nearest, signed, round_of, floor_of, ceil_of}
 use Rattle.float.proofs.Sign.{neg-neg}
-use Rattle.float.proofs.Order.{le→cross, not-lt, le_lt_trans, neg-lt}
 use Rattle.float.proofs.Rounds.{round-neg, round-self, unique, fits-says}
 
 -- ---- a / c to a whole number, by its quotient q and remainder r
@@ -22,14 +19,8 @@ module _ (a c q r : ℕ) (e : a ≡ q * c + r) (R : r < c) where
   pub above_same : r ≡ 0 → whole_above a c ≡ q
   above_same h = div-eq_of_lt-le c (omega arith) (omega arith)
 
-  pub above-next : 0 < r → whole_above a c ≡ q + 1
-  above-next h = div-eq_of_lt-le c (omega arith) (omega arith)
-
   pub nearest-down : r * 2 < c → whole_nearest a c ≡ q
   nearest-down h = div-eq_of_lt-le (2 * c) (omega arith) (omega arith)
-
-  pub nearest-up : c ≤ r * 2 → whole_nearest a c ≡ q + 1
-  nearest-up h = div-eq_of_lt-le (2 * c) (omega arith) (omega arith)
 
 -- ---- which whole number it is: the largest one below, the least one above, the nearest
 pub record Below (a c k : ℕ) : Type 0 where
@@ -105,29 +96,6 @@ whole_neg : (s : Bool) (k : ℕ) → neg (signed (not s) k) ≡ signed s k
 whole_neg true k = sym (round-neg binary64 k 1)
 whole_neg false k = ap neg (round-neg binary64 k 1) ∙ neg-neg (signed false k)
 
-pub neg-round : (x : Float) → neg (round_of (neg x)) ≡ round_of x
-unfolding round_of neg
-neg-round nan = refl
-neg-round (inf true) = refl
-neg-round (inf false) = refl
-neg-round (fin s m e) = whole_neg s (whole_nearest (m * up e) (down e))
-
-pub neg-ceil : (x : Float) → neg (ceil_of (neg x)) ≡ floor_of x
-unfolding floor_of ceil_of neg
-neg-ceil nan = refl
-neg-ceil (inf true) = refl
-neg-ceil (inf false) = refl
-neg-ceil (fin true m e) = whole_neg true (whole_above (m * up e) (down e))
-neg-ceil (fin false m e) = whole_neg false (whole_below (m * up e) (down e))
-
-pub neg-floor : (x : Float) → neg (floor_of (neg x)) ≡ ceil_of x
-unfolding floor_of ceil_of neg
-neg-floor nan = refl
-neg-floor (inf true) = refl
-neg-floor (inf false) = refl
-neg-floor (fin true m e) = whole_neg true (whole_below (m * up e) (down e))
-neg-floor (fin false m e) = whole_neg false (whole_above (m * up e) (down e))
-
 -- ---- what all three leave as it is: whole numbers, infinities and NaN
 pub record Integral (x : Float) : Type 0 where
   pub round : x ≡ round_of x
@@ -156,13 +124,6 @@ integral (inf s) k fx t v = absurd t
 integral (fin true m e) k fx t v = record { round = nearest-self true m e k fx v; floor = above-self true m e k fx v; ceil = below_self true m e k fx v }
 integral (fin false m e) k fx t v = record { round = nearest-self false m e k fx v; floor = below_self false m e k fx v; ceil = above-self false m e k fx v }
 
-integral-neg : (x : Float) → Integral (neg x) → Integral x
-integral-neg x h = record {
-  round = sym (neg-neg x) ∙ ap neg h.round ∙ neg-round x;
-  floor = sym (neg-neg x) ∙ ap neg h.ceil ∙ neg-ceil x;
-  ceil = sym (neg-neg x) ∙ ap neg h.floor ∙ neg-floor x;
-}
-
 -- from 2 ^ 52 on there is no fraction
 no_fraction : (s : Bool) (m : ℕ) (e : ℤ) → T (fits binary64 (fin s m e)) → 2 ^ 52 * down e ≤ m * up e → m * up e ≡ m * up e * down e
 no_fraction s m (pos j) fx h = omega arith
@@ -172,45 +133,3 @@ no_fraction s (suc m) (negsuc j) fx h =
     let p = pow_pos j in
     let w = pow-succ' 2 j in
     absurd (lt_irrefl 0 (omega arith))
-
-abbrev pub top : Float
-top = fin false 1 (pos 52)
-
--- the code's three ways out: from 2 ^ 52 on, from -2 ^ 52 down, and without a sign (zeros and NaN)
-pub large : (x : Float) → T (fits binary64 x) → T (lt zero_f x) → T (not (lt x top)) → Integral x
-unfolding lt round_of floor_of ceil_of is_nan
-large nan fx h k = absurd h
-large (inf true) fx h k = absurd h
-large (inf false) fx h k = record { round = refl; floor = refl; ceil = refl }
-large (fin true m e) fx h k = absurd h
-large (fin false m e) fx h k =
-    let x = fin false m e in
-    let g = le→cross top x tt tt (not-lt x top tt tt k) in
-    integral x (m * up e) fx tt (no_fraction false m e fx (omega arith))
-
--- what the code asks of -x, for a negative x
-pub above_zero : (x : Float) → T (lt x zero_f) → T (lt zero_f (neg x))
-above_zero x h = le_lt_trans zero_f (neg zero_f) (neg x) (unfold le neg in tt) (neg-lt x zero_f h)
-
-pub below_top : (x : Float) → T (lt (neg top) x) → T (lt (neg x) top)
-below_top x h = rw neg-neg at (neg-lt (neg top) x h)
-
-pub large-neg : (x : Float) → T (fits binary64 x) → T (lt x zero_f) → T (not (lt (neg top) x)) → Integral x
-large-neg x fx h k =
-    integral-neg x
-    (large (neg x) (neg-fits binary64 x fx) (above_zero x h)
-    (not_T (lt (neg x) top) (λ g. T_not (lt (neg top) x) k (rw neg-neg at (neg-lt (neg x) top g)))))
-
-pub no_sign : (x : Float) → T (fits binary64 x) → T (not (lt zero_f x)) → T (not (lt x zero_f)) → Integral x
-unfolding lt round_of floor_of ceil_of is_nan
-no_sign nan fx h k = record { round = refl; floor = refl; ceil = refl }
-no_sign (inf true) fx h k = absurd k
-no_sign (inf false) fx h k = absurd h
-no_sign (fin true m e) fx h k =
-    let x = fin true m e in
-    let g = le→cross zero_f x tt tt (not-lt x zero_f tt tt k) in
-    integral x 0 fx tt (omega arith)
-no_sign (fin false m e) fx h k =
-    let x = fin false m e in
-    let g = le→cross x zero_f tt tt (not-lt zero_f x tt tt h) in
-    integral x 0 fx tt (omega arith)

@@ -5,10 +5,10 @@ use lib.Ieee.{Float, nan, inf, fin, binary64, up, down, fits, to_bits}
 use lib.Ieee.Exact.{HasValue}
 use lib.Ieee.Scale.{finite}
 use lib.Ieee.Positive.{positive, num, den, den_pos, own_value, value→cross, positive-finite, positive_of_value}
-use Rattle.float.specs.Sqrt.{sqrt_of, NearRoot}
+use Rattle.float.specs.Sqrt.{sqrt_of}
 use Rattle.float.proofs.Order.{by-test}
 use Rattle.float.proofs.Rounds.{unique, place, fits-says}
-use Rattle.float.proofs.Root.{near-exists}
+use Rattle.float.proofs.Root.{NearRoot, near-exists}
 use Rattle.float.proofs.Pattern.{field_lt, low-pos, low_value, high_value}
 use Rattle.float.proofs.SqrtValue.{Split, scaled, split-factor, split-even, split-odd, near-bounds, sqrt-value, sqrt-fits}
 use Rattle.float.proofs.Digits.{Shift, shift-start, shift-more, shift-step}

@@ -8,9 +8,9 @@ use lib.Arith.{lt_of_le-ne}
 use lib.Ieee.{Format, prec, low, size, nearest, units, round}
 use lib.Ieee.Digits.{size-lt, size-le}
 use lib.Ieee.Fits.{round_is, two, two-le_pos}
-use Rattle.float.specs.Sqrt.{beyond, NearRoot}
+use Rattle.float.specs.Sqrt.{beyond}
 use Rattle.float.proofs.Order.{by-test}
-use Rattle.float.proofs.Root.{IsRoot, root-le, root-lt, near_le, near-ge}
+use Rattle.float.proofs.Root.{NearRoot, IsRoot, root-le, root-lt, near_le, near-ge}
 
 -- ---- `round` of a fraction num / den whose kept digits p are known: in units of 2 ^ -low it lies from p * 2 ^ k on, and below (p + 1) * 2 ^ k
 abbrev Cmp : Ordering → ℕ → ℕ → Type 0
@@ -76,12 +76,12 @@ module _ (f : Format) (num den p k : ℕ) (D : 0 < den) (lo : 2 ^ (prec f - 1) �
       ∙ ap (λ (x : ℕ). units f false (nearest x (compare (num * 2 ^ low f % (den * 2 ^ k) * 2) (den * 2 ^ k))) k) kept
       ∙ ap (λ (x : ℕ). units f false (nearest p (compare (x * 2) (den * 2 ^ k))) k) left
 
-  round-down : (num * 2 ^ low f) * 2 < p * (den * 2 ^ k) * 2 + den * 2 ^ k → round f false num den ≡ units f false p k
+  pub round-down : (num * 2 ^ low f) * 2 < p * (den * 2 ^ k) * 2 + den * 2 ^ k → round f false num den ≡ units f false p k
   round-down h =
       let r = (num * 2 ^ low f - p * (den * 2 ^ k)) * 2 in
       at ∙ ap (λ (x : ℕ). units f false x k) (nearest-down p (compare r (den * 2 ^ k)) r (den * 2 ^ k) (cmp r (den * 2 ^ k)) (let g = from in omega arith))
 
-  round_up : p * (den * 2 ^ k) * 2 + den * 2 ^ k < (num * 2 ^ low f) * 2 → round f false num den ≡ units f false (suc p) k
+  pub round_up : p * (den * 2 ^ k) * 2 + den * 2 ^ k < (num * 2 ^ low f) * 2 → round f false num den ≡ units f false (suc p) k
   round_up h =
       let r = (num * 2 ^ low f - p * (den * 2 ^ k)) * 2 in
       at ∙ ap (λ (x : ℕ). units f false x k) (nearest-up p (compare r (den * 2 ^ k)) r (den * 2 ^ k) (cmp r (den * 2 ^ k)) (let g = from in omega arith))

@@ -1,20 +1,14 @@
 -- `sqrt_of` of m * 4 ^ h / 2 ^ 1126, for an m of 53 or 54 digits: q * 2 ^ (h + 485) / 2 ^ 1074, where q is the whole number nearest to the root of m * 2 ^ 52.
 -- And the facts behind the code of `sqrt` and `root_of`.
-use Rattle.std.proofs.Common.{◌≡◌, ℕ, zero, suc, ◌+◌, ◌*◌, ◌/◌, ◌%◌, ◌^◌, ◌<◌, ◌≤◌, true, false, not, T, ℤ, sym, refl, ap, ◌∙◌, subst, true≢false, le_of_eq, lt_of_lt_of_le, lt_of_le_of_lt, lt_irrefl, mul-le-mul_right, zero-lt-suc, mul_assoc, mul-lt-mul_of_pos_right, mul-pos, mul_right_comm, mul-div_cancel, mul_left_comm, arith, lit≤, lt→ltb, T_not, pow_pos, pow-add}
+use Rattle.std.proofs.Common.{◌≡◌, ℕ, zero, suc, ◌+◌, ◌*◌, ◌/◌, ◌%◌, ◌^◌, ◌<◌, ◌≤◌, true, false, T, ℤ, sym, refl, ap, ◌∙◌, subst, true≢false, le_of_eq, lt_of_lt_of_le, lt_of_le_of_lt, lt_irrefl, mul-le-mul_right, mul_assoc, mul-lt-mul_of_pos_right, mul-pos, mul_right_comm, mul-div_cancel, mul_left_comm, arith, lit≤, pow_pos, pow-add}
 use native.Mathlib.Nat.{pow-succ'}
 use lib.Pow.{pow-lt}
-use lib.Ieee.{Float, nan, inf, fin, binary64, up, down, size, units, round, of_bits, fits, is_nan, nan_bits, lt, eq}
-use lib.Ieee.Fits.{up_pos, down_pos, round-fits, nan-fits, inf-fits}
+use lib.Ieee.{Float, nan, inf, fin, binary64, up, down, size, units, round, fits}
+use lib.Ieee.Fits.{down_pos, round-fits, nan-fits, inf-fits}
 use lib.Ieee.Exact.{HasValue, units_val}
-use lib.Ieee.Bits.{of_bits-fits}
-use lib.Ieee.Positive.{positive, first_pos}
-use Rattle.float.specs.Value.{zero_f}
-use Rattle.float.specs.Sqrt.{root, beyond, sqrt_of, NearRoot}
-use Rattle.float.proofs.Order.{lt→cross, cross→lt, eq→cross, cross→eq}
-use Rattle.float.proofs.Rounds.{unique}
-use Rattle.float.proofs.Root.{IsRoot, root_is, four, near_le, near-ge}
+use Rattle.float.specs.Sqrt.{root, beyond, sqrt_of}
+use Rattle.float.proofs.Root.{NearRoot, IsRoot, root_is, four, near_le, near-ge}
 use Rattle.float.proofs.SqrtRounding.{sqrt-at}
-use Rattle.float.proofs.Pattern.{pattern-of, value-no-nan}
 
 -- ---- the whole number n = x * 4 ^ 1074 of the definition is m * 2 ^ 52 * 4 ^ (h + 485)
 pub scaled : (m h : ℕ) → m * 4 ^ h * 2 ^ 1022 ≡ m * 2 ^ 52 * (2 ^ (h + 485) * 2 ^ (h + 485))
@@ -92,21 +86,6 @@ sqrt-fits (fin s zero e) h = h
 sqrt-fits (fin true (suc m) e) h = nan-fits binary64
 sqrt-fits (fin false (suc m) e) h = round-fits binary64 false _ _
 
--- ---- the bits that the code writes
-written : (m h q : ℕ) → 2 ^ 52 ≤ m → m < 2 ^ 54 → h < 1049 → NearRoot (m * 2 ^ 52) q → HasValue (of_bits binary64 ((h + 485) * 2 ^ 52 + q)) false (q * 2 ^ (h + 485)) (2 ^ 1074)
-written m h q a b H near = let g = near-bounds m q a b near in pattern-of (h + 485) q (small h H) g.0 g.1
-  where
-    small : (h : ℕ) → h < 1049 → suc (suc (h + 485)) < 2047
-    small h H = omega arith
-
-pub no_nan : (m h q : ℕ) → 2 ^ 52 ≤ m → m < 2 ^ 54 → h < 1049 → NearRoot (m * 2 ^ 52) q → T (not (nan_bits binary64 ((h + 485) * 2 ^ 52 + q)))
-no_nan m h q a b H near = value-no-nan ((h + 485) * 2 ^ 52 + q) (q * 2 ^ (h + 485)) (2 ^ 1074) (written m h q a b H near)
-
-pub sqrt-bits : (x : Float) (m h q : ℕ) → T (fits binary64 x) → Split x m h → NearRoot (m * 2 ^ 52) q → of_bits binary64 ((h + 485) * 2 ^ 52 + q) ≡ sqrt_of x
-sqrt-bits x m h q fx s near =
-    unique binary64 (of_bits binary64 ((h + 485) * 2 ^ 52 + q)) (sqrt_of x) false (q * 2 ^ (h + 485)) (2 ^ 1074) (pow_pos 1074) (of_bits-fits binary64 ((h + 485) * 2 ^ 52 + q)) (sqrt-fits x fx)
-    (written m h q s.from s.to s.room near) (sqrt-value x m h q s near)
-
 -- ---- m * 2 ^ t by the parity of t
 double : (h : ℕ) → 2 ^ (h + h) ≡ 4 ^ h
 double h = pow-add 2 h h ∙ sym (four h)
@@ -135,46 +114,3 @@ split-odd x m t a b c e v =
       to = omega arith;
       room = half t c;
     }
-
--- ---- the tests of `sqrt`
-pub is_positive : (x : Float) → T (lt zero_f x) → T (lt x (inf false)) → T (positive x)
-unfolding lt
-is_positive nan h k = absurd h
-is_positive (inf true) h k = absurd h
-is_positive (inf false) h k = absurd k
-is_positive (fin true m e) h k = absurd h
-is_positive (fin false m e) h k = let g = lt→cross zero_f (fin false m e) tt tt h in lt→ltb 0 m (first_pos m (up e) (omega arith))
-
-pub positive-number : (x : Float) → T (positive x) → T (not (is_nan x))
-unfolding is_nan
-positive-number nan p = absurd p
-positive-number (inf s) p = tt
-positive-number (fin s m e) p = tt
-
-pub at-infinity : (x : Float) → T (lt zero_f x) → T (not (lt x (inf false))) → x ≡ sqrt_of x
-unfolding lt sqrt_of
-at-infinity nan h k = absurd h
-at-infinity (inf true) h k = absurd h
-at-infinity (inf false) h k = refl
-at-infinity (fin s m e) h k = absurd k
-
-product-pos : (m : ℕ) (e : ℤ) → 0 < suc m * up e
-product-pos m e = mul-pos (zero-lt-suc m) (up_pos e)
-
-pub at_zero : (x : Float) → T (eq x zero_f) → x ≡ sqrt_of x
-unfolding sqrt_of
-at_zero nan h = unfold eq in absurd h
-at_zero (inf s) h = unfold eq in absurd h
-at_zero (fin s zero e) h = refl
-at_zero (fin true (suc m) e) h = let g = eq→cross (fin true (suc m) e) zero_f tt tt h in let p = product-pos m e in absurd (lt_irrefl 0 (omega arith))
-at_zero (fin false (suc m) e) h = let g = eq→cross (fin false (suc m) e) zero_f tt tt h in let p = product-pos m e in absurd (lt_irrefl 0 (omega arith))
-
-pub below-zero : (x : Float) → T (not (lt zero_f x)) → T (not (eq x zero_f)) → nan ≡ sqrt_of x
-unfolding sqrt_of
-below-zero nan h k = refl
-below-zero (inf true) h k = refl
-below-zero (inf false) h k = unfold lt in absurd h
-below-zero (fin true zero e) h k = absurd (T_not (eq (fin true zero e) zero_f) k (cross→eq (fin true zero e) zero_f tt tt (omega arith)))
-below-zero (fin false zero e) h k = absurd (T_not (eq (fin false zero e) zero_f) k (cross→eq (fin false zero e) zero_f tt tt (omega arith)))
-below-zero (fin true (suc m) e) h k = refl
-below-zero (fin false (suc m) e) h k = let p = product-pos m e in absurd (T_not (lt zero_f (fin false (suc m) e)) h (cross→lt zero_f (fin false (suc m) e) tt tt (omega arith)))

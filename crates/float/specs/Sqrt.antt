@@ -1,5 +1,5 @@
 -- IEEE 754's square root of an f64, correctly rounded.
-use Rattle.std.specs.Prelude.{ℕ, zero, suc, ◌+◌, ◌*◌, ◌/◌, ◌^◌, ◌<◌, ◌≤◌, true, false, cond, ◌==◌, nat_le, Float}
+use Rattle.std.specs.Prelude.{ℕ, zero, suc, ◌+◌, ◌*◌, ◌/◌, ◌^◌, true, false, cond, ◌==◌, nat_le, Float}
 use Rattle.std.specs.Float.{nan, inf, fin, binary64}
 use Rattle.std.specs.Float.Ieee.{up, down, size, round}
 
@@ -27,8 +27,3 @@ sqrt_of (fin false (suc m) e) =
     let n = suc m * up e * 4 ^ 1074 / down e in
     let s = root (size n) n in
     round binary64 false (2 * s + beyond s n) (2 * 2 ^ 1074)
-
--- q is the whole number nearest to the square root of n: (q - 1/2) ^ 2 < n < (q + 1/2) ^ 2
-pub record NearRoot (n q : ℕ) : Type 0 where
-  pub low : q * q < n + q
-  pub high : n ≤ q * q + q

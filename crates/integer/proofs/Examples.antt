@@ -1,11 +1,12 @@
 -- Worked examples, which hold the definitions of specs/ fast.
 use mathlib.Core.Path.{◌≡◌, refl}
 use mathlib.Core.Bool.{true, false}
-use lib.IntN.{ℤ, pos, negsuc, neg_ℤ, ◌+ℤ◌, ◌*ℤ◌}
+use lib.IntN.{pos, negsuc, neg_ℤ, ◌+ℤ◌, ◌*ℤ◌}
 use lib.Signed.{quot_z, rem_z}
 use Rattle.integer.specs.Division.{div_euclid, rem_euclid}
 use Rattle.integer.specs.Checked.{fits64, checked, divided}
-use Rattle.integer.specs.declared.Checked.TheVariants.{Value, Overflow, ZeroDivisor}
+use Rattle.std.specs.Prelude.{Ok, Err}
+use Rattle.integer.specs.declared.ArithmeticError.TheVariants.{Overflow, ZeroDivisor}
 use Rattle.integer.proofs.Fits.{least, largest}
 
 -- 7 and -7 by 2 and by -2
@@ -22,12 +23,12 @@ exact = (refl, refl)
 range : (fits64 least ≡ true) × (fits64 (least +ℤ negsuc 0) ≡ false) × (fits64 largest ≡ true) × (fits64 (largest +ℤ pos 1) ≡ false)
 range = (refl, refl, refl, refl)
 
-sums : (checked (largest +ℤ pos 0) ≡ Value largest) × (checked (largest +ℤ pos 1) ≡ Overflow) × (checked (least +ℤ largest) ≡ Value (negsuc 0))
+sums : (checked (largest +ℤ pos 0) ≡ Ok largest) × (checked (largest +ℤ pos 1) ≡ Err Overflow) × (checked (least +ℤ largest) ≡ Ok (negsuc 0))
 sums = (refl, refl, refl)
 
-products : (checked (least *ℤ negsuc 0) ≡ Overflow) × (checked (negsuc 4294967295 *ℤ pos 2147483648) ≡ Value least) × (checked (neg_ℤ least) ≡ Overflow)
+products : (checked (least *ℤ negsuc 0) ≡ Err Overflow) × (checked (negsuc 4294967295 *ℤ pos 2147483648) ≡ Ok least) × (checked (neg_ℤ least) ≡ Err Overflow)
 products = (refl, refl, refl)
 
 -- the least number over -1: neither its quotient nor its remainder is given
-divisions : (divided (negsuc 0) (quot_z least (negsuc 0)) (rem_z least (negsuc 0)) ≡ Overflow) × (divided (pos 0) (quot_z (pos 5) (pos 0)) (rem_z (pos 5) (pos 0)) ≡ ZeroDivisor) × (divided (pos 2) (quot_z (negsuc 6) (pos 2)) (rem_z (negsuc 6) (pos 2)) ≡ Value (negsuc 0))
+divisions : (divided (negsuc 0) (quot_z least (negsuc 0)) (rem_z least (negsuc 0)) ≡ Err Overflow) × (divided (pos 0) (quot_z (pos 5) (pos 0)) (rem_z (pos 5) (pos 0)) ≡ Err ZeroDivisor) × (divided (pos 2) (quot_z (negsuc 6) (pos 2)) (rem_z (negsuc 6) (pos 2)) ≡ Ok (negsuc 0))
 divisions = (refl, refl, refl)

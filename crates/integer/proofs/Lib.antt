@@ -11,8 +11,6 @@ pub mod Divides
 pub mod Congruence
 pub mod Fits
 pub mod Same
-pub mod Product
 pub mod Quotient
 pub mod Answer
-pub mod Euclid
 mod Examples

@@ -5,9 +5,8 @@ use Prim.Native.Nat.{ℕ, zero, suc, ◌+◌, ◌/◌, ◌<◌, ◌≤◌}
 use native.Mathlib.Nat.{div-le_self, div-one, div-mul-le_self, mul-le-mul_left, lt_of_le_of_lt}
 use native.Mathlib.Omega.{arith}
 use lib.Dec.{lt→ltb}
-use lib.IntN.{ℤ, pos, negsuc, neg_ℤ, nat_abs, ◌-ℤ◌, +ℤ_idl, pos-ne-negsuc}
+use lib.IntN.{ℤ, pos, negsuc, neg_ℤ, nat_abs, pos-ne-negsuc}
 use lib.Signed.{mag, mag_rem, quot_z, rem_z, nat_abs-le}
-use borrow.Author.Tests.{ltb-true}
 use mir.Syntax.{w64}
 use mir.Val.{SFits, of_z, to_z}
 use mir.Facts.{to_z-of_z}
@@ -20,9 +19,6 @@ use Rattle.integer.proofs.Division.{rem-euclid-nonneg, rem-euclid-lt}
 -- ---- the divisor by its bits
 pub zero_bits : (d : ℤ) → SFits w64 d → of_z w64 d ≡ 0 → d ≡ pos 0
 zero_bits d f e = sym (to_z-of_z f) ∙ ap (to_z w64) e
-
-pub minus-one-bits : (d : ℤ) → SFits w64 d → of_z w64 d ≡ 0xffffffffffffffff → d ≡ negsuc 0
-minus-one-bits d f e = sym (to_z-of_z f) ∙ ap (to_z w64) e
 
 pub nonzero-size : (d : ℤ) → (of_z w64 d ≡ 0 → ⊥) → 0 < nat_abs d
 nonzero-size (pos n) h = omega arith
@@ -53,23 +49,12 @@ div-euclid-sfits (negsuc a) (pos b) f n = record { sfits = omega (arith, div-le_
 div-euclid-sfits (negsuc a) (negsuc zero) f n = absurd (n refl)
 div-euclid-sfits (negsuc a) (negsuc (suc b)) f n = record { sfits = omega (arith, half a b, f.sfits) }
 
--- by -1 both are the negative
-by-minus-one : (a : ℤ) → quot_z a (negsuc 0) ≡ pos 0 -ℤ a
-by-minus-one (pos n) = ap (λ (k : ℕ). neg_ℤ (pos k)) (div-one n) ∙ sym (+ℤ_idl (neg_ℤ (pos n)))
-by-minus-one (negsuc n) = ap pos (div-one (suc n)) ∙ sym (+ℤ_idl (pos (suc n)))
-
 euclid-minus-one : (a : ℤ) → div_euclid a (negsuc 0) ≡ quot_z a (negsuc 0)
 euclid-minus-one (pos n) = refl
 euclid-minus-one (negsuc n) = ap (λ (k : ℕ). pos (suc k)) (div-one n) ∙ sym (ap pos (div-one (suc n)))
 
-pub minus-one-fits : (a d : ℤ) → d ≡ negsuc 0 → fits64 (pos 0 -ℤ a) ≡ fits64 (quot_z a d)
-minus-one-fits a d e = ap fits64 (sym (by-minus-one a) ∙ ap (quot_z a) (sym e))
-
 test_of : (z : ℤ) → SFits w64 z → fits64 z ≡ true
 test_of z f = is_true (fits64 z) (lt→ltb (mag z) 0x8000000000000000 f.sfits)
-
-pub other_fits : (a d : ℤ) → SFits w64 a → (of_z w64 d ≡ 0xffffffffffffffff → ⊥) → true ≡ fits64 (quot_z a d)
-other_fits a d f n = sym (test_of (quot_z a d) (quot-sfits a d f (λ e. n (ap (of_z w64) e))))
 
 -- so one test serves both divisions
 pub same-fits : (a d : ℤ) → SFits w64 a → fits64 (quot_z a d) ≡ fits64 (div_euclid a d)
@@ -82,9 +67,6 @@ same-fits a (negsuc (suc n)) f = test_of (quot_z a (negsuc (suc n))) (quot-sfits
       where
         never : (n : ℕ) → suc n ≡ 0 → ⊥
         never n e = omega arith
-
-pub div-sfits : (a d : ℤ) → SFits w64 a → SFits w64 (quot_z a d) → SFits w64 (div_euclid a d)
-div-sfits a d f g = record { sfits = ltb-true (mag (div_euclid a d)) 0x8000000000000000 (sym (same-fits a d f) ∙ test_of (quot_z a d) g) }
 
 pub rem-sfits : (a d : ℤ) → SFits w64 d → 0 < nat_abs d → SFits w64 (rem_euclid a d)
 rem-sfits a d f h = record { sfits = small (rem_euclid a d) (rem-euclid-nonneg a d) (rem-euclid-lt a d h) (nat_abs-le d f.sfits) }

@@ -1,7 +1,7 @@
 -- The solver's surface. `ring (x ∷ y ∷ []) (search reify depth 40) tt` proves an equation in the numbers x and y: the search reads both sides as expressions,
 -- the list says which terms are atoms, and `tt` is the solver's test. `eq-by` proves an equation from others.
 use mathlib.Core.Path.{◌≡◌, refl, sym, ◌∙◌, ap, ap₂}
-use mathlib.Core.List.{List, [], ◌∷◌}
+use mathlib.Core.List.{List, ◌∷◌}
 use lib.IntN.{ℤ, pos, negsuc, neg_ℤ, ◌+ℤ◌, ◌*ℤ◌, ◌-ℤ◌, +ℤ_invr, zero-*ℤ}
 use Rattle.integer.proofs.Ring.{sub-eq-zero}
 use lib.Dec.{T, eqb}

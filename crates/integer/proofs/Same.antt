@@ -8,8 +8,10 @@ use lib.Signed.{mag}
 use mir.Syntax.{w64}
 use mir.Val.{to_z, of_z}
 use borrow.Author.Tests.{eq-eqb, ne_eqb}
+use Rattle.std.specs.Ordering.{int_eq}
+use Rattle.std.proofs.lemmas.Bool.Decides.{same_from_decides, Decides-int_eq}
 use Rattle.integer.specs.Same.{same}
-use Rattle.integer.proofs.Test.{same_test}
+use Rattle.integer.proofs.Test.{holds, is_true, same_test}
 use Rattle.integer.proofs.Fits.{held-is}
 
 pub same-eq : (x y : ℤ) → T (same x y) → x ≡ y
@@ -21,6 +23,10 @@ same-eq (negsuc m) (negsuc n) t = ap negsuc (eqb→eq m n t)
 pub same_refl : (x : ℤ) → T (same x x)
 same_refl (pos n) = eqb_refl n
 same_refl (negsuc n) = eqb_refl n
+
+-- `==` of the library's arrays and slices
+pub int-eq-same : (x y : ℤ) → int_eq x y ≡ same x y
+int-eq-same x y = same_from_decides (int_eq x y) (same x y) (Decides-int_eq x y) (λ e. same-eq x y (holds e), λ e. is_true (same x y) (rw e (same_refl y)))
 
 -- ---- two numbers that the code reads
 module _ (x y : ℤ) (f : mag x < 0x8000000000000000) (g : mag y < 0x8000000000000000) where

@@ -1,8 +1,8 @@
 -- What fits 64 signed bits, and the answers of the checked operations.
-use Rattle.std.specs.Prelude.{Bool, true, false, ltb, eqb, ℤ, nat_abs}
+use Rattle.std.specs.Prelude.{Bool, true, false, ltb, eqb, ℤ, nat_abs, Result, Ok, Err}
 use Rattle.std.specs.Int.Signed.{mag}
-use Rattle.integer.specs.declared.Checked.{Checked}
-use Rattle.integer.specs.declared.Checked.TheVariants.{Value, Overflow, ZeroDivisor}
+use Rattle.integer.specs.declared.ArithmeticError.{ArithmeticError}
+use Rattle.integer.specs.declared.ArithmeticError.TheVariants.{Overflow, ZeroDivisor}
 
 -- the range of an i64: `mag` is n of n and of -(n + 1)
 abbrev pub fits64 : ℤ → Bool
@@ -16,9 +16,9 @@ pick true a b = a
 pick false a b = b
 
 -- the exact number where it fits
-abbrev pub checked : ℤ → Checked
-checked z = pick (fits64 z) (Value z) Overflow
+abbrev pub checked : ℤ → Result ℤ ArithmeticError
+checked z = pick (fits64 z) (Ok z) (Err Overflow)
 
 -- a quotient or a remainder of a division by d: both are refused where the quotient does not fit, as in Rust
-abbrev pub divided : (d quotient result : ℤ) → Checked
-divided d quotient result = pick (is_zero d) ZeroDivisor (pick (fits64 quotient) (Value result) Overflow)
+abbrev pub divided : (d quotient result : ℤ) → Result ℤ ArithmeticError
+divided d quotient result = pick (is_zero d) (Err ZeroDivisor) (pick (fits64 quotient) (Ok result) (Err Overflow))

@@ -1,6 +1,6 @@
 -- What the export of the extended gcd answers and leaves, by its branches.
 use mathlib.Core.Path.{◌≡◌, refl, sym, ◌∙◌, ap}
-use mathlib.Core.List.{List, [], ◌∷◌}
+use mathlib.Core.List.{List}
 use Prim.Native.Nat.{ℕ, ◌<◌}
 use native.Mathlib.Omega.{arith}
 use lib.IntN.{ℤ, pos, negsuc}
@@ -10,7 +10,7 @@ use mir.Syntax.{w64}
 use mir.Val.{SFits}
 use Rattle.integer.specs.Checked.{pick}
 use Rattle.integer.proofs.Fits.{fits-size, range-fits, sfits-range}
-use Rattle.common.specs.declared.Refusal.TheVariants.{Overflow, WrongLength}
+use Rattle.common.specs.declared.Refusal.TheVariants.{WrongLength}
 use Rattle.common.specs.Refusal.{number_of}
 use Rattle.snf_steps.specs.Result.{Result, ok, overflow, ◌then◌}
 use Rattle.snf_steps.specs.Gcd.{Euclid, extended_gcd, steps, Counted, counted_gcd}

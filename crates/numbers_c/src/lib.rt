@@ -17,29 +17,21 @@ pub use floats::{
     zone_to_i64,
 };
 pub use gcd::zone_extended_gcd;
-use integer::Checked;
+use integer::ArithmeticError;
 
-fn tell(answer: Checked, out: &mut [i64]) -> i64
+// A divisor of 0 is an overflow too, as every panic of the Rust's arithmetic is.
+fn tell(answer: Result<i64, ArithmeticError>, out: &mut [i64]) -> i64
     ensures { Told answer out.old result out.new }
 {
+    out.fill(-1);
     if out.len() != 1 {
-        common::fill(out, -1);
         return Refusal::WrongLength.answer();
     }
-    match answer {
-        Checked::Value(v) => {
-            out[0] = v;
-            0
-        }
-        Checked::Overflow => {
-            out[0] = -1;
-            Refusal::Overflow.answer()
-        }
-        Checked::ZeroDivisor => {
-            out[0] = -1;
-            Refusal::Overflow.answer()
-        }
-    }
+    let Ok(v) = answer else {
+        return Refusal::Overflow.answer();
+    };
+    out[0] = v;
+    0
 }
 
 pub fn zone_checked_add(a: i64, b: i64, out: &mut [i64]) -> i64

@@ -15,8 +15,7 @@ use Rattle.integer.proofs.Test.{is_false, and_l, and_r, and_in, pick-cases}
 use Rattle.integer.proofs.Order.{nonneg_of}
 use Rattle.integer.proofs.Fits.{held, size_fits}
 use Rattle.common.proofs.Tests.{first_holds, first-fails}
-use Rattle.bzsearch.specs.Search.{Span, Numbers, number_at, max_z, min_z, to_nat, count, count_of, upwards, from_zero, below_zero, fft_order, clipped, span_fits}
-use Rattle.bzsearch.specs.SearchView.{Room}
+use Rattle.bzsearch.specs.Search.{Room, Span, Numbers, number_at, max_z, min_z, to_nat, count, count_of, upwards, from_zero, below_zero, fft_order, clipped, span_fits}
 
 abbrev pub span_of : ℤ → ℤ → Span
 span_of lo hi = record { lo = lo; hi = hi }

@@ -5,12 +5,13 @@ use mathlib.Core.List.{List}
 use Prim.Native.Nat.{ℕ}
 use lib.IntN.{ℤ, pos, negsuc}
 use lib.ListN.{length, replicate}
+use Rattle.std.specs.Prelude.{Result, Err}
+use Rattle.class_weights.specs.declared.Counts.{Counts}
+use Rattle.common.specs.declared.Refusal.{Refusal}
 use Rattle.integer.specs.Checked.{pick}
 use Rattle.common.specs.declared.Refusal.TheVariants.{WrongLength}
 use Rattle.common.specs.Refusal.{number_of}
 use Rattle.common.specs.Array.{row_at}
-use Rattle.class_weights.specs.declared.ClassWeights.{ClassWeights}
-use Rattle.class_weights.specs.declared.ClassWeights.TheVariants.{Refused}
 use Rattle.class_weights.specs.ClassWeights.{Rooms, Outcome, outcome_of, weight_tests, class_weights}
 use Rattle.answers.specs.ClassWeights.{weights_number, weights_told, weight_lengths, weights_outcome, WeightsTold}
 
@@ -22,7 +23,7 @@ module _ (rotations d ps : List ℤ) (point : ℤ) (r : Rooms) (m : ℕ) where
   all = weights_outcome rotations d ps point r m
 
   abbrev none : Outcome
-  none = outcome_of (Refused WrongLength) (replicate r.weights (negsuc 0)) (replicate r.members (negsuc 0)) (replicate r.keepers (negsuc 0))
+  none = outcome_of (Err WrongLength) (replicate r.weights (negsuc 0)) (replicate r.members (negsuc 0)) (replicate r.keepers (negsuc 0))
 
   told : {o : Outcome} → o ≡ all → {b : Bool} → lengths ≡ b → {x : ℤ} {u v w t : List ℤ} → x ≡ weights_number o.answer → u ≡ o.weights → v ≡ o.members → w ≡ o.keepers
       → t ≡ pick b (weights_told o.answer) (replicate m (negsuc 0)) → WeightsTold all lengths m x u v w t
@@ -43,7 +44,7 @@ module _ (rotations d ps : List ℤ) (point : ℤ) (r : Rooms) (m : ℕ) where
   unfolding class_weights weight_tests
   rows_same = refl
 
-  pub weights-passed : lengths ≡ true → {x : ℤ} {a : ClassWeights} {u v w t y z : List ℤ} → y ≡ row_at d 0 → z ≡ row_at ps 0 → outcome_of a u v w ≡ class_weights rotations y z point r
+  pub weights-passed : lengths ≡ true → {x : ℤ} {a : Result Counts Refusal} {u v w t y z : List ℤ} → y ≡ row_at d 0 → z ≡ row_at ps 0 → outcome_of a u v w ≡ class_weights rotations y z point r
       → x ≡ weights_number a → t ≡ weights_told a → WeightsTold all lengths m x u v w t
   weights-passed i {a = a} {u = u} {v = v} {w = w} ey ez e x t =
       told (e ∙ ap₂ (λ y z. class_weights rotations y z point r) ey ez ∙ rows_same ∙ sym (ap (λ (b : Bool). pick b (class_weights rotations d ps point r) none) i)) i x refl refl refl t

@@ -6,18 +6,19 @@ use Prim.Native.Nat.{ℕ}
 use lib.IntN.{ℤ, pos, negsuc}
 use lib.ListN.{length, replicate}
 use borrow.Author.Tests.{eq-eqb, ne_eqb}
+use Rattle.std.specs.Prelude.{Result}
+use Rattle.common.specs.declared.Refusal.{Refusal}
+use Rattle.common.specs.Tested.{Tested}
 use Rattle.common.specs.declared.Refusal.TheVariants.{WrongLength}
 use Rattle.common.specs.Refusal.{number_of}
 use Rattle.common.specs.Array.{row_at}
-use Rattle.grgrid.specs.declared.IrGridMap.{IrGridMap}
-use Rattle.grgrid.specs.declared.Addresses.{Addresses}
 use Rattle.grgrid.specs.IrGridMap.{ir_grid_map_answer, ir_grid_map_written}
 use Rattle.grgrid.specs.Addresses.{addresses_answer, addresses_written}
 use Rattle.answers.specs.Grids.{classes_number, classes_told, addresses_number, class_lengths, IrGridMapTold, AddressesTold}
 use Rattle.answers.proofs.Lengths.{taken, left}
 
 module _ (rotations d ps : List ℤ) (n m : ℕ) where
-  abbrev answer : IrGridMap
+  abbrev answer : Result ℤ Refusal
   answer = ir_grid_map_answer rotations d ps n
 
   pub classes-unsized : class_lengths (length d) (length ps) m ≡ false → {r : ℤ} {map told : List ℤ}
@@ -29,7 +30,7 @@ module _ (rotations d ps : List ℤ) (n m : ℕ) where
   }
 
   -- the library's call has the three numbers of d and of ps
-  pub classes-passed : class_lengths (length d) (length ps) m ≡ true → {r : ℤ} {map told u v : List ℤ} {a : IrGridMap} → u ≡ row_at d 0 → v ≡ row_at ps 0
+  pub classes-passed : class_lengths (length d) (length ps) m ≡ true → {r : ℤ} {map told u v : List ℤ} {a : Result ℤ Refusal} → u ≡ row_at d 0 → v ≡ row_at ps 0
       → a ≡ ir_grid_map_answer rotations u v n → map ≡ ir_grid_map_written rotations u v n → r ≡ classes_number a → told ≡ classes_told a → IrGridMapTold rotations d ps n m r map told
   unfolding ir_grid_map_answer ir_grid_map_written
   classes-passed e eu ev ea b a c =
@@ -46,7 +47,7 @@ module _ (d : List ℤ) (n : ℕ) {r : ℤ} {out : List ℤ} where
     written = b ∙ left (addresses_written d n) (replicate n (negsuc 0)) e;
   }
 
-  pub addresses-passed : length d ≡ 3 → {u : List ℤ} → u ≡ row_at d 0 → {a : Addresses} → a ≡ addresses_answer u n → out ≡ addresses_written u n → r ≡ addresses_number a → AddressesTold d n r out
+  pub addresses-passed : length d ≡ 3 → {u : List ℤ} → u ≡ row_at d 0 → {a : Tested} → a ≡ addresses_answer u n → out ≡ addresses_written u n → r ≡ addresses_number a → AddressesTold d n r out
   unfolding addresses_answer addresses_written
   addresses-passed h eu ea eo b = let e = eq-eqb (length d) 3 h in record {
     answer = b ∙ ap addresses_number (ea ∙ ap (λ u. addresses_answer u n) eu) ∙ taken (addresses_number (addresses_answer d n)) (pos (number_of WrongLength)) e;

@@ -10,22 +10,21 @@ use lib.Signed.{mag}
 use mir.Syntax.{w64}
 use mir.Val.{SFits}
 use borrow.Author.Tests.{ne_eqb}
+use Rattle.std.specs.Prelude.{Result, Ok, Err}
 use Rattle.integer.specs.Checked.{pick}
 use Rattle.integer.proofs.Fits.{held, held-is}
 use Rattle.common.specs.declared.Refusal.{Refusal}
 use Rattle.common.specs.declared.Refusal.TheVariants.{WrongLength}
 use Rattle.common.specs.Refusal.{number_of}
 use Rattle.recip_rotations.specs.PointGroup.{count_of}
-use Rattle.recip_rotations.specs.declared.PointGroup.{PointGroup}
-use Rattle.recip_rotations.specs.declared.PointGroup.TheVariants.{Rotations, Refused}
 use Rattle.answers.specs.PointGroupTold.{group_number, group_told, PointGroupTold}
 use Rattle.common.proofs.Stored.{stored}
 
 -- the count fits a place
-pub count_fits : {g : PointGroup} {k : ℕ} → g ≡ Rotations k → count_of g ≤ 48 → SFits w64 (pos k)
+pub count_fits : {g : Result ℕ Refusal} {k : ℕ} → g ≡ Ok k → count_of g ≤ 48 → SFits w64 (pos k)
 count_fits e h = record { sfits = lt_of_le_of_lt (rw (ap count_of e) at h) (lit< tt) }
 
-module _ (g : PointGroup) (l : List ℤ) (n : ℕ) (b : List ℤ) where
+module _ (g : Result ℕ Refusal) (l : List ℤ) (n : ℕ) (b : List ℤ) where
   pub untold : (length b ≡ 1 → ⊥) → {r : ℤ} {out told : List ℤ} → r ≡ pos (number_of WrongLength) → out ≡ replicate n (negsuc 0) → told ≡ replicate (length b) (negsuc 0)
       → PointGroupTold g l n (length b) r out told
   untold h p q s =
@@ -33,14 +32,14 @@ module _ (g : PointGroup) (l : List ℤ) (n : ℕ) (b : List ℤ) where
       record { answer = rw e p; written = rw e q; value = rw e s }
 
   module _ (one : length b ≡ 1) where
-    pub count-told : {k : ℕ} {v : ℤ} → g ≡ Rotations k → v ≡ pos k → PointGroupTold g l n (length b) (pos 0) l (set b 0 v)
+    pub count-told : {k : ℕ} {v : ℤ} → g ≡ Ok k → v ≡ pos k → PointGroupTold g l n (length b) (pos 0) l (set b 0 v)
     count-told {v = v} e p = record { answer = rw (e, one); written = rw one; value = stored b one v ∙ rw (p, e, one) }
 
-    pub refusal-told : {x : Refusal} {r v : ℤ} → g ≡ Refused x → r ≡ pos (number_of x) → v ≡ negsuc 0 → PointGroupTold g l n (length b) r l (set b 0 v)
+    pub refusal-told : {x : Refusal} {r v : ℤ} → g ≡ Err x → r ≡ pos (number_of x) → v ≡ negsuc 0 → PointGroupTold g l n (length b) r l (set b 0 v)
     refusal-told {v = v} e p q = record { answer = p ∙ rw (e, one); written = rw one; value = stored b one v ∙ rw (q, e, one) }
 
 -- an export hands on what `tell_group` said of the call's answer and output
-pub group-passed-on : {g h : PointGroup} {l m out told : List ℤ} {i n k : ℕ} {r : ℤ} → mag r < 0x8000000000000000 → g ≡ h → l ≡ m → i ≡ n
+pub group-passed-on : {g h : Result ℕ Refusal} {l m out told : List ℤ} {i n k : ℕ} {r : ℤ} → mag r < 0x8000000000000000 → g ≡ h → l ≡ m → i ≡ n
     → PointGroupTold g l i k r out told → PointGroupTold h m n k (held r) out told
 group-passed-on {k = k} {r = r} f e p q t = record {
   answer = held-is r f ∙ t.answer ∙ ap (λ g. pick (eqb k 1) (group_number g) (pos (number_of WrongLength))) e;

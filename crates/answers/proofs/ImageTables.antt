@@ -12,14 +12,15 @@ use borrow.Author.Tests.{eqb-true, eq-eqb, ne_eqb}
 use mir.Syntax.{w64}
 use mir.Val.{to_z}
 use mir.Facts.{to_z_pos}
+use Rattle.std.specs.Prelude.{Result}
+use Rattle.common.specs.declared.Refusal.{Refusal}
+use Rattle.common.specs.Tested.{Tested}
 use Rattle.integer.proofs.Test.{and_l, and_r}
 use Rattle.common.specs.declared.Refusal.TheVariants.{WrongLength}
 use Rattle.common.specs.Refusal.{number_of}
 use Rattle.common.specs.Array.{row_at, rows, matrix_at}
 use Rattle.bzgrid.specs.declared.Lengths.{Lengths}
-use Rattle.bzgrid.specs.declared.BzGridAddresses.{BzGridAddresses}
 use Rattle.bztable.specs.declared.rotate.Rotated.{Rotated}
-use Rattle.bztable.specs.declared.neighbours.Neighbours.{Neighbours}
 use Rattle.bzsearch.specs.SearchView.{float_nine}
 use Rattle.bzgrid.specs.BzGridAddresses.{has_room, input_tests, bz_answer, addresses_written, map_written, grg_written}
 use Rattle.bztable.specs.Rotate.{rotate_tests, rotate_read, rotate_answer}
@@ -51,7 +52,7 @@ module _ (d q ps lattice told : ℕ) (e : image_lengths d q ps lattice told ≡ 
 
 -- the lengths are those of slices, for 8 bytes each
 module _ (d : List ℤ) (q : List (List ℤ)) (ps : List ℤ) (lattice : List (List Float)) (t : ℤ) (na nm ng : ℕ) where
-  pub lengths-fit : {a : BzGridAddresses} → na * 8 < 0x8000000000000000 → nm * 8 < 0x8000000000000000 → ng * 8 < 0x8000000000000000 → a ≡ bz_answer d q ps lattice t na nm ng → LengthsFit a
+  pub lengths-fit : {a : Result Lengths Refusal} → na * 8 < 0x8000000000000000 → nm * 8 < 0x8000000000000000 → ng * 8 < 0x8000000000000000 → a ≡ bz_answer d q ps lattice t na nm ng → LengthsFit a
   lengths-fit ha hm hg e = record { held = λ l p. held l (call-accepted d q ps lattice t na nm ng l (sym e ∙ p)).room }
     where
       held : (l : Lengths) → T (has_room l na nm ng) → Held l
@@ -64,7 +65,7 @@ module _ (d : List ℤ) (q : List (List ℤ)) (ps : List ℤ) (lattice : List (L
           }
 
 module _ (d q ps : List ℤ) (lattice : List Float) (t : ℤ) (na nm ng nt : ℕ) where
-  abbrev a : BzGridAddresses
+  abbrev a : Result Lengths Refusal
   a = bz_answer d (rows (matrix_at q 0)) ps (rows (float_nine lattice)) t na nm ng
 
   abbrev written : List ℤ
@@ -89,7 +90,7 @@ module _ (d q ps : List ℤ) (lattice : List Float) (t : ℤ) (na nm ng nt : ℕ
 
     -- the library's call has the type, the three numbers of d and of ps, and the rows of Q and of the lattice
     pub images-passed : image_lengths (length d) (length q) (length ps) (length lattice) nt ≡ true
-        → {u v : List ℤ} {m : List (List ℤ)} {f : List (List Float)} {z : ℤ} {b : BzGridAddresses} → z ≡ t → u ≡ row_at d 0 → m ≡ rows (matrix_at q 0) → v ≡ row_at ps 0 → f ≡ rows (float_nine lattice)
+        → {u v : List ℤ} {m : List (List ℤ)} {f : List (List Float)} {z : ℤ} {b : Result Lengths Refusal} → z ≡ t → u ≡ row_at d 0 → m ≡ rows (matrix_at q 0) → v ≡ row_at ps 0 → f ≡ rows (float_nine lattice)
         → b ≡ bz_answer u m v f z na nm ng → addresses ≡ addresses_written u m v f z na nm ng → map ≡ map_written u m v f z na nm ng → grg ≡ grg_written u m v f z na nm ng
         → r ≡ images_number b → told ≡ images_told b → BzGridAddressesTold d q ps lattice t na nm ng nt r addresses map grg told
     unfolding input_tests bz_answer addresses_written map_written grg_written
@@ -136,7 +137,7 @@ module _ (index : ℤ) (rotation addresses map d ps : List ℤ) (t : ℤ) (n : �
 
 -- ---- neighbours
 module _ (points offsets addresses map d : List ℤ) (t : ℤ) (n : ℕ) where
-  abbrev found : Neighbours
+  abbrev found : Tested
   found = neighbours_answer points offsets addresses map d t n
 
   abbrev listed : List ℤ
@@ -149,7 +150,7 @@ module _ (points offsets addresses map d : List ℤ) (t : ℤ) (n : ℕ) where
       written = eo ∙ left listed (unwritten n) e;
     }
 
-    pub neighbours-passed : length d ≡ 3 → {u : List ℤ} {z : ℤ} {b : Neighbours} → z ≡ t → u ≡ row_at d 0 → b ≡ neighbours_answer points offsets addresses map u z n → out ≡ neighbours_written points offsets addresses map u z n
+    pub neighbours-passed : length d ≡ 3 → {u : List ℤ} {z : ℤ} {b : Tested} → z ≡ t → u ≡ row_at d 0 → b ≡ neighbours_answer points offsets addresses map u z n → out ≡ neighbours_written points offsets addresses map u z n
         → r ≡ neighbours_number b → NeighboursTold points offsets addresses map d t n r out
     unfolding neighbour_input neighbours_read neighbour_tests neighbours_answer neighbours_written
     neighbours-passed h ez eu eb eo er = let e = eq-eqb (length d) 3 h in record {

@@ -6,11 +6,11 @@ use Prim.Native.Nat.{ℕ}
 use lib.IntN.{ℤ, pos, negsuc}
 use lib.Ieee.{Float, binary64, of_int}
 use lib.ListN.{length, replicate}
+use Rattle.common.specs.Tested.{Tested}
 use Rattle.common.specs.declared.Refusal.TheVariants.{WrongLength}
 use Rattle.common.specs.Refusal.{number_of}
 use Rattle.common.specs.Array.{row_at, rows, matrix_at}
 use Rattle.bzsearch.specs.SearchView.{float_nine}
-use Rattle.bz_triplets.specs.declared.BzTriplets.{BzTriplets}
 use Rattle.bz_triplets.specs.BzTriplets.{input_tests, triplets_read, bz_triplet_tests, bz_triplets_answer, triplets_written, left_written, left_length_written}
 use Rattle.answers.specs.Triplets.{triplets_number, triplet_lengths, BzTripletsTold}
 use Rattle.answers.proofs.Lengths.{taken, left, three-lengths}
@@ -23,7 +23,7 @@ module _ (q0 : ℤ) (addresses map classes d q : List ℤ) (lattice : List Float
   abbrev with_rows : {A : Type 0} → (ℤ → List ℤ → List (List ℤ) → List (List Float) → ℤ → A) → A
   with_rows g = g q0 d (rows (matrix_at q 0)) (rows (float_nine lattice)) t
 
-  abbrev answer : BzTriplets
+  abbrev answer : Tested
   answer = with_rows (λ i u a f z. bz_triplets_answer i addresses map classes u a f z n m l)
 
   abbrev written : List ℤ
@@ -47,7 +47,7 @@ module _ (q0 : ℤ) (addresses map classes d q : List ℤ) (lattice : List Float
 
     -- the library's call has q0, the type, the three numbers of d, and the rows of Q and of the lattice
     pub triplets-passed : triplet_lengths (length d) (length q) (length lattice) ≡ true
-        → {i z : ℤ} {u : List ℤ} {a : List (List ℤ)} {f : List (List Float)} {b : BzTriplets} → i ≡ q0 → z ≡ t → u ≡ row_at d 0 → a ≡ rows (matrix_at q 0) → f ≡ rows (float_nine lattice)
+        → {i z : ℤ} {u : List ℤ} {a : List (List ℤ)} {f : List (List Float)} {b : Tested} → i ≡ q0 → z ≡ t → u ≡ row_at d 0 → a ≡ rows (matrix_at q 0) → f ≡ rows (float_nine lattice)
         → b ≡ bz_triplets_answer i addresses map classes u a f z n m l → out ≡ triplets_written i addresses map classes u a f z n m l → marks ≡ left_written i addresses map classes u a f z n m l
         → lefts ≡ left_length_written i addresses map classes u a f z n m l → r ≡ triplets_number b → BzTripletsTold q0 addresses map classes d q lattice t n m l r out marks lefts
     unfolding input_tests triplets_read bz_triplet_tests bz_triplets_answer triplets_written left_written left_length_written

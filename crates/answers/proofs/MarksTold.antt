@@ -8,11 +8,9 @@ use lib.IntN.{ℤ, pos, negsuc}
 use lib.ListN.{length, replicate}
 use borrow.Author.Tests.{eqb-true}
 use Rattle.common.specs.declared.Refusal.TheVariants.{WrongLength}
-use Rattle.common.specs.declared.Tested.{Tested}
-use Rattle.common.specs.declared.Tested.TheVariants.{Accepted}
 use Rattle.common.specs.Refusal.{number_of}
 use Rattle.common.specs.Array.{row_at, rows, matrix_at}
-use Rattle.common.specs.Tested.{answer_of}
+use Rattle.common.specs.Tested.{answer_of, Tested, Accepted}
 use Rattle.grgrid.proofs.Built.{build-list}
 use Rattle.mark_candidates.specs.MarkCandidates.{marked, mark_tests, marks, mark_candidates}
 use Rattle.mark_candidates.specs.CertainMarks.{MarksSay}

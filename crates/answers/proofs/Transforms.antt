@@ -7,10 +7,10 @@ use lib.Dec.{eqb}
 use lib.IntN.{ℤ, pos, negsuc}
 use lib.ListN.{length, replicate}
 use borrow.Author.Tests.{eqb-true}
+use Rattle.common.specs.Tested.{Tested}
 use Rattle.common.specs.declared.Refusal.TheVariants.{WrongLength}
 use Rattle.common.specs.Refusal.{number_of}
 use Rattle.common.specs.Array.{row_at, rows, matrix_at}
-use Rattle.transform_rotations.specs.declared.Transformed.{Transformed}
 use Rattle.transform_rotations.specs.TransformRotations.{transform_answer, transform_written}
 use Rattle.answers.specs.Transforms.{transformed_number, transform_lengths, TransformRotationsTold}
 use Rattle.answers.proofs.Lengths.{taken, left, both}
@@ -21,7 +21,7 @@ lengths d q e =
     (eqb-true d 3 f.0, eqb-true q 9 f.1)
 
 module _ (rotations d q : List ℤ) (n : ℕ) where
-  abbrev answer : Transformed
+  abbrev answer : Tested
   answer = transform_answer rotations d (rows (matrix_at q 0)) n
 
   abbrev result : List ℤ
@@ -36,7 +36,7 @@ module _ (rotations d q : List ℤ) (n : ℕ) where
 
     -- the library's call has the three numbers of d and the rows of Q
     pub transform-passed : transform_lengths (length d) (length q) ≡ true → {u : List ℤ} {m : List (List ℤ)} → u ≡ row_at d 0 → m ≡ rows (matrix_at q 0)
-        → {a : Transformed} → a ≡ transform_answer rotations u m n → out ≡ transform_written rotations u m n → r ≡ transformed_number a → TransformRotationsTold rotations d q n r out
+        → {a : Tested} → a ≡ transform_answer rotations u m n → out ≡ transform_written rotations u m n → r ≡ transformed_number a → TransformRotationsTold rotations d q n r out
     unfolding transform_answer transform_written
     transform-passed e eu em ea eo b = record {
       answer = b ∙ ap transformed_number (ea ∙ ap₂ (λ u m. transform_answer rotations u m n) eu em) ∙ taken (transformed_number answer) (pos (number_of WrongLength)) e;

@@ -7,10 +7,11 @@ use lib.Dec.{eqb}
 use lib.IntN.{ℤ, pos, negsuc}
 use lib.ListN.{length, replicate}
 use borrow.Author.Tests.{eqb-true}
+use Rattle.std.specs.Prelude.{Result}
+use Rattle.common.specs.declared.Refusal.{Refusal}
 use Rattle.common.specs.declared.Refusal.TheVariants.{WrongLength}
 use Rattle.common.specs.Refusal.{number_of}
 use Rattle.common.specs.Array.{row_at}
-use Rattle.triplet_grid.specs.declared.IrTriplets.{IrTriplets}
 use Rattle.triplet_grid.specs.IrTriplets.{ir_triplets_answer, map_triplets_written, map_qwritten}
 use Rattle.answers.specs.Triplets.{triplet_classes_number, triplet_classes_told, triplet_class_lengths, IrTripletsTold}
 use Rattle.answers.proofs.Lengths.{taken, left, both}
@@ -21,7 +22,7 @@ lengths d k e =
     (eqb-true d 3 f.0, eqb-true k 1 f.1)
 
 module _ (q0 : ℤ) (d rotations : List ℤ) (time_reversal swappable : Bool) (n m k : ℕ) where
-  abbrev answer : IrTriplets
+  abbrev answer : Result ℤ Refusal
   answer = ir_triplets_answer q0 d rotations time_reversal swappable n m
 
   module _ {r : ℤ} {map_triplets map_q told : List ℤ} where
@@ -35,7 +36,7 @@ module _ (q0 : ℤ) (d rotations : List ℤ) (time_reversal swappable : Bool) (n
     }
 
     -- the library's call has the three numbers of d
-    pub classes-passed : triplet_class_lengths (length d) k ≡ true → {i : ℤ} {u : List ℤ} {a : IrTriplets} → i ≡ q0 → u ≡ row_at d 0
+    pub classes-passed : triplet_class_lengths (length d) k ≡ true → {i : ℤ} {u : List ℤ} {a : Result ℤ Refusal} → i ≡ q0 → u ≡ row_at d 0
         → a ≡ ir_triplets_answer i u rotations time_reversal swappable n m → map_triplets ≡ map_triplets_written i u rotations time_reversal swappable n m → map_q ≡ map_qwritten i u rotations time_reversal swappable n m
         → r ≡ triplet_classes_number a → told ≡ triplet_classes_told a → IrTripletsTold q0 d rotations time_reversal swappable n m k r map_triplets map_q told
     unfolding ir_triplets_answer map_triplets_written map_qwritten

@@ -3,8 +3,7 @@ use Rattle.std.specs.Prelude.{◌≡◌, Bool, ◌&&◌, List, [], ◌∷◌, �
 use Rattle.integer.specs.Checked.{pick}
 use Rattle.common.specs.declared.Refusal.TheVariants.{WrongLength}
 use Rattle.common.specs.Refusal.{number_of}
-use Rattle.common.specs.declared.Tested.{Tested}
-use Rattle.common.specs.Tested.{answer_of}
+use Rattle.common.specs.Tested.{answer_of, Tested}
 use Rattle.common.specs.Array.{matrix_at}
 use Rattle.snf3x3.specs.declared.Snf.{Snf}
 use Rattle.snf3x3.specs.Snf3x3.{snf3x3}

@@ -1,27 +1,25 @@
 -- What the exports of grgrid answer and leave in their outputs.
-use Rattle.std.specs.Prelude.{◌≡◌, Bool, ◌&&◌, List, [], ◌∷◌, ℕ, eqb, ℤ, pos, negsuc, length, replicate}
+use Rattle.std.specs.Prelude.{◌≡◌, Bool, ◌&&◌, List, [], ◌∷◌, ℕ, eqb, ℤ, pos, negsuc, length, replicate, Result, Ok, Err}
+use Rattle.common.specs.declared.Refusal.{Refusal}
+use Rattle.common.specs.Tested.{Tested}
 use Rattle.integer.specs.Checked.{pick}
 use Rattle.common.specs.declared.Refusal.TheVariants.{WrongLength}
 use Rattle.common.specs.Refusal.{number_of}
-use Rattle.grgrid.specs.declared.IrGridMap.{IrGridMap}
-use Rattle.grgrid.specs.declared.IrGridMap.TheVariants as classes
-use Rattle.grgrid.specs.declared.Addresses.{Addresses}
-use Rattle.grgrid.specs.declared.Addresses.TheVariants as addresses
 use Rattle.grgrid.specs.IrGridMap.{ir_grid_map_answer, ir_grid_map_written}
 use Rattle.grgrid.specs.Addresses.{addresses_answer, addresses_written}
 
-abbrev pub classes_number : IrGridMap → ℤ
-classes_number (classes.Classes n) = pos 0
-classes_number (classes.Refused r) = pos (number_of r)
+abbrev pub classes_number : Result ℤ Refusal → ℤ
+classes_number (Ok n) = pos 0
+classes_number (Err r) = pos (number_of r)
 
 -- in the one place of `told`
-abbrev pub classes_told : IrGridMap → List ℤ
-classes_told (classes.Classes n) = n ∷ []
-classes_told (classes.Refused r) = negsuc 0 ∷ []
+abbrev pub classes_told : Result ℤ Refusal → List ℤ
+classes_told (Ok n) = n ∷ []
+classes_told (Err r) = negsuc 0 ∷ []
 
-abbrev pub addresses_number : Addresses → ℤ
-addresses_number addresses.Written = pos 0
-addresses_number (addresses.Refused r) = pos (number_of r)
+abbrev pub addresses_number : Tested → ℤ
+addresses_number (Ok _) = pos 0
+addresses_number (Err r) = pos (number_of r)
 
 -- of d, ps and `told`
 abbrev pub class_lengths : ℕ → ℕ → ℕ → Bool

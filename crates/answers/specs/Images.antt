@@ -1,30 +1,28 @@
 -- What the exports of bzgrid answer and leave in their outputs.
-use Rattle.std.specs.Prelude.{◌≡◌, Bool, ◌&&◌, List, [], ◌∷◌, ℕ, ◌<◌, eqb, ℤ, pos, negsuc, Float, length, replicate}
+use Rattle.std.specs.Prelude.{◌≡◌, Bool, ◌&&◌, List, [], ◌∷◌, ℕ, ◌<◌, eqb, ℤ, pos, negsuc, Float, length, replicate, Result, Ok, Err}
+use Rattle.common.specs.declared.Refusal.{Refusal}
+use Rattle.common.specs.Tested.{Tested}
 use Rattle.integer.specs.Checked.{pick}
 use Rattle.common.specs.declared.Refusal.TheVariants.{WrongLength}
 use Rattle.common.specs.Refusal.{number_of}
 use Rattle.common.specs.Array.{rows, matrix_at}
 use Rattle.bzgrid.specs.declared.Lengths.{Lengths}
-use Rattle.bzgrid.specs.declared.BzGridAddresses.{BzGridAddresses}
-use Rattle.bzgrid.specs.declared.BzGridAddresses.TheVariants as images
 use Rattle.bztable.specs.declared.rotate.Rotated.{Rotated}
 use Rattle.bztable.specs.declared.rotate.Rotated.TheVariants as rotated
-use Rattle.bztable.specs.declared.neighbours.Neighbours.{Neighbours}
-use Rattle.bztable.specs.declared.neighbours.Neighbours.TheVariants as neighbours
 use Rattle.bzsearch.specs.SearchView.{float_nine}
 use Rattle.bzgrid.specs.BzGridAddresses.{bz_answer, addresses_written, map_written, grg_written}
 use Rattle.bztable.specs.Rotate.{rotate_answer}
 use Rattle.bztable.specs.Neighbours.{neighbours_answer, neighbours_written}
 
 -- ---- image tables
-abbrev pub images_number : BzGridAddresses → ℤ
-images_number (images.Built l) = pos 0
-images_number (images.Refused r) = pos (number_of r)
+abbrev pub images_number : Result Lengths Refusal → ℤ
+images_number (Ok l) = pos 0
+images_number (Err r) = pos (number_of r)
 
 -- the three lengths, in the places of `told`
-abbrev pub images_told : BzGridAddresses → List ℤ
-images_told (images.Built l) = pos l.addresses ∷ pos l.map ∷ pos l.grg ∷ []
-images_told (images.Refused r) = negsuc 0 ∷ negsuc 0 ∷ negsuc 0 ∷ []
+abbrev pub images_told : Result Lengths Refusal → List ℤ
+images_told (Ok l) = pos l.addresses ∷ pos l.map ∷ pos l.grg ∷ []
+images_told (Err r) = negsuc 0 ∷ negsuc 0 ∷ negsuc 0 ∷ []
 
 -- they are lengths of slices
 pub record Held (l : Lengths) : Type 0 where
@@ -32,8 +30,8 @@ pub record Held (l : Lengths) : Type 0 where
   pub map : l.map < 0x8000000000000000
   pub grg : l.grg < 0x8000000000000000
 
-pub record LengthsFit (a : BzGridAddresses) : Type 0 where
-  pub held : (l : Lengths) → a ≡ images.Built l → Held l
+pub record LengthsFit (a : Result Lengths Refusal) : Type 0 where
+  pub held : (l : Lengths) → a ≡ Ok l → Held l
 
 -- of d, Q, ps, the lattice and `told`
 abbrev pub image_lengths : ℕ → ℕ → ℕ → ℕ → ℕ → Bool
@@ -69,9 +67,9 @@ pub record RotateTold (index : ℤ) (rotation addresses map d ps : List ℤ) (t 
   pub value : told ≡ pick (rotate_lengths (length rotation) (length d) (length ps) n) (rotated_told (rotate_answer index (rows (matrix_at rotation 0)) addresses map d ps t)) (replicate n (negsuc 0))
 
 -- ---- neighbours
-abbrev pub neighbours_number : Neighbours → ℤ
-neighbours_number neighbours.Written = pos 0
-neighbours_number (neighbours.Refused r) = pos (number_of r)
+abbrev pub neighbours_number : Tested → ℤ
+neighbours_number (Ok _) = pos 0
+neighbours_number (Err r) = pos (number_of r)
 
 -- the answer r and the output, which had n places
 pub record NeighboursTold (points offsets addresses map d : List ℤ) (t : ℤ) (n : ℕ) (r : ℤ) (out : List ℤ) : Type 0 where

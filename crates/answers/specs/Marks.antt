@@ -2,10 +2,9 @@
 use Rattle.std.specs.Prelude.{◌≡◌, Bool, true, ◌&&◌, List, [], ◌∷◌, ℕ, eqb, ℤ, pos, negsuc, length, get_or, replicate}
 use Rattle.integer.specs.Checked.{pick}
 use Rattle.common.specs.declared.Refusal.TheVariants.{WrongLength}
-use Rattle.common.specs.declared.Tested.TheVariants.{Accepted}
 use Rattle.common.specs.Refusal.{number_of}
 use Rattle.common.specs.Array.{rows, matrix_at}
-use Rattle.common.specs.Tested.{answer_of}
+use Rattle.common.specs.Tested.{answer_of, Accepted}
 use Rattle.mark_candidates.specs.MarkCandidates.{Marked, mark_candidates}
 use Rattle.mark_candidates.specs.CertainMarks.{MarksSay}
 

@@ -1,16 +1,15 @@
 -- What the export of transform_rotations answers and leaves in its output.
-use Rattle.std.specs.Prelude.{◌≡◌, Bool, ◌&&◌, List, ℕ, eqb, ℤ, pos, negsuc, length, replicate}
+use Rattle.std.specs.Prelude.{◌≡◌, Bool, ◌&&◌, List, ℕ, eqb, ℤ, pos, negsuc, length, replicate, Ok, Err}
+use Rattle.common.specs.Tested.{Tested}
 use Rattle.integer.specs.Checked.{pick}
 use Rattle.common.specs.declared.Refusal.TheVariants.{WrongLength}
 use Rattle.common.specs.Refusal.{number_of}
 use Rattle.common.specs.Array.{rows, matrix_at}
-use Rattle.transform_rotations.specs.declared.Transformed.{Transformed}
-use Rattle.transform_rotations.specs.declared.Transformed.TheVariants.{Written, Refused}
 use Rattle.transform_rotations.specs.TransformRotations.{transform_answer, transform_written}
 
-abbrev pub transformed_number : Transformed → ℤ
-transformed_number Written = pos 0
-transformed_number (Refused r) = pos (number_of r)
+abbrev pub transformed_number : Tested → ℤ
+transformed_number (Ok _) = pos 0
+transformed_number (Err r) = pos (number_of r)
 
 -- of d and Q
 abbrev pub transform_lengths : ℕ → ℕ → Bool

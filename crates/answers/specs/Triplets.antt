@@ -1,28 +1,26 @@
 -- What the exports of triplet_grid and bz_triplets answer and leave in their outputs.
-use Rattle.std.specs.Prelude.{◌≡◌, Bool, ◌&&◌, List, [], ◌∷◌, ℕ, eqb, ℤ, pos, negsuc, length, replicate, Float}
+use Rattle.std.specs.Prelude.{◌≡◌, Bool, ◌&&◌, List, [], ◌∷◌, ℕ, eqb, ℤ, pos, negsuc, length, replicate, Float, Result, Ok, Err}
 use Rattle.std.specs.Float.{binary64}
 use Rattle.std.specs.Float.Ieee.{of_int}
+use Rattle.common.specs.declared.Refusal.{Refusal}
+use Rattle.common.specs.Tested.{Tested}
 use Rattle.integer.specs.Checked.{pick}
 use Rattle.common.specs.declared.Refusal.TheVariants.{WrongLength}
 use Rattle.common.specs.Refusal.{number_of}
 use Rattle.common.specs.Array.{rows, matrix_at}
 use Rattle.bzsearch.specs.SearchView.{float_nine}
-use Rattle.bz_triplets.specs.declared.BzTriplets.{BzTriplets}
-use Rattle.bz_triplets.specs.declared.BzTriplets.TheVariants as triplets
 use Rattle.bz_triplets.specs.BzTriplets.{bz_triplets_answer, triplets_written, left_written, left_length_written}
-use Rattle.triplet_grid.specs.declared.IrTriplets.{IrTriplets}
-use Rattle.triplet_grid.specs.declared.IrTriplets.TheVariants.{Classes, Refused}
 use Rattle.triplet_grid.specs.IrTriplets.{ir_triplets_answer, map_triplets_written, map_qwritten}
 
 -- ---- the classes at q0
-abbrev pub triplet_classes_number : IrTriplets → ℤ
-triplet_classes_number (Classes n) = pos 0
-triplet_classes_number (Refused r) = pos (number_of r)
+abbrev pub triplet_classes_number : Result ℤ Refusal → ℤ
+triplet_classes_number (Ok n) = pos 0
+triplet_classes_number (Err r) = pos (number_of r)
 
 -- in the one place of `told`
-abbrev pub triplet_classes_told : IrTriplets → List ℤ
-triplet_classes_told (Classes n) = n ∷ []
-triplet_classes_told (Refused r) = negsuc 0 ∷ []
+abbrev pub triplet_classes_told : Result ℤ Refusal → List ℤ
+triplet_classes_told (Ok n) = n ∷ []
+triplet_classes_told (Err r) = negsuc 0 ∷ []
 
 -- of d and `told`
 abbrev pub triplet_class_lengths : ℕ → ℕ → Bool
@@ -36,9 +34,9 @@ pub record IrTripletsTold (q0 : ℤ) (d rotations : List ℤ) (time_reversal swa
   pub value : told ≡ pick (triplet_class_lengths (length d) k) (triplet_classes_told (ir_triplets_answer q0 d rotations time_reversal swappable n m)) (replicate k (negsuc 0))
 
 -- ---- the triplets
-abbrev pub triplets_number : BzTriplets → ℤ
-triplets_number triplets.Written = pos 0
-triplets_number (triplets.Refused r) = pos (number_of r)
+abbrev pub triplets_number : Tested → ℤ
+triplets_number (Ok _) = pos 0
+triplets_number (Err r) = pos (number_of r)
 
 -- of d, Q and the lattice
 abbrev pub triplet_lengths : ℕ → ℕ → ℕ → Bool

@@ -3,7 +3,7 @@ ghost use Rattle.std.specs.Prelude.{◌≡◌, [], ◌∷◌, length};
 ghost use Rattle.common.specs.Tested.{answer_of};
 ghost use Rattle.answers.specs.Diagonals.{result_lengths, diagonal_lengths, smith_lengths};
 
-use common::Tested;
+use common::Refusal;
 use smith3x3::Smith;
 use snf3x3::Snf;
 
@@ -25,12 +25,12 @@ pub fn smith_lengths(a: usize, d: usize, p: usize, q: usize) -> bool
     a == 9 && result_lengths(d, p, q)
 }
 
-pub fn outcome_number(t: Tested) -> i64
+pub fn outcome_number(t: Result<(), Refusal>) -> i64
     ensures { result ≡ answer_of t }
 {
     match t {
-        Tested::Accepted => 0,
-        Tested::Refused(r) => r.answer(),
+        Ok(()) => 0,
+        Err(r) => r.answer(),
     }
 }
 

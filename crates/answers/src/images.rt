@@ -4,8 +4,9 @@ ghost use Rattle.common.specs.Array.{rows};
 ghost use Rattle.bzsearch.specs.SearchView.{float_nine};
 ghost use Rattle.answers.specs.Images.{image_lengths, images_number, images_told, LengthsFit, rotate_lengths, rotated_number, rotated_told};
 
-use bzgrid::BzGridAddresses;
+use bzgrid::Lengths;
 use bztable::Rotated;
+use common::Refusal;
 
 // Nine numbers by rows.
 pub fn lattice_at(l: &[f64]) -> [[f64; 3]; 3]
@@ -25,20 +26,20 @@ pub fn image_lengths(d: usize, q: usize, ps: usize, lattice: usize, told: usize)
     )
 }
 
-pub fn tell_lengths(answer: BzGridAddresses, told: &mut [i64]) -> i64
+pub fn tell_lengths(answer: Result<Lengths, Refusal>, told: &mut [i64]) -> i64
     requires fact_1 { length told.old ≡ 3 }
     requires fact_2 { LengthsFit answer }
     ensures value { result ≡ images_number answer }
     ensures told_after { told.new ≡ images_told answer }
 {
     match answer {
-        BzGridAddresses::Built(l) => {
+        Ok(l) => {
             told[0] = l.addresses as i64;
             told[1] = l.map as i64;
             told[2] = l.grg as i64;
             0
         }
-        BzGridAddresses::Refused(r) => {
+        Err(r) => {
             common::fill(told, -1);
             r.answer()
         }

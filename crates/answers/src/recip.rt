@@ -4,9 +4,8 @@ ghost use Rattle.recip_rotations.specs.PointGroup.{count_of};
 ghost use Rattle.answers.specs.PointGroupTold.{PointGroupTold};
 
 use common::Refusal;
-use recip_rotations::PointGroup;
 
-pub fn tell_group(answer: PointGroup, out: &mut [i64], told: &mut [i64]) -> i64
+pub fn tell_group(answer: Result<usize, Refusal>, out: &mut [i64], told: &mut [i64]) -> i64
     requires { count_of answer ≤ 48 }
     ensures { PointGroupTold answer out.old (length out.old) (length told.old) result out.new told.new }
 {
@@ -16,11 +15,11 @@ pub fn tell_group(answer: PointGroup, out: &mut [i64], told: &mut [i64]) -> i64
         return Refusal::WrongLength.answer();
     }
     match answer {
-        PointGroup::Rotations(n) => {
+        Ok(n) => {
             told[0] = n as i64;
             0
         }
-        PointGroup::Refused(r) => {
+        Err(r) => {
             told[0] = -1;
             r.answer()
         }

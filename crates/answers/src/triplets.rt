@@ -6,9 +6,7 @@ ghost use Rattle.common.specs.declared.Refusal.TheVariants.{WrongLength};
 ghost use Rattle.common.specs.Refusal.{number_of};
 ghost use Rattle.answers.specs.Triplets.{triplet_classes_number, triplet_classes_told, triplet_class_lengths, triplet_lengths, triplets_number};
 
-use bz_triplets::BzTriplets;
 use common::Refusal;
-use triplet_grid::IrTriplets;
 
 pub fn triplet_class_lengths(d: usize, told: usize) -> bool
     ensures { result ≡ triplet_class_lengths d told }
@@ -16,17 +14,17 @@ pub fn triplet_class_lengths(d: usize, told: usize) -> bool
     d == 3 && told == 1
 }
 
-pub fn tell_triplet_classes(answer: IrTriplets, told: &mut [i64]) -> i64
+pub fn tell_triplet_classes(answer: Result<i64, Refusal>, told: &mut [i64]) -> i64
     requires { length told.old ≡ 1 }
     ensures value { result ≡ triplet_classes_number answer }
     ensures told_after { told.new ≡ triplet_classes_told answer }
 {
     match answer {
-        IrTriplets::Classes(n) => {
+        Ok(n) => {
             told[0] = n;
             0
         }
-        IrTriplets::Refused(r) => {
+        Err(r) => {
             told[0] = -1;
             r.answer()
         }
@@ -39,12 +37,12 @@ pub fn triplet_lengths(d: usize, q: usize, lattice: usize) -> bool
     common::all_three(d == 3, q == 9, lattice == 9)
 }
 
-pub fn triplets_number(answer: BzTriplets) -> i64
+pub fn triplets_number(answer: Result<(), Refusal>) -> i64
     ensures { result ≡ triplets_number answer }
 {
     match answer {
-        BzTriplets::Written => 0,
-        BzTriplets::Refused(r) => r.answer(),
+        Ok(()) => 0,
+        Err(r) => r.answer(),
     }
 }
 

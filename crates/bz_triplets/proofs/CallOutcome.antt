@@ -13,17 +13,16 @@ use mir.Syntax.{w64}
 use mir.Val.{SFits}
 use mir.Facts.{to_z-of_z}
 use borrow.Author.Tests.{eqb-true}
+use Rattle.std.specs.Prelude.{Err}
 use Rattle.integer.proofs.Fits.{held}
 use Rattle.integer.proofs.Test.{holds, and_l, and_r, is_true}
 use Rattle.common.specs.Matrix.{Vec}
 use Rattle.common.specs.Array.{sides_of, matrix_of}
 use Rattle.common.specs.FloatMatrix.{float_matrix}
 use Rattle.common.specs.Limits.{matrix_within, diagonal_fits}
-use Rattle.common.specs.Tested.{output_of}
+use Rattle.common.specs.Tested.{output_of, Tested, Accepted}
 use Rattle.common.specs.declared.Refusal.{Refusal}
 use Rattle.common.specs.declared.Refusal.TheVariants.{WrongLength, OutsideLimits, OutsideTable}
-use Rattle.common.specs.declared.Tested.{Tested}
-use Rattle.common.specs.declared.Tested.TheVariants.{Accepted, Refused}
 use Rattle.common.proofs.Tests.{passed, not-accepted}
 use Rattle.grgrid.specs.Sides.{GridFits}
 use Rattle.grgrid.specs.Own.{own_places, own_points}
@@ -33,8 +32,6 @@ use Rattle.bzgrid.specs.declared.GridType.TheVariants.{Sparse, Dense, Unknown}
 use Rattle.bzgrid.specs.BzGridAddresses.{grid_type_of}
 use Rattle.bzsearch.specs.Lattice.{lattice_fits}
 use Rattle.bztable.specs.Reading.{Read, got, outside, ◌then◌, whole_addresses, address_of, tests_after, list_of}
-use Rattle.bz_triplets.specs.declared.BzTriplets.{BzTriplets}
-use Rattle.bz_triplets.specs.declared.BzTriplets.TheVariants as answer
 use Rattle.bz_triplets.specs.BzTriplets.{State, Walk, walk_of, point_of, triplet_of, triplet_at, read_each, input_tests, triplets_read, triplet_list, marks, lengths, lengths_for, answer_for, bz_triplet_tests, bz_triplets_answer, triplets_written, left_written, left_length_written}
 use Rattle.bz_triplets.specs.TripletsView.{Room}
 
@@ -132,10 +129,10 @@ module _ (i : Input) where
   unfolding bz_triplet_tests
   after e x f = sym (ap₂ tests_after e f)
 
-  refused : {r : Refusal} {x y : List ℤ} {z : List Float} → Refused r ≡ tests i.t → Meets (Refused r) x y z
+  refused : {r : Refusal} {x y : List ℤ} {z : List Float} → Err r ≡ tests i.t → Meets (Err r) x y z
   refused e = (e, (λ h. absurd (not-accepted h), (λ h. absurd (not-accepted h), λ h. absurd (not-accepted h))))
 
-  pub tests-refused : {r : Refusal} {x y : List ℤ} {z : List Float} → inputs ≡ Refused r → Meets (Refused r) x y z
+  pub tests-refused : {r : Refusal} {x y : List ℤ} {z : List Float} → inputs ≡ Err r → Meets (Err r) x y z
   tests-refused e = refused (after e (R i.t) refl)
 
   abbrev from : Read (Vec ℤ) → Read (List State)
@@ -146,14 +143,14 @@ module _ (i : Input) where
   read-from f = ap from f
 
   module _ (e : inputs ≡ Accepted) where
-    pub tests-no-address : {x y : List ℤ} {z : List Float} → outside ≡ address_of i.addresses i.q0 → Meets (Refused OutsideTable) x y z
+    pub tests-no-address : {x y : List ℤ} {z : List Float} → outside ≡ address_of i.addresses i.q0 → Meets (Err OutsideTable) x y z
     tests-no-address f = refused (after e outside (sym (read-from f)))
 
     module _ {a0 : Vec ℤ} (f : got a0 ≡ address_of i.addresses i.q0) {g : Vec ℕ} (eg : g ≡ sides_of i.d) {w : Walk} (ew : w ≡ walk_of i.addresses i.d i.q i.lattice) {p : ℕ} (ep : p ≡ point_of g i.t (nat_abs i.q0) a0) where
       walked : R i.t ≡ each i g w a0 p
       walked = sym ((λ j. each i (eg j) (ew j) a0 ((ep ∙ ap (λ g. point_of g i.t (nat_abs i.q0) a0) eg) j)) ∙ read-from f)
 
-      pub tests-outside : {x y : List ℤ} {z : List Float} → outside ≡ (each i g w a0 p then λ l. got (triplet_list l)) → Meets (Refused OutsideTable) x y z
+      pub tests-outside : {x y : List ℤ} {z : List Float} → outside ≡ (each i g w a0 p then λ l. got (triplet_list l)) → Meets (Err OutsideTable) x y z
       tests-outside h = refused (after e outside (walked ∙ none triplet_list (each i g w a0 p) h))
 
       pub tests-written : {x y : List ℤ} {z : List Float} → got x ≡ (each i g w a0 p then λ l. got (triplet_list l)) → got y ≡ (each i g w a0 p then λ l. got (marks l)) → got z ≡ (each i g w a0 p then λ l. got (lengths l)) → Meets Accepted x y z
@@ -164,7 +161,7 @@ module _ (i : Input) where
 
   -- ---- the call, which is given the type u
   module _ (u : ℤ) where
-    abbrev pub Answers : BzTriplets → List ℤ → List ℤ → List Float → Type 0
+    abbrev pub Answers : Tested → List ℤ → List ℤ → List Float → Type 0
     Answers a x y z =
         (a ≡ bz_triplets_answer i.q0 i.addresses i.map i.classes i.d i.q i.lattice u i.n i.m i.l)
         × ((x ≡ triplets_written i.q0 i.addresses i.map i.classes i.d i.q i.lattice u i.n i.m i.l)
@@ -178,8 +175,8 @@ module _ (i : Input) where
           let g : r ≡ tests (grid_type_of u) = f ∙ ap tests e in
           (ap answer_for g, (ex ∙ (λ j. output_of (g j) i.n (triplet_list (list_of (R (e j))))), (ey ∙ (λ j. output_of (g j) i.m (marks (list_of (R (e j))))), ez ∙ (λ j. lengths_for (g j) i.l (lengths (list_of (R (e j))))))))
 
-      pub call-written : {s : Tested} → Meets s x y z → s ≡ Accepted → Answers answer.Written x y z
+      pub call-written : {s : Tested} → Meets s x y z → s ≡ Accepted → Answers Accepted x y z
       call-written m h = answered Accepted (sym h ∙ m.0) (m.1.0 h) (m.1.1.0 h) (m.1.1.1 h)
 
-      pub call-refused : {s : Tested} {r : Refusal} {a : BzTriplets} → s ≡ tests i.t → s ≡ Refused r → a ≡ answer.Refused r → x ≡ replicate i.n (negsuc 0) → y ≡ replicate i.m (negsuc 0) → z ≡ replicate i.l (of_int binary64 (negsuc 0)) → Answers a x y z
-      call-refused {s} {r} f h ea ex ey ez = let w = answered (Refused r) (sym h ∙ f) ex ey ez in (ea ∙ w.0, w.1)
+      pub call-refused : {s : Tested} {r : Refusal} {a : Tested} → s ≡ tests i.t → s ≡ Err r → a ≡ Err r → x ≡ replicate i.n (negsuc 0) → y ≡ replicate i.m (negsuc 0) → z ≡ replicate i.l (of_int binary64 (negsuc 0)) → Answers a x y z
+      call-refused {s} {r} f h ea ex ey ez = let w = answered (Err r) (sym h ∙ f) ex ey ez in (ea ∙ w.0, w.1)

@@ -4,12 +4,12 @@ use mathlib.Core.List.{List, [], ◌∷◌, ◌++◌}
 use lib.IntN.{ℤ, pos, negsuc}
 use lib.ListN.{replicate}
 use lib.Ieee.{Float, binary64, round, add, sub, mul, div, lt, le, of_int, of_bits, size}
+use Rattle.common.specs.Tested.{Accepted}
 use Rattle.float.specs.Rounding.{abs_of}
 use Rattle.common.specs.Matrix.{identity, map_mat}
 use Rattle.common.specs.Array.{rows}
 use Rattle.grgrid.specs.Grid.{index}
 use Rattle.bzsearch.specs.Lattice.{bz_tolerance}
-use Rattle.bz_triplets.specs.declared.BzTriplets.TheVariants.{Written}
 use Rattle.bz_triplets.specs.BzTriplets.{squared_distance, lqd_inv, try_at, chosen, triplet_of, input_tests, triplets_read, bz_triplet_tests, bz_triplets_answer, triplets_written, left_written, left_length_written}
 
 -- one image of each point
@@ -37,7 +37,7 @@ pub record Row : Type 0 where
   pub lengths : List Float
 
 pub record Right (r : Row) : Type 0 where
-  pub answer : bz_triplets_answer (pos 1) addresses r.map classes d113 q lattice r.t 6 2 2 ≡ Written
+  pub answer : bz_triplets_answer (pos 1) addresses r.map classes d113 q lattice r.t 6 2 2 ≡ Accepted
   pub triplets : triplets_written (pos 1) addresses r.map classes d113 q lattice r.t 6 2 2 ≡ r.triplets
   pub marks : left_written (pos 1) addresses r.map classes d113 q lattice r.t 6 2 2 ≡ r.marks
   pub lengths : left_length_written (pos 1) addresses r.map classes d113 q lattice r.t 6 2 2 ≡ r.lengths

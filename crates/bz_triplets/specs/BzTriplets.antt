@@ -1,5 +1,5 @@
 -- `bz_triplets_at_q`: for each class a triplet of images of q0, q1 and q2. The image table and the class map may hold anything.
-use Rattle.std.specs.Prelude.{Bool, true, false, ◌&&◌, ◌||◌, List, [], ◌∷◌, ◌++◌, map as map_list, ℕ, zero, suc, ◌+◌, ◌*◌, ◌-◌, eqb, ℤ, pos, negsuc, nat_abs, ◌+ℤ◌, length, replicate, Float}
+use Rattle.std.specs.Prelude.{Bool, true, false, ◌&&◌, ◌||◌, List, [], ◌∷◌, ◌++◌, map as map_list, ℕ, zero, suc, ◌+◌, ◌*◌, ◌-◌, eqb, ℤ, pos, negsuc, nat_abs, ◌+ℤ◌, length, replicate, Float, Ok, Err}
 use Rattle.std.specs.Float.{binary64}
 use Rattle.std.specs.Float.Ieee.{sub, div, of_int, lt}
 use Rattle.integer.specs.Same.{same}
@@ -7,9 +7,7 @@ use Rattle.common.specs.Matrix.{Vec, Mat, side, vector, entry, matrix, map_vec, 
 use Rattle.common.specs.Array.{sides_of, matrix_of, items}
 use Rattle.common.specs.FloatMatrix.{floats, float_matrix}
 use Rattle.common.specs.Limits.{matrix_within, diagonal_fits, point_fits}
-use Rattle.common.specs.Tested.{require, output_of}
-use Rattle.common.specs.declared.Tested.{Tested}
-use Rattle.common.specs.declared.Tested.TheVariants.{Accepted, Refused}
+use Rattle.common.specs.Tested.{require, output_of, Tested, Accepted}
 use Rattle.common.specs.declared.Refusal.TheVariants.{OutsideLimits, BadGridType, WrongLength}
 use Rattle.grgrid.specs.Grid.{size, index}
 use Rattle.grgrid.specs.Own.{own_places, own_points}
@@ -20,8 +18,6 @@ use Rattle.bzsearch.specs.Search.{length_squared}
 use Rattle.bzgrid.specs.Table.{listed}
 use Rattle.bzgrid.specs.BzGridAddresses.{grid_type_of, is_known}
 use Rattle.bztable.specs.Reading.{Read, got, outside, ◌then◌, whole_addresses, address_at, address_of, place_at, tests_after, list_of}
-use Rattle.bz_triplets.specs.declared.BzTriplets.{BzTriplets}
-use Rattle.bz_triplets.specs.declared.BzTriplets.TheVariants as answer
 use Rattle.triplet_grid.specs.Partner.{third}
 use Rattle.bz_triplets.specs.Choosing.{Found, start, left, closed, tried, nested}
 
@@ -160,14 +156,14 @@ module _ (q0 : ℤ) (addresses map classes d : List ℤ) (q : List (List ℤ)) (
   unfolding triplet_of lqd_inv
   triplets_read = address_of addresses q0 then λ a0. read_each (triplet_at a0) (own_points classes (length classes))
 
-abbrev pub answer_for : Tested → BzTriplets
-answer_for Accepted = answer.Written
-answer_for (Refused r) = answer.Refused r
+abbrev pub answer_for : Tested → Tested
+answer_for (Ok _) = Accepted
+answer_for (Err r) = Err r
 
 -- an output of lengths
 abbrev pub lengths_for : Tested → ℕ → List Float → List Float
-lengths_for Accepted n l = l
-lengths_for (Refused r) n l = replicate n (of_int binary64 (negsuc 0))
+lengths_for (Ok _) n l = l
+lengths_for (Err r) n l = replicate n (of_int binary64 (negsuc 0))
 
 unfoldable pub bz_triplet_tests : ℤ → (addresses map classes d : List ℤ) → List (List ℤ) → List (List Float) → GridType → (n m l : ℕ) → Tested
 unfolding input_tests triplets_read
@@ -181,7 +177,7 @@ module _ (q0 : ℤ) (addresses map classes d : List ℤ) (q : List (List ℤ)) (
   abbrev states : List State
   states = list_of (triplets_read q0 addresses map classes d q lattice (grid_type_of t))
 
-  unfoldable pub bz_triplets_answer : BzTriplets
+  unfoldable pub bz_triplets_answer : Tested
   unfolding bz_triplet_tests
   bz_triplets_answer = answer_for tests
 

@@ -4,21 +4,20 @@
 mod choices;
 mod classes;
 
-ghost use Rattle.std.specs.Prelude.{◌≡◌, ◌&&◌, ◌||◌, [], ◌*◌, T, eqb, pos, negsuc, nat_abs, length, replicate};
+ghost use Rattle.std.specs.Prelude.{◌≡◌, ◌&&◌, ◌||◌, [], ◌*◌, T, eqb, pos, negsuc, nat_abs, length, replicate, Err};
 ghost use Rattle.std.specs.Float.{binary64};
 ghost use Rattle.std.specs.Float.Ieee.{of_int};
 ghost use Rattle.std.specs.Int.Signed.{non_neg};
+ghost use Rattle.common.specs.Tested.{Accepted};
 ghost use Rattle.common.specs.Matrix.{entries};
 ghost use Rattle.common.specs.Array.{vector_of, sides_of, matrix_of};
 ghost use Rattle.common.specs.FloatMatrix.{float_matrix};
 ghost use Rattle.common.specs.Limits.{matrix_within, diagonal_fits, point_fits};
-ghost use Rattle.common.specs.declared.Tested.TheVariants.{Accepted};
 ghost use Rattle.grgrid.specs.Grid.{size};
 ghost use Rattle.grgrid.specs.Sides.{sides, GridFits};
 ghost use Rattle.bzsearch.specs.Lattice.{bz_tolerance, lattice_fits};
 ghost use Rattle.bzsearch.specs.SearchView.{float_nine};
 ghost use Rattle.bztable.specs.Reading.{whole_addresses, list_of};
-ghost use Rattle.bz_triplets.specs.declared.BzTriplets.TheVariants.{Refused};
 ghost use Rattle.bz_triplets.specs.BzTriplets.{lqd_inv, point_of, is_dense, input_tests, triplets_read, triplet_list, marks, lengths, bz_triplet_tests, bz_triplets_answer, triplets_written, left_written, left_length_written};
 ghost use Rattle.bz_triplets.specs.TripletsView.{row_over};
 
@@ -26,14 +25,8 @@ use bzgrid::GridType;
 use bztable::reading;
 use choices::Measure;
 pub use choices::Step;
-use common::{Refusal, Tested};
+use common::Refusal;
 use grgrid::Grid;
-
-#[derive(Clone, Copy)]
-pub enum BzTriplets {
-    Written,
-    Refused(Refusal),
-}
 
 fn over_sides(a: [f64; 3], d: [f64; 3]) -> [f64; 3]
     ensures { result ≡ row_over a d }
@@ -120,7 +113,7 @@ fn input_tests(
     triplets: usize,
     left: usize,
     lengths: usize,
-) -> Tested
+) -> Result<(), Refusal>
     ensures { result ≡ input_tests q0 addresses.now class_map.now d q lattice t triplets left lengths }
 {
     if !lengths_fit(
@@ -130,18 +123,18 @@ fn input_tests(
         left,
         lengths,
     ) {
-        return Tested::Refused(Refusal::WrongLength);
+        return Err(Refusal::WrongLength);
     }
     if !limits_fit(d, q, lattice) {
-        return Tested::Refused(Refusal::OutsideLimits);
+        return Err(Refusal::OutsideLimits);
     }
     if !point_fits(t, q0, d) {
-        return Tested::Refused(Refusal::OutsideLimits);
+        return Err(Refusal::OutsideLimits);
     }
     if !bzgrid::is_known(t) {
-        return Tested::Refused(Refusal::BadGridType);
+        return Err(Refusal::BadGridType);
     }
-    Tested::Accepted
+    Ok(())
 }
 
 // The grid point of q0, which type 2 has by an image at address a0.
@@ -170,7 +163,7 @@ fn triplet_tests(
     out: &mut [i64],
     left: &mut [i64],
     left_length: &mut [f64],
-) -> Tested
+) -> Result<(), Refusal>
     ensures value { result ≡ bz_triplet_tests q0 addresses.now map.now class_map.now d q lattice t (length out.old) (length left.old) (length left_length.old) }
     ensures out_after { result ≡ Accepted → out.new ≡ triplet_list (list_of (triplets_read q0 addresses.now map.now class_map.now d q lattice t)) }
     ensures left_after { result ≡ Accepted → left.new ≡ marks (list_of (triplets_read q0 addresses.now map.now class_map.now d q lattice t)) }
@@ -179,12 +172,12 @@ fn triplet_tests(
     let n = out.len();
     let m = left.len();
     let l = left_length.len();
-    if let Tested::Refused(r) = input_tests(q0, addresses, class_map, d, q, lattice, t, n, m, l) {
-        return Tested::Refused(r);
+    if let Err(r) = input_tests(q0, addresses, class_map, d, q, lattice, t, n, m, l) {
+        return Err(r);
     }
     let b = reading::address_of(addresses, q0);
     if !b.inside {
-        return Tested::Refused(Refusal::OutsideTable);
+        return Err(Refusal::OutsideTable);
     }
     let a0 = b.numbers;
     let g = grgrid::grid_of(d);
@@ -201,9 +194,9 @@ fn triplet_tests(
         left,
         left_length,
     ) {
-        return Tested::Accepted;
+        return Ok(());
     }
-    Tested::Refused(Refusal::OutsideTable)
+    Err(Refusal::OutsideTable)
 }
 
 // As `common::fill`, of lengths.
@@ -217,8 +210,8 @@ pub fn fill_lengths(out: &mut [f64], v: f64)
     }
 }
 
-fn refuse(r: Refusal, out: &mut [i64], left: &mut [i64], left_length: &mut [f64]) -> BzTriplets
-    ensures value { result ≡ Refused r }
+fn refuse(r: Refusal, out: &mut [i64], left: &mut [i64], left_length: &mut [f64]) -> Result<(), Refusal>
+    ensures value { result ≡ Err r }
     ensures out_after { out.new ≡ replicate (length out.old) (negsuc 0) }
     ensures left_after { left.new ≡ replicate (length left.old) (negsuc 0) }
     ensures left_length_after { left_length.new ≡ replicate (length left_length.old) (of_int binary64 (negsuc 0)) }
@@ -226,7 +219,7 @@ fn refuse(r: Refusal, out: &mut [i64], left: &mut [i64], left_length: &mut [f64]
     common::fill(out, -1);
     common::fill(left, -1);
     fill_lengths(left_length, -1.0);
-    BzTriplets::Refused(r)
+    Err(r)
 }
 
 // A triplet of images (q0, q1, q2) with q0 + q1 + q2 = G for each class: `class_map` has the classes that `ir_triplets_at_q` left. Beside it stands whether its
@@ -243,7 +236,7 @@ pub fn bz_triplets_at_q(
     out: &mut [i64],
     left: &mut [i64],
     left_length: &mut [f64],
-) -> BzTriplets
+) -> Result<(), Refusal>
     ensures value { result ≡ bz_triplets_answer q0 addresses.now map.now class_map.now d q lattice bz_grid_type (length out.old) (length left.old) (length left_length.old) }
     ensures out_after { out.new ≡ triplets_written q0 addresses.now map.now class_map.now d q lattice bz_grid_type (length out.old) (length left.old) (length left_length.old) }
     ensures left_after { left.new ≡ left_written q0 addresses.now map.now class_map.now d q lattice bz_grid_type (length out.old) (length left.old) (length left_length.old) }
@@ -263,7 +256,7 @@ pub fn bz_triplets_at_q(
         &mut *left,
         &mut *left_length,
     ) {
-        Tested::Accepted => BzTriplets::Written,
-        Tested::Refused(r) => refuse(r, out, left, left_length),
+        Ok(()) => Ok(()),
+        Err(r) => refuse(r, out, left, left_length),
     }
 }

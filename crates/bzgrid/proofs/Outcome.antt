@@ -7,23 +7,21 @@ use native.Mathlib.Omega.{arith}
 use lib.Dec.{T, leb, leb→le}
 use lib.IntN.{ℤ}
 use lib.ListN.{length}
+use Rattle.std.specs.Prelude.{Ok, Err}
 use Rattle.integer.specs.Checked.{pick}
 use Rattle.integer.proofs.Test.{and_l, and_r, holds}
 use Rattle.common.specs.Matrix.{Axis, X, Y, Z, Vec, side}
 use Rattle.common.specs.Array.{sides_of}
 use Rattle.common.specs.Limits.{diagonal_fits}
-use Rattle.common.specs.Tested.{require, output_of}
+use Rattle.common.specs.Tested.{require, output_of, Tested, Accepted}
 use Rattle.common.specs.declared.Refusal.{Refusal}
 use Rattle.common.specs.declared.Refusal.TheVariants.{SearchFailed, WrongLength}
-use Rattle.common.specs.declared.Tested.{Tested}
-use Rattle.common.specs.declared.Tested.TheVariants as tested
 use Rattle.common.proofs.Matrix.{side-vector}
 use Rattle.grgrid.specs.Grid.{size}
 use Rattle.grgrid.proofs.Accepted.{side-small, few-points, grid-fits}
 use Rattle.bzgrid.specs.declared.GridType.{GridType}
 use Rattle.bzgrid.specs.declared.GridType.TheVariants.{Sparse, Dense, Unknown}
 use Rattle.bzgrid.specs.declared.Lengths.{Lengths}
-use Rattle.bzgrid.specs.declared.BzGridAddresses.TheVariants.{Built, Refused}
 use Rattle.bzgrid.specs.declared.tables.Walk.{Walk}
 use Rattle.bzgrid.specs.declared.tables.Walk.TheVariants.{Images, Missing}
 use Rattle.bzsearch.specs.Search.{Search}
@@ -83,14 +81,14 @@ mesh-fits l fits e = subst MeshFits (sym e) (mesh-of l fits)
 
 -- ---- the answer, and the outputs of lengths x, y and z
 module _ {l k : Lengths} (e : l ≡ k) (x y z : ℕ) where
-  answer-of : {h : Bool} → has_room l x y z ≡ h → pick h (Built k) (Refused WrongLength) ≡ judged k x y z
-  answer-of r = ap (λ h. pick h (Built k) (Refused WrongLength)) (sym r ∙ ap (λ l. has_room l x y z) e)
+  answer-of : {h : Bool} → has_room l x y z ≡ h → pick h (Ok k) (Err WrongLength) ≡ judged k x y z
+  answer-of r = ap (λ h. pick h (Ok k) (Err WrongLength)) (sym r ∙ ap (λ l. has_room l x y z) e)
 
-  pub too_short : has_room l x y z ≡ false → Refused WrongLength ≡ judged k x y z
+  pub too_short : has_room l x y z ≡ false → Err WrongLength ≡ judged k x y z
   too_short r = answer-of r
 
-  pub long-enough : has_room l x y z ≡ true → Built l ≡ judged k x y z
-  long-enough r = ap Built e ∙ answer-of r
+  pub long-enough : has_room l x y z ≡ true → Ok l ≡ judged k x y z
+  long-enough r = ap Ok e ∙ answer-of r
 
 pub room_for : (sp : Bool) (n m x y z : ℕ) → T (has_room (lengths_for sp n m) x y z) → (3 * m ≤ x) × (if_sparse sp (8 * n) + (n + 1) ≤ y) × (m ≤ z)
 room_for sp n m x y z r =
@@ -104,7 +102,7 @@ mesh-enough sp d y h q = rw (q, size-doubled d) (omega (arith, h))
 built-room : (l : Lengths) (x y z : ℕ) → T (is_built (judged l x y z)) → T (has_room l x y z)
 built-room l x y z = by (has_room l x y z)
   where
-    by : (h : Bool) → T (is_built (pick h (Built l) (Refused WrongLength))) → T h
+    by : (h : Bool) → T (is_built (pick h (Ok l) (Err WrongLength))) → T h
     by true b = tt
     by false b = b
 
@@ -116,14 +114,14 @@ module _ (t : GridType) (s : Search) (x y z : ℕ) where
   n = size s.d
 
   abbrev tests : Bool → Bool → Tested
-  tests f h = require f SearchFailed (require h WrongLength tested.Accepted)
+  tests f h = require f SearchFailed (require h WrongLength Accepted)
 
   -- the code's names: whether the table is sparse, and the number of points
   module _ {sp : Bool} {k : ℕ} (es : sp ≡ is_sparse t) (ek : k ≡ n) where
     told : {w : Walk} → w ≡ walk_of sp g k → w ≡ walk_of (is_sparse t) g n
     told e = e ∙ ap₂ (λ b j. walk_of b g j) es ek
 
-    pub failed : Missing ≡ walk_of sp g k → Refused SearchFailed ≡ build_answer t s x y z
+    pub failed : Missing ≡ walk_of sp g k → Err SearchFailed ≡ build_answer t s x y z
     unfolding build_answer build_tests
     failed e = sym (ap (λ f. answer_for (tests f (has_room (lengths_of t s.d g) x y z)) (lengths_of t s.d g)) (told-missing (all_found g n) _ (told e)))
 
@@ -143,7 +141,7 @@ module _ (t : GridType) (s : Search) (x y z : ℕ) where
       unfolding build_answer build_tests
       answered = ap (λ l. judged l x y z) lengths ∙ by (has_room (lengths_of t s.d g) x y z) ∙ ap (λ f. answer_for (tests f (has_room (lengths_of t s.d g) x y z)) (lengths_of t s.d g)) (sym found)
         where
-          by : (h : Bool) → pick h (Built (lengths_of t s.d g)) (Refused WrongLength) ≡ answer_for (tests true h) (lengths_of t s.d g)
+          by : (h : Bool) → pick h (Ok (lengths_of t s.d g)) (Err WrongLength) ≡ answer_for (tests true h) (lengths_of t s.d g)
           by true = refl
           by false = refl
 
@@ -166,19 +164,19 @@ module _ (t : GridType) (s : Search) (x y z : ℕ) where
             laid = w.addresses ∙ addresses-laid g (is_sparse t) n x z (holds found) (subst (λ k. 3 * k ≤ x) count room.0)
 
 -- ---- -1 in every place where the tables are refused
-accepts : (x : Tested) (k : Lengths) {l : Lengths} → Built l ≡ answer_for x k → x ≡ tested.Accepted
-accepts tested.Accepted k e = refl
-accepts (tested.Refused r) k e = let z : ◌≡◌ {A = Bool} false true = cc in absurd (false≢true z)
+accepts : (x : Tested) (k : Lengths) {l : Lengths} → Ok l ≡ answer_for x k → x ≡ Accepted
+accepts (Ok _) k e = refl
+accepts (Err r) k e = let z : ◌≡◌ {A = Bool} false true = cc in absurd (false≢true z)
 
-refuses : (x : Tested) (k : Lengths) {r : Refusal} → Refused r ≡ answer_for x k → x ≡ tested.Refused r
-refuses tested.Accepted k e = let z : ◌≡◌ {A = Bool} false true = cc in absurd (false≢true z)
-refuses (tested.Refused r) k e = cc
+refuses : (x : Tested) (k : Lengths) {r : Refusal} → Err r ≡ answer_for x k → x ≡ Err r
+refuses (Ok _) k e = let z : ◌≡◌ {A = Bool} false true = cc in absurd (false≢true z)
+refuses (Err r) k e = cc
 
 module _ {q : Tested} (n : ℕ) (l : List ℤ) {o : List ℤ} where
-  pub left : q ≡ tested.Accepted → o ≡ l → o ≡ output_of q n l
+  pub left : q ≡ Accepted → o ≡ l → o ≡ output_of q n l
   left e p = p ∙ ap (λ q. output_of q n l) (sym e)
 
-  pub wiped : {r : Refusal} → q ≡ tested.Refused r → o ≡ blank n → o ≡ output_of q n l
+  pub wiped : {r : Refusal} → q ≡ Err r → o ≡ blank n → o ≡ output_of q n l
   wiped e p = p ∙ ap (λ q. output_of q n l) (sym e)
 
 module _ (t : GridType) (s : Search) (x y z : ℕ) where
@@ -197,13 +195,13 @@ module _ (t : GridType) (s : Search) (x y z : ℕ) where
   abbrev grg : List ℤ
   grg = padded (point_list images) z
 
-  pub built-holds : {l : Lengths} {a m b : List ℤ} → Built l ≡ build_answer t s x y z → Filled t s x y z a m b → Holds a m b
+  pub built-holds : {l : Lengths} {a m b : List ℤ} → Ok l ≡ build_answer t s x y z → Filled t s x y z a m b → Holds a m b
   unfolding build_answer build_addresses build_map build_grg
   built-holds e f =
       let h = accepts (build_tests t s x y z) (lengths_of t s.d (images_at s)) e in
       (left x addresses h f.addresses, (left y map h f.map, left z grg h f.grg))
 
-  pub refused-holds : {r : Refusal} {a m b : List ℤ} → Refused r ≡ build_answer t s x y z → a ≡ blank x → m ≡ blank y → b ≡ blank z → Holds a m b
+  pub refused-holds : {r : Refusal} {a m b : List ℤ} → Err r ≡ build_answer t s x y z → a ≡ blank x → m ≡ blank y → b ≡ blank z → Holds a m b
   unfolding build_answer build_addresses build_map build_grg
   refused-holds e p q r =
       let h = refuses (build_tests t s x y z) (lengths_of t s.d (images_at s)) e in

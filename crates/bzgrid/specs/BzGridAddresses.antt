@@ -1,21 +1,18 @@
 -- `bz_grid_addresses`: the tests, in document 01's order, the answer and the three outputs.
-use Rattle.std.specs.Prelude.{Bool, true, false, not, ◌&&◌, List, [], ◌++◌, ℕ, zero, suc, ◌+◌, ◌*◌, ◌-◌, leb, eqb, ℤ, pos, negsuc, Float, length, replicate}
+use Rattle.std.specs.Prelude.{Bool, true, false, not, ◌&&◌, List, [], ◌++◌, ℕ, zero, suc, ◌+◌, ◌*◌, ◌-◌, leb, eqb, ℤ, pos, negsuc, Float, length, replicate, Result, Ok, Err}
+use Rattle.common.specs.declared.Refusal.{Refusal}
 use Rattle.integer.specs.Same.{same}
 use Rattle.integer.specs.Checked.{pick}
 use Rattle.common.specs.Matrix.{Vec}
 use Rattle.common.specs.Array.{vector_of, sides_of, matrix_of}
 use Rattle.common.specs.FloatMatrix.{float_matrix}
 use Rattle.common.specs.Limits.{matrix_within, diagonal_fits, shift_fits}
-use Rattle.common.specs.Tested.{require, output_of}
-use Rattle.common.specs.declared.Tested.{Tested}
-use Rattle.common.specs.declared.Tested.TheVariants.{Accepted, Refused}
+use Rattle.common.specs.Tested.{require, output_of, Tested, Accepted}
 use Rattle.common.specs.declared.Refusal.TheVariants.{OutsideLimits, BadGridType, NotUnimodularQ, SingularReciprocalLattice, SearchFailed, WrongLength}
 use Rattle.grgrid.specs.Grid.{size}
 use Rattle.bzgrid.specs.declared.GridType.{GridType}
 use Rattle.bzgrid.specs.declared.GridType.TheVariants.{Sparse, Dense, Unknown}
 use Rattle.bzgrid.specs.declared.Lengths.{Lengths}
-use Rattle.bzgrid.specs.declared.BzGridAddresses.{BzGridAddresses}
-use Rattle.bzgrid.specs.declared.BzGridAddresses.TheVariants as answer
 use Rattle.bzsearch.specs.Lattice.{lattice_fits, singular}
 use Rattle.bzsearch.specs.Search.{Search, new_search, unimodular}
 use Rattle.bzgrid.specs.Table.{Image, images_at, dense, dense_map, sparse, sparse_map, empty, address_list, point_list}
@@ -77,9 +74,9 @@ input_tests d q ps lattice t =
     (require (not (singular (float_matrix lattice))) SingularReciprocalLattice Accepted)))
 
 -- ---- the tables of a search, for outputs of lengths a, b and c: -1 in the places past the table's
-abbrev pub answer_for : Tested → Lengths → BzGridAddresses
-answer_for Accepted l = answer.Built l
-answer_for (Refused r) l = answer.Refused r
+abbrev pub answer_for : Tested → Lengths → Result Lengths Refusal
+answer_for (Ok _) l = Ok l
+answer_for (Err r) l = Err r
 
 abbrev pub padded : List ℤ → ℕ → List ℤ
 padded l n = l ++ replicate (n - length l) (negsuc 0)
@@ -89,7 +86,7 @@ module _ (t : GridType) (s : Search) (a b c : ℕ) where
   unfolding images_at
   build_tests = require (all_found (images_at s) (size s.d)) SearchFailed (require (has_room (lengths_of t s.d (images_at s)) a b c) WrongLength Accepted)
 
-  unfoldable pub build_answer : BzGridAddresses
+  unfoldable pub build_answer : Result Lengths Refusal
   unfolding build_tests images_at
   build_answer = answer_for build_tests (lengths_of t s.d (images_at s))
 
@@ -110,11 +107,11 @@ module _ (d : List ℤ) (q : List (List ℤ)) (ps : List ℤ) (lattice : List (L
   abbrev tests : Tested
   tests = input_tests d q ps lattice (grid_type_of t)
 
-  abbrev pub answer_after : Tested → BzGridAddresses
-  answer_after Accepted = build_answer (grid_type_of t) (search_of d q ps lattice) a b c
-  answer_after (Refused r) = answer.Refused r
+  abbrev pub answer_after : Tested → Result Lengths Refusal
+  answer_after (Ok _) = build_answer (grid_type_of t) (search_of d q ps lattice) a b c
+  answer_after (Err r) = Err r
 
-  unfoldable pub bz_answer : BzGridAddresses
+  unfoldable pub bz_answer : Result Lengths Refusal
   unfolding input_tests build_answer
   bz_answer = answer_after tests
 

@@ -1,5 +1,6 @@
 -- What a walk over all points leaves.
-use Rattle.std.specs.Prelude.{◌≡◌, Bool, true, false, List, ℕ, suc, ◌+◌, ◌*◌, ◌≤◌, ℤ, negsuc, length, replicate}
+use Rattle.std.specs.Prelude.{◌≡◌, Bool, true, false, List, ℕ, suc, ◌+◌, ◌*◌, ◌≤◌, ℤ, negsuc, length, replicate, Result, Ok, Err}
+use Rattle.common.specs.declared.Refusal.{Refusal}
 use Rattle.integer.specs.Checked.{pick}
 use Rattle.bzgrid.specs.declared.tables.Walk.{Walk}
 use Rattle.bzgrid.specs.declared.tables.Walk.TheVariants.{Images, Missing}
@@ -9,8 +10,6 @@ use Rattle.grgrid.specs.Grid.{size}
 use Rattle.grgrid.specs.Sides.{GridFits}
 use Rattle.bzgrid.specs.declared.Lengths.{Lengths}
 use Rattle.bzgrid.specs.declared.GridType.{GridType}
-use Rattle.bzgrid.specs.declared.BzGridAddresses.{BzGridAddresses}
-use Rattle.bzgrid.specs.declared.BzGridAddresses.TheVariants.{Built, Refused}
 use Rattle.bzsearch.specs.Search.{Search, rows}
 use Rattle.bzgrid.specs.Table.{Image, images_at, others, doubled, address_list, point_list}
 use Rattle.bzgrid.specs.BzGridAddresses.{table_of, map_of, all_found, has_room, padded}
@@ -48,12 +47,12 @@ pub record WrittenTo (sparse : Bool) (g : ℕ → List Image) (n base : ℕ) (a 
 abbrev pub lengths_for : Bool → ℕ → ℕ → Lengths
 lengths_for sparse n m = record { addresses = 3 * m; map = if_sparse sparse (8 * n) + (n + 1); grg = m }
 
-abbrev pub judged : Lengths → ℕ → ℕ → ℕ → BzGridAddresses
-judged l x y z = pick (has_room l x y z) (Built l) (Refused WrongLength)
+abbrev pub judged : Lengths → ℕ → ℕ → ℕ → Result Lengths Refusal
+judged l x y z = pick (has_room l x y z) (Ok l) (Err WrongLength)
 
-abbrev pub is_built : BzGridAddresses → Bool
-is_built (Built l) = true
-is_built (Refused r) = false
+abbrev pub is_built : Result Lengths Refusal → Bool
+is_built (Ok l) = true
+is_built (Err r) = false
 
 -- the tables of type t, in outputs of lengths x, y and z
 pub record Filled (t : GridType) (s : Search) (x y z : ℕ) (a m b : List ℤ) : Type 0 where

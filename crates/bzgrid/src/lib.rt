@@ -13,7 +13,7 @@ ghost use Rattle.bzsearch.specs.SearchView.{search_of, Ready};
 ghost use Rattle.bzgrid.specs.BzGridAddresses.{grid_type_of, is_known, is_sparse, all_found, within_limits, input_tests, has_room, build_answer, build_addresses, build_map, build_grg, bz_answer, addresses_written, map_written, grg_written};
 
 use bzsearch::BzSearch;
-use common::{Refusal, Tested};
+use common::Refusal;
 use grgrid::Grid;
 use tables::Walk;
 
@@ -31,13 +31,6 @@ pub struct Lengths {
     pub addresses: usize,
     pub map: usize,
     pub grg: usize,
-}
-
-// The lengths of the three tables, or why there are none.
-#[derive(Clone, Copy)]
-pub enum BzGridAddresses {
-    Built(Lengths),
-    Refused(Refusal),
 }
 
 pub fn grid_type(t: i64) -> GridType
@@ -71,22 +64,22 @@ fn input_tests(
     ps: [i64; 3],
     lattice: [[f64; 3]; 3],
     t: GridType,
-) -> Tested
+) -> Result<(), Refusal>
     ensures { result ≡ input_tests d q ps lattice t }
 {
     if !within_limits(d, q, ps, lattice) {
-        return Tested::Refused(Refusal::OutsideLimits);
+        return Err(Refusal::OutsideLimits);
     }
     if !is_known(t) {
-        return Tested::Refused(Refusal::BadGridType);
+        return Err(Refusal::BadGridType);
     }
     if !bzsearch::is_unimodular(q) {
-        return Tested::Refused(Refusal::NotUnimodularQ);
+        return Err(Refusal::NotUnimodularQ);
     }
     if bzsearch::is_singular(lattice) {
-        return Tested::Refused(Refusal::SingularReciprocalLattice);
+        return Err(Refusal::SingularReciprocalLattice);
     }
-    Tested::Accepted
+    Ok(())
 }
 
 pub fn is_known(t: GridType) -> bool
@@ -185,7 +178,7 @@ fn finish(
     addresses: &[i64],
     map: &mut [i64],
     c: usize,
-) -> BzGridAddresses
+) -> Result<Lengths, Refusal>
     requires fact_1 { MeshFits (sides g) }
     requires fact_2 { m < 1099511627776 }
     ensures value { result ≡ judged (lengths_for sparse (size (sides g)) m) (length addresses.now) (length map.old) c }
@@ -193,10 +186,10 @@ fn finish(
 {
     let l = lengths_of(sparse, grgrid::points(g), m);
     if !has_room(l, addresses.len(), map.len(), c) {
-        return BzGridAddresses::Refused(Refusal::WrongLength);
+        return Err(Refusal::WrongLength);
     }
     add_mesh(sparse, addresses, m, doubled(g), map);
-    BzGridAddresses::Built(l)
+    Ok(l)
 }
 
 // The walk over n points, on outputs of -1 alone.
@@ -226,7 +219,7 @@ fn fill_tables(
     addresses: &mut [i64],
     map: &mut [i64],
     grg: &mut [i64],
-) -> BzGridAddresses
+) -> Result<Lengths, Refusal>
     requires fact_1 { Ready s }
     requires fact_2 { T (is_known t) }
     ensures value { result ≡ build_answer t (search_of s) (length addresses.old) (length map.old) (length grg.old) }
@@ -243,7 +236,7 @@ fn fill_tables(
         &mut *map,
         grg,
     ) {
-        Walk::Missing => BzGridAddresses::Refused(Refusal::SearchFailed),
+        Walk::Missing => Err(Refusal::SearchFailed),
         Walk::Images(m) => finish(sparse, g, m, addresses, map, grg.len()),
     }
 }
@@ -255,7 +248,7 @@ fn build(
     addresses: &mut [i64],
     map: &mut [i64],
     grg: &mut [i64],
-) -> BzGridAddresses
+) -> Result<Lengths, Refusal>
     requires fact_1 { Ready s }
     requires fact_2 { T (is_known t) }
     ensures value { result ≡ build_answer t (search_of s) (length addresses.old) (length map.old) (length grg.old) }
@@ -264,10 +257,10 @@ fn build(
     ensures grg_after { grg.new ≡ build_grg t (search_of s) (length addresses.old) (length map.old) (length grg.old) }
 {
     match fill_tables(s, t, &mut *addresses, &mut *map, &mut *grg) {
-        BzGridAddresses::Built(l) => BzGridAddresses::Built(l),
-        BzGridAddresses::Refused(r) => {
+        Ok(l) => Ok(l),
+        Err(r) => {
             wipe(addresses, map, grg);
-            BzGridAddresses::Refused(r)
+            Err(r)
         }
     }
 }
@@ -282,7 +275,7 @@ pub fn bz_grid_addresses(
     addresses: &mut [i64],
     map: &mut [i64],
     grg: &mut [i64],
-) -> BzGridAddresses
+) -> Result<Lengths, Refusal>
     ensures value { result ≡ bz_answer d q ps lattice bz_grid_type (length addresses.old) (length map.old) (length grg.old) }
     ensures addresses_after { addresses.new ≡ addresses_written d q ps lattice bz_grid_type (length addresses.old) (length map.old) (length grg.old) }
     ensures map_after { map.new ≡ map_written d q ps lattice bz_grid_type (length addresses.old) (length map.old) (length grg.old) }
@@ -290,10 +283,10 @@ pub fn bz_grid_addresses(
 {
     let t = grid_type(bz_grid_type);
     match input_tests(d, q, ps, lattice, t) {
-        Tested::Accepted => build(BzSearch::new(d, ps, q, lattice), t, addresses, map, grg),
-        Tested::Refused(r) => {
+        Ok(()) => build(BzSearch::new(d, ps, q, lattice), t, addresses, map, grg),
+        Err(r) => {
             wipe(addresses, map, grg);
-            BzGridAddresses::Refused(r)
+            Err(r)
         }
     }
 }

@@ -8,21 +8,19 @@ use lib.Dec.{T, eqb→eq}
 use lib.IntN.{ℤ, nat_abs}
 use lib.Ieee.{Float, le}
 use lib.ListN.{length}
+use Rattle.std.specs.Prelude.{Ok, Err}
 use Rattle.float.specs.Value.{Bounded, zero_f}
 use Rattle.integer.proofs.Test.{holds}
 use Rattle.common.specs.Matrix.{det}
 use Rattle.common.specs.Array.{vector_of, sides_of, matrix_of}
 use Rattle.common.specs.FloatMatrix.{float_matrix}
-use Rattle.common.specs.Tested.{require, output_of}
-use Rattle.common.specs.declared.Tested.{Tested}
-use Rattle.common.specs.declared.Tested.TheVariants.{Accepted, Refused}
+use Rattle.common.specs.Tested.{require, output_of, Tested, Accepted}
 use Rattle.common.specs.declared.Refusal.{Refusal}
 use Rattle.common.specs.declared.Refusal.TheVariants.{SearchFailed, WrongLength}
 use Rattle.common.proofs.Tests.{passed}
 use Rattle.grgrid.specs.Grid.{size}
 use Rattle.grgrid.proofs.Accepted.{grid-fits, few-points}
 use Rattle.bzgrid.specs.declared.Lengths.{Lengths}
-use Rattle.bzgrid.specs.declared.BzGridAddresses.TheVariants as answer
 use Rattle.bzgrid.specs.declared.GridType.{GridType}
 use Rattle.bzgrid.specs.declared.GridType.TheVariants.{Sparse}
 use Rattle.bzsearch.specs.Search.{Search, images}
@@ -50,10 +48,10 @@ pub record CallAccepted (d : List ℤ) (q : List (List ℤ)) (ps : List ℤ) (la
   pub map : map_written d q ps lattice t a b c ≡ padded (map_of (grid_type_of t) (sides_of d) (images_at (search_of d q ps lattice))) b
   pub points : grg_written d q ps lattice t a b c ≡ padded (point_list (table_of (grid_type_of t) (images_at (search_of d q ps lattice)) (size (sides_of d)))) c
 
-not-built : (r : Refusal) (l : Lengths) → answer.Refused r ≡ answer.Built l → ⊥
+not-built : (r : Refusal) (l : Lengths) → Err r ≡ Ok l → ⊥
 not-built r l e = let z : ◌≡◌ {A = ℕ} 0 1 = cc in omega arith
 
-built-lengths : (l m : Lengths) → answer.Built l ≡ answer.Built m → l ≡ m
+built-lengths : (l m : Lengths) → Ok l ≡ Ok m → l ≡ m
 built-lengths l m e = cc
 
 module _ (d : List ℤ) (q : List (List ℤ)) (ps : List ℤ) (lattice : List (List Float)) (t : ℤ) (a b c : ℕ) where
@@ -66,16 +64,16 @@ module _ (d : List ℤ) (q : List (List ℤ)) (ps : List ℤ) (lattice : List (L
   abbrev lengths : Lengths
   lengths = lengths_of kind (sides_of d) (images_at s)
 
-  module _ (l : Lengths) (e : bz_answer d q ps lattice t a b c ≡ answer.Built l) where
+  module _ (l : Lengths) (e : bz_answer d q ps lattice t a b c ≡ Ok l) where
     input-passed : input_tests d q ps lattice kind ≡ Accepted
     unfolding bz_answer
     input-passed = go (input_tests d q ps lattice kind) refl e
       where
-        go : (x : Tested) → input_tests d q ps lattice kind ≡ x → answer_after d q ps lattice t a b c x ≡ answer.Built l → input_tests d q ps lattice kind ≡ Accepted
-        go Accepted p e = p
-        go (Refused r) p e = absurd (not-built r l e)
+        go : (x : Tested) → input_tests d q ps lattice kind ≡ x → answer_after d q ps lattice t a b c x ≡ Ok l → input_tests d q ps lattice kind ≡ Accepted
+        go (Ok _) p e = p
+        go (Err r) p e = absurd (not-built r l e)
 
-    built : build_answer kind s a b c ≡ answer.Built l
+    built : build_answer kind s a b c ≡ Ok l
     unfolding bz_answer
     built = sym (ap (answer_after d q ps lattice t a b c) input-passed) ∙ e
 
@@ -83,9 +81,9 @@ module _ (d : List ℤ) (q : List (List ℤ)) (ps : List ℤ) (lattice : List (L
     unfolding build_answer
     build-passed = go (build_tests kind s a b c) refl built
       where
-        go : (x : Tested) → build_tests kind s a b c ≡ x → answer_for x lengths ≡ answer.Built l → (build_tests kind s a b c ≡ Accepted) × (l ≡ lengths)
-        go Accepted p e = (p, sym (built-lengths lengths l e))
-        go (Refused r) p e = absurd (not-built r l e)
+        go : (x : Tested) → build_tests kind s a b c ≡ x → answer_for x lengths ≡ Ok l → (build_tests kind s a b c ≡ Accepted) × (l ≡ lengths)
+        go (Ok _) p e = (p, sym (built-lengths lengths l e))
+        go (Err r) p e = absurd (not-built r l e)
 
     -- what an output then holds
     kept : (n : ℕ) (x : List ℤ) → output_of (input_tests d q ps lattice kind) n (output_of (build_tests kind s a b c) n x) ≡ x

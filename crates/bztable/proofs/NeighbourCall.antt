@@ -9,18 +9,15 @@ use lib.Dec.{T, eqb, eqb→eq}
 use lib.IntN.{ℤ, negsuc}
 use lib.ListN.{length, replicate}
 use borrow.Author.Tests.{eqb-true, eq-eqb, ne_eqb}
+use Rattle.std.specs.Prelude.{Err}
 use Rattle.integer.proofs.Test.{holds, same_test}
 use Rattle.common.specs.Array.{sides_of}
 use Rattle.common.specs.Limits.{all_within, diagonal_fits}
-use Rattle.common.specs.Tested.{output_of}
+use Rattle.common.specs.Tested.{output_of, Tested, Accepted}
 use Rattle.common.specs.declared.Refusal.{Refusal}
 use Rattle.common.specs.declared.Refusal.TheVariants.{WrongLength, OutsideLimits, OutsideTable}
-use Rattle.common.specs.declared.Tested.{Tested}
-use Rattle.common.specs.declared.Tested.TheVariants.{Accepted, Refused}
 use Rattle.common.proofs.Tests.{passed}
 use Rattle.bzgrid.specs.declared.GridType.{GridType}
-use Rattle.bztable.specs.declared.neighbours.Neighbours.{Neighbours}
-use Rattle.bztable.specs.declared.neighbours.Neighbours.TheVariants as answer
 use Rattle.bzgrid.specs.BzGridAddresses.{grid_type_of}
 use Rattle.bztable.specs.Reading.{Read, got, outside, inside, whole_addresses, tests_after, list_of}
 use Rattle.bztable.specs.Neighbours.{all_neighbours, read_for, answer_for, input_tests, neighbours_read, neighbour_tests, neighbours_answer, neighbours_written}
@@ -81,7 +78,7 @@ module _ (points offsets addresses map d : List ℤ) (t : GridType) (n : ℕ) wh
     unfolding neighbour_tests
     after_read x f = sym (ap₂ tests_after e f)
 
-    pub tests-refused : (r : Refusal) → s ≡ Refused r → Refused r ≡ neighbour_tests points offsets addresses map d t n
+    pub tests-refused : (r : Refusal) → s ≡ Err r → Err r ≡ neighbour_tests points offsets addresses map d t n
     tests-refused r f = ap (λ s. tests_after s (neighbours_read points offsets addresses map d t n)) (sym f) ∙ after_read (neighbours_read points offsets addresses map d t n) refl
 
   module _ (e : input_tests (length points) offsets addresses d t n ≡ Accepted) (out : List ℤ) where
@@ -108,12 +105,12 @@ module _ (points offsets addresses map d : List ℤ) (t : GridType) (n : ℕ) wh
       pub tests-written : b ≡ true → Done
       tests-written q = done (read-walked true q)
 
-      pub tests-outside : b ≡ false → Refused OutsideTable ≡ neighbour_tests points offsets addresses map d t n
+      pub tests-outside : b ≡ false → Err OutsideTable ≡ neighbour_tests points offsets addresses map d t n
       tests-outside q = after_read e outside (read-walked false q)
 
 -- ---- the call
 module _ (points offsets addresses map d : List ℤ) (z : ℤ) (n : ℕ) {t : GridType} (e : t ≡ grid_type_of z) {s : Tested} (f : s ≡ neighbour_tests points offsets addresses map d t n) (out : List ℤ) where
-  abbrev Answers : Neighbours → Type 0
+  abbrev Answers : Tested → Type 0
   Answers a = (a ≡ neighbours_answer points offsets addresses map d z n) × (out ≡ neighbours_written points offsets addresses map d z n)
 
   answered : (r : Tested) → s ≡ r → out ≡ output_of r n (list_of (neighbours_read points offsets addresses map d (grid_type_of z) n)) → Answers (answer_for r)
@@ -122,8 +119,8 @@ module _ (points offsets addresses map d : List ℤ) (z : ℤ) (n : ℕ) {t : Gr
       let g : r ≡ neighbour_tests points offsets addresses map d (grid_type_of z) n = sym a ∙ f ∙ ap (λ t. neighbour_tests points offsets addresses map d t n) e in
       (ap answer_for g, w ∙ ap (λ s. output_of s n (list_of (neighbours_read points offsets addresses map d (grid_type_of z) n))) g)
 
-  pub call-written : s ≡ Accepted → out ≡ list_of (neighbours_read points offsets addresses map d t n) → Answers answer.Written
+  pub call-written : s ≡ Accepted → out ≡ list_of (neighbours_read points offsets addresses map d t n) → Answers Accepted
   call-written a w = answered Accepted a (w ∙ ap (λ t. list_of (neighbours_read points offsets addresses map d t n)) e)
 
-  pub call-refused : (r : Refusal) → s ≡ Refused r → out ≡ replicate n (negsuc 0) → Answers (answer.Refused r)
-  call-refused r a w = answered (Refused r) a w
+  pub call-refused : (r : Refusal) → s ≡ Err r → out ≡ replicate n (negsuc 0) → Answers (Err r)
+  call-refused r a w = answered (Err r) a w

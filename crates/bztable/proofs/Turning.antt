@@ -6,12 +6,13 @@ use Prim.Native.Nat.{ℕ, ◌+◌, ◌*◌, ◌-◌}
 use native.Mathlib.Omega.{arith}
 use lib.Dec.{T}
 use lib.IntN.{ℤ}
+use Rattle.std.specs.Prelude.{Err}
+use Rattle.common.specs.Tested.{Accepted}
 use Rattle.integer.proofs.Test.{holds, and_l, and_r}
 use Rattle.integer.specs.Checked.{pick}
 use Rattle.common.specs.Matrix.{Vec, same_vector}
 use Rattle.common.specs.Array.{matrix_of}
 use Rattle.common.specs.Limits.{matrix_within, diagonal_fits, shift_fits}
-use Rattle.common.specs.declared.Tested.TheVariants as tests
 use Rattle.common.specs.declared.Refusal.{Refusal}
 use Rattle.common.specs.declared.Refusal.TheVariants.{OutsideLimits, WrongLength}
 use Rattle.common.proofs.Tests.{passed}
@@ -29,7 +30,7 @@ module _ (rotation : List (List ℤ)) (l d ps : List ℤ) where
     pub shift : T (shift_fits ps)
     pub entries : T (matrix_within 100000 (matrix_of rotation))
 
-  pub rotate-accepted : (t : GridType) → rotate_tests rotation l d ps t ≡ tests.Accepted → RotateAccepted
+  pub rotate-accepted : (t : GridType) → rotate_tests rotation l d ps t ≡ Accepted → RotateAccepted
   unfolding rotate_tests
   rotate-accepted t e =
       let f = shift_fits ps && matrix_within 100000 (matrix_of rotation) in
@@ -38,13 +39,13 @@ module _ (rotation : List (List ℤ)) (l d ps : List ℤ) where
       record { grid = and_l (diagonal_fits d) f h; shift = and_l (shift_fits ps) (matrix_within 100000 (matrix_of rotation)) g; entries = and_r (shift_fits ps) (matrix_within 100000 (matrix_of rotation)) g }
 
   module _ (i : ℤ) (m : List ℤ) (t : ℤ) {u : GridType} (e : u ≡ grid_type_of t) where
-    pub answer-accepted : rotate_tests rotation l d ps u ≡ tests.Accepted → told (rotate_read i rotation l m d ps u) ≡ rotate_answer i rotation l m d ps t
+    pub answer-accepted : rotate_tests rotation l d ps u ≡ Accepted → told (rotate_read i rotation l m d ps u) ≡ rotate_answer i rotation l m d ps t
     unfolding rotate_answer
     answer-accepted f =
         ap (λ u. told (rotate_read i rotation l m d ps u)) e
         ∙ ap (λ x. answer_after x (rotate_read i rotation l m d ps (grid_type_of t))) (sym f ∙ ap (rotate_tests rotation l d ps) e)
 
-    pub answer-refused : {r : Refusal} → rotate_tests rotation l d ps u ≡ tests.Refused r → answer.Refused r ≡ rotate_answer i rotation l m d ps t
+    pub answer-refused : {r : Refusal} → rotate_tests rotation l d ps u ≡ Err r → answer.Refused r ≡ rotate_answer i rotation l m d ps t
     unfolding rotate_answer
     answer-refused f = ap (λ x. answer_after x (rotate_read i rotation l m d ps (grid_type_of t))) (sym f ∙ ap (rotate_tests rotation l d ps) e)
 

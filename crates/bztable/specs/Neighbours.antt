@@ -1,18 +1,14 @@
 -- `neighboring_grid_points_many`: the tests, the walk over points and offsets, the answer and the output, which has n places.
-use Rattle.std.specs.Prelude.{◌||◌, List, [], ◌∷◌, ◌++◌, ℕ, zero, suc, ◌+◌, ◌*◌, ◌-◌, ◌/◌, ltb, eqb, ℤ, pos, ◌+ℤ◌, length, get_or}
+use Rattle.std.specs.Prelude.{◌||◌, List, [], ◌∷◌, ◌++◌, ℕ, zero, suc, ◌+◌, ◌*◌, ◌-◌, ◌/◌, ltb, eqb, ℤ, pos, ◌+ℤ◌, length, get_or, Ok, Err}
 use Rattle.integer.specs.Checked.{pick}
 use Rattle.common.specs.Matrix.{Vec, side, vector}
 use Rattle.common.specs.Array.{sides_of}
 use Rattle.common.specs.Limits.{all_within, diagonal_fits}
-use Rattle.common.specs.Tested.{require, output_of}
-use Rattle.common.specs.declared.Tested.{Tested}
-use Rattle.common.specs.declared.Tested.TheVariants.{Accepted, Refused}
+use Rattle.common.specs.Tested.{require, output_of, Tested, Accepted}
 use Rattle.common.specs.declared.Refusal.TheVariants.{OutsideLimits, BadGridType, WrongLength}
 use Rattle.grgrid.specs.Grid.{index}
 use Rattle.bzgrid.specs.declared.GridType.{GridType}
 use Rattle.bzgrid.specs.declared.GridType.TheVariants.{Sparse, Dense, Unknown}
-use Rattle.bztable.specs.declared.neighbours.Neighbours.{Neighbours}
-use Rattle.bztable.specs.declared.neighbours.Neighbours.TheVariants as answer
 use Rattle.bzgrid.specs.Table.{doubled, empty}
 use Rattle.bzgrid.specs.BzGridAddresses.{grid_type_of, is_known}
 use Rattle.bztable.specs.Reading.{Read, got, outside, ◌then◌, Found, here, nowhere, whole_addresses, triple_at, address_of, place_at, find, tests_after, list_of}
@@ -69,9 +65,9 @@ abbrev pub read_for : ℕ → Read (List ℤ) → Read (List ℤ)
 read_for zero r = got []
 read_for (suc n) r = r
 
-abbrev pub answer_for : Tested → Neighbours
-answer_for Accepted = answer.Written
-answer_for (Refused r) = answer.Refused r
+abbrev pub answer_for : Tested → Tested
+answer_for (Ok _) = Accepted
+answer_for (Err r) = Err r
 
 unfoldable pub input_tests : ℕ → (offsets addresses d : List ℤ) → GridType → ℕ → Tested
 input_tests points offsets addresses d t n =
@@ -92,7 +88,7 @@ module _ (points offsets addresses map d : List ℤ) (t : GridType) (n : ℕ) wh
   neighbour_tests = tests_after (input_tests (length points) offsets addresses d t n) neighbours_read
 
 module _ (points offsets addresses map d : List ℤ) (t : ℤ) (n : ℕ) where
-  unfoldable pub neighbours_answer : Neighbours
+  unfoldable pub neighbours_answer : Tested
   unfolding neighbour_tests
   neighbours_answer = answer_for (neighbour_tests points offsets addresses map d (grid_type_of t) n)
 

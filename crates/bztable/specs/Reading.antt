@@ -1,11 +1,10 @@
 -- How an image table is read. It may hold anything: a read is inside the slice and the limits, or `outside`, which is refusal 14.
-use Rattle.std.specs.Prelude.{Bool, true, false, ◌&&◌, List, [], ℕ, zero, suc, ◌*◌, ◌/◌, ◌%◌, ltb, leb, eqb, ℤ, pos, negsuc, length, get_or}
+use Rattle.std.specs.Prelude.{Bool, true, false, ◌&&◌, List, [], ℕ, zero, suc, ◌*◌, ◌/◌, ◌%◌, ltb, leb, eqb, ℤ, pos, negsuc, length, get_or, Ok, Err}
+use Rattle.common.specs.Tested.{Tested, Accepted}
 use Rattle.integer.specs.Checked.{pick}
 use Rattle.common.specs.Matrix.{Vec, side, all_axes, same_vector}
 use Rattle.common.specs.Array.{vector_of, row_at}
 use Rattle.common.specs.Limits.{within}
-use Rattle.common.specs.declared.Tested.{Tested}
-use Rattle.common.specs.declared.Tested.TheVariants.{Accepted, Refused}
 use Rattle.common.specs.declared.Refusal.TheVariants.{OutsideTable}
 
 pub data Read (A : Type 0) : Type 0 where
@@ -23,9 +22,9 @@ inside false a = outside
 
 -- the tests of a call that then reads
 abbrev pub tests_after : {A : Type 0} → Tested → Read A → Tested
-tests_after Accepted (got l) = Accepted
-tests_after Accepted outside = Refused OutsideTable
-tests_after (Refused r) l = Refused r
+tests_after (Ok _) (got l) = Accepted
+tests_after (Ok _) outside = Err OutsideTable
+tests_after (Err r) l = Err r
 
 -- what was read
 abbrev pub list_of : {A : Type 0} → Read (List A) → List A

@@ -1,12 +1,10 @@
 -- `rotate_bz_grid_index`: the tests, the walk and the answer.
-use Rattle.std.specs.Prelude.{◌&&◌, List, ℕ, ◌+◌, ◌*◌, ◌-◌, ℤ, pos}
+use Rattle.std.specs.Prelude.{◌&&◌, List, ℕ, ◌+◌, ◌*◌, ◌-◌, ℤ, pos, Ok, Err}
 use Rattle.integer.specs.Checked.{pick}
 use Rattle.common.specs.Matrix.{Vec, Mat, ◌▹◌, same_vector}
 use Rattle.common.specs.Array.{vector_of, sides_of, matrix_of}
 use Rattle.common.specs.Limits.{matrix_within, diagonal_fits, shift_fits}
-use Rattle.common.specs.Tested.{require}
-use Rattle.common.specs.declared.Tested.{Tested}
-use Rattle.common.specs.declared.Tested.TheVariants as tests
+use Rattle.common.specs.Tested.{require, Tested, Accepted}
 use Rattle.common.specs.declared.Refusal.TheVariants.{OutsideLimits, BadGridType, WrongLength, OutsideTable}
 use Rattle.grgrid.specs.Grid.{size, index, double, halve}
 use Rattle.bzgrid.specs.declared.GridType.{GridType}
@@ -46,14 +44,14 @@ told (got r) = r
 told outside = Refused OutsideTable
 
 abbrev pub answer_after : Tested → Read Rotated → Rotated
-answer_after tests.Accepted r = told r
-answer_after (tests.Refused n) r = Refused n
+answer_after (Ok _) r = told r
+answer_after (Err n) r = Refused n
 
 unfoldable pub rotate_tests : List (List ℤ) → (addresses d ps : List ℤ) → GridType → Tested
 rotate_tests rotation addresses d ps t =
     require (whole_addresses addresses) WrongLength
     (require (diagonal_fits d && (shift_fits ps && matrix_within 100000 (matrix_of rotation))) OutsideLimits
-    (require (is_known t) BadGridType tests.Accepted))
+    (require (is_known t) BadGridType Accepted))
 
 unfoldable pub rotate_read : ℤ → List (List ℤ) → (addresses map d ps : List ℤ) → GridType → Read Rotated
 unfolding index

@@ -5,5 +5,5 @@ mod neighbours;
 pub mod reading;
 mod rotate;
 
-pub use neighbours::{Neighbours, neighboring_grid_points_many};
+pub use neighbours::neighboring_grid_points_many;
 pub use rotate::{Rotated, rotate_bz_grid_index};

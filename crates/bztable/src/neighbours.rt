@@ -1,8 +1,8 @@
 // Neighbours of images.
 ghost use Rattle.std.specs.Prelude.{◌≡◌, ◌||◌, ◌*◌, ◌/◌, ◌<◌, T, eqb, length};
+ghost use Rattle.common.specs.Tested.{Accepted};
 ghost use Rattle.common.specs.Array.{vector_of, items, Sized};
 ghost use Rattle.common.specs.Limits.{all_within};
-ghost use Rattle.common.specs.declared.Tested.TheVariants.{Accepted};
 ghost use Rattle.grgrid.specs.Sides.{sides};
 ghost use Rattle.bztable.specs.Reading.{inside, list_of};
 ghost use Rattle.bztable.specs.ReadingView.{place_view, PlaceBelow};
@@ -13,14 +13,8 @@ ghost use Rattle.bztable.specs.Neighbours.{moved, sparse_neighbour, image_among,
 use crate::reading;
 use crate::reading::{Found, Place};
 use bzgrid::GridType;
-use common::{Refusal, Tested};
+use common::Refusal;
 use grgrid::Grid;
-
-#[derive(Clone, Copy)]
-pub enum Neighbours {
-    Written,
-    Refused(Refusal),
-}
 
 fn moved(a: [i64; 3], o: [i64; 3]) -> [i64; 3]
     requires fact_1 { Sized 10000000000000 a }
@@ -181,28 +175,28 @@ fn input_tests(
     d: [i64; 3],
     t: GridType,
     places: usize,
-) -> Tested
+) -> Result<(), Refusal>
     ensures { result ≡ input_tests points offsets.now addresses.now d t places }
 {
     if !reading::whole_addresses(offsets) {
-        return Tested::Refused(Refusal::WrongLength);
+        return Err(Refusal::WrongLength);
     }
     if !reading::whole_addresses(addresses) {
-        return Tested::Refused(Refusal::WrongLength);
+        return Err(Refusal::WrongLength);
     }
     if !is_product(places, points, offsets.len() / 3) {
-        return Tested::Refused(Refusal::WrongLength);
+        return Err(Refusal::WrongLength);
     }
     if !common::diagonal_fits(d) {
-        return Tested::Refused(Refusal::OutsideLimits);
+        return Err(Refusal::OutsideLimits);
     }
     if !common::all_within(offsets, 1000) {
-        return Tested::Refused(Refusal::OutsideLimits);
+        return Err(Refusal::OutsideLimits);
     }
     if !type_fits(t, places) {
-        return Tested::Refused(Refusal::BadGridType);
+        return Err(Refusal::BadGridType);
     }
-    Tested::Accepted
+    Ok(())
 }
 
 // With the tests of the input. A refusal may leave anything in the output.
@@ -214,21 +208,21 @@ fn neighbour_tests(
     d: [i64; 3],
     t: GridType,
     out: &mut [i64],
-) -> Tested
+) -> Result<(), Refusal>
     ensures value { result ≡ neighbour_tests points.now offsets.now addresses.now map.now d t (length out.old) }
     ensures out_after { result ≡ Accepted → out.new ≡ list_of (neighbours_read points.now offsets.now addresses.now map.now d t (length out.old)) }
 {
     match input_tests(points.len(), offsets, addresses, d, t, out.len()) {
-        Tested::Accepted => {
+        Ok(()) => {
             if out.len() == 0 {
-                return Tested::Accepted;
+                return Ok(());
             }
             if fill_rows(t, points, offsets, addresses, map, grgrid::grid_of(d), out) {
-                return Tested::Accepted;
+                return Ok(());
             }
-            Tested::Refused(Refusal::OutsideTable)
+            Err(Refusal::OutsideTable)
         }
-        Tested::Refused(r) => Tested::Refused(r),
+        Err(r) => Err(r),
     }
 }
 
@@ -241,16 +235,16 @@ pub fn neighboring_grid_points_many(
     d: [i64; 3],
     bz_grid_type: i64,
     out: &mut [i64],
-) -> Neighbours
+) -> Result<(), Refusal>
     ensures value { result ≡ neighbours_answer points.now offsets.now addresses.now map.now d bz_grid_type (length out.old) }
     ensures out_after { out.new ≡ neighbours_written points.now offsets.now addresses.now map.now d bz_grid_type (length out.old) }
 {
     let t = bzgrid::grid_type(bz_grid_type);
     match neighbour_tests(points, offsets, addresses, map, d, t, out) {
-        Tested::Accepted => Neighbours::Written,
-        Tested::Refused(r) => {
+        Ok(()) => Ok(()),
+        Err(r) => {
             common::fill(out, -1);
-            Neighbours::Refused(r)
+            Err(r)
         }
     }
 }

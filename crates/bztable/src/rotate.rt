@@ -10,7 +10,7 @@ ghost use Rattle.bztable.specs.Rotate.{turned, among_range, among_images, image_
 use crate::reading;
 use crate::reading::{Found, Place};
 use bzgrid::GridType;
-use common::{Refusal, Tested};
+use common::Refusal;
 use grgrid::Grid;
 
 // The image's place. A fallback is what the map holds at the point where no image has the rotated address.
@@ -27,23 +27,23 @@ fn rotate_tests(
     d: [i64; 3],
     ps: [i64; 3],
     t: GridType,
-) -> Tested
+) -> Result<(), Refusal>
     ensures { result ≡ rotate_tests rotation addresses.now d ps t }
 {
     if !reading::whole_addresses(addresses) {
-        return Tested::Refused(Refusal::WrongLength);
+        return Err(Refusal::WrongLength);
     }
     if !common::all_three(
         common::diagonal_fits(d),
         common::shift_fits(ps),
         common::matrix_within(rotation, 100000),
     ) {
-        return Tested::Refused(Refusal::OutsideLimits);
+        return Err(Refusal::OutsideLimits);
     }
     if !bzgrid::is_known(t) {
-        return Tested::Refused(Refusal::BadGridType);
+        return Err(Refusal::BadGridType);
     }
-    Tested::Accepted
+    Ok(())
 }
 
 // The address that a rotation carries address a to.
@@ -184,7 +184,7 @@ pub fn rotate_bz_grid_index(
 {
     let t = bzgrid::grid_type(bz_grid_type);
     match rotate_tests(rotation, addresses, d, ps, t) {
-        Tested::Accepted => rotate_read(bz_grid_index, rotation, addresses, map, d, ps, t),
-        Tested::Refused(r) => Rotated::Refused(r),
+        Ok(()) => rotate_read(bz_grid_index, rotation, addresses, map, d, ps, t),
+        Err(r) => Rotated::Refused(r),
     }
 }

@@ -4,10 +4,9 @@ use mathlib.Core.Bool.{Bool, true, false, not, ◌&&◌}
 use Prim.Native.Nat.{ℕ}
 use native.Mathlib.Omega.{arith}
 use borrow.Author.Tests.{not-true, not-false}
+use Rattle.std.specs.Prelude.{Result, Ok, Err}
 use Rattle.common.specs.declared.Refusal.{Refusal}
-use Rattle.common.specs.declared.Tested.{Tested}
-use Rattle.common.specs.declared.Tested.TheVariants.{Accepted, Refused}
-use Rattle.common.specs.Tested.{require, after}
+use Rattle.common.specs.Tested.{require, after, Tested, Accepted}
 
 -- a test of two parts, of which the first is known
 pub first_holds : {a : Bool} (b : Bool) → a ≡ true → b ≡ a && b
@@ -31,18 +30,21 @@ module _ {r t : Bool} (e : r ≡ t) where
   pub goes_on : {b c : Bool} → not r ≡ false → c ≡ b → c ≡ t && b
   goes_on {b} h f = f ∙ first_holds b (yes h)
 
-pub not-accepted : {r : Refusal} → Refused r ≡ Accepted → ⊥
+pub not-accepted : {r : Refusal} → Err r ≡ Accepted → ⊥
 not-accepted e = let z : ◌≡◌ {A = ℕ} 0 1 = cc in omega arith
+
+pub same-ok : {A : Type 0} {a b : A} → ◌≡◌ {A = Result A Refusal} (Ok a) (Ok b) → a ≡ b
+same-ok e = cc
 
 pub passed : (t : Bool) (r : Refusal) (rest : Tested) → require t r rest ≡ Accepted → (t ≡ true) × (rest ≡ Accepted)
 passed true r rest e = (refl, e)
 passed false r rest e = absurd (not-accepted e)
 
 -- an answer that no refusal gives tells that the tests passed
-pub passed-by : {A : Type 0} (answer : Tested → A) {a : A} → ((r : Refusal) → ¬ (answer (Refused r) ≡ a)) → (t : Tested) → answer t ≡ a → t ≡ Accepted
-passed-by answer n Accepted e = refl
-passed-by answer n (Refused r) e = absurd (n r e)
+pub passed-by : {A : Type 0} (answer : Tested → A) {a : A} → ((r : Refusal) → ¬ (answer (Err r) ≡ a)) → (t : Tested) → answer t ≡ a → t ≡ Accepted
+passed-by answer n (Ok _) e = refl
+passed-by answer n (Err r) e = absurd (n r e)
 
 pub both-accepted : (s t : Tested) → after s t ≡ Accepted → (s ≡ Accepted) × (t ≡ Accepted)
-both-accepted Accepted t e = (refl, e)
-both-accepted (Refused r) t e = absurd (not-accepted e)
+both-accepted (Ok _) t e = (refl, e)
+both-accepted (Err r) t e = absurd (not-accepted e)

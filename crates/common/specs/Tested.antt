@@ -1,26 +1,36 @@
 -- The tests of a call, one after the other, and what an output then holds.
-use Rattle.std.specs.Prelude.{Bool, true, false, List, ℕ, ℤ, pos, negsuc, replicate}
+use Rattle.std.specs.Prelude.{Bool, true, false, List, ℕ, ℤ, pos, negsuc, replicate, ⊤, Result, Ok, Err}
 use Rattle.common.specs.declared.Refusal.{Refusal}
-use Rattle.common.specs.declared.Tested.{Tested}
-use Rattle.common.specs.declared.Tested.TheVariants.{Accepted, Refused}
 use Rattle.common.specs.Refusal.{number_of}
+
+-- what a call's tests come to: nothing, or why there is no result
+abbrev pub Tested : Type 0
+Tested = Result ⊤ Refusal
+
+abbrev pub Accepted : Tested
+Accepted = Ok tt
 
 -- the refusal where a test fails, else the tests after it
 abbrev pub require : Bool → Refusal → Tested → Tested
 require true r rest = rest
-require false r rest = Refused r
+require false r rest = Err r
 
 -- the first refusal of two groups of tests
 abbrev pub after : Tested → Tested → Tested
-after Accepted t = t
-after (Refused r) t = Refused r
+after (Ok _) t = t
+after (Err r) t = Err r
+
+-- what a call gives where its tests pass
+abbrev pub giving : {A : Type 0} → Tested → A → Result A Refusal
+giving (Ok _) a = Ok a
+giving (Err r) a = Err r
 
 -- an output of n places: l, or -1 everywhere
 abbrev pub output_of : Tested → ℕ → List ℤ → List ℤ
-output_of Accepted n l = l
-output_of (Refused r) n l = replicate n (negsuc 0)
+output_of (Ok _) n l = l
+output_of (Err r) n l = replicate n (negsuc 0)
 
 -- what an export answers
 abbrev pub answer_of : Tested → ℤ
-answer_of Accepted = pos 0
-answer_of (Refused r) = pos (number_of r)
+answer_of (Ok _) = pos 0
+answer_of (Err r) = pos (number_of r)

@@ -69,13 +69,6 @@ impl Refusal {
     }
 }
 
-// The outcome of a call's tests.
-#[derive(Clone, Copy)]
-pub enum Tested {
-    Accepted,
-    Refused(Refusal),
-}
-
 // A refusal leaves -1 in every place of every output of whole numbers.
 pub fn fill(out: &mut [i64], v: i64)
     ensures { out.new ≡ replicate (length out.old) v }

@@ -10,11 +10,10 @@ use native.Mathlib.Omega.{arith}
 use lib.IntN.{ℤ, nat_abs}
 use lib.Ieee.{Float}
 use lib.ListN.{length}
+use Rattle.std.specs.Prelude.{Ok, Err}
 use Rattle.common.specs.Matrix.{Vec}
 use Rattle.common.specs.Array.{sides_of, matrices}
-use Rattle.common.specs.Tested.{output_of, after}
-use Rattle.common.specs.declared.Tested.{Tested}
-use Rattle.common.specs.declared.Tested.TheVariants.{Accepted, Refused}
+use Rattle.common.specs.Tested.{output_of, after, Tested, Accepted}
 use Rattle.common.specs.declared.Refusal.{Refusal}
 use Rattle.common.proofs.Tests.{not-accepted}
 use Rattle.grgrid.specs.Grid.{size, index}
@@ -32,11 +31,9 @@ use Rattle.bztable.proofs.TableRead.{sparse-start}
 use Rattle.bzsearch.proofs.Listing.{length-rows}
 use Rattle.triplet_grid.specs.IrTriplets.{input_tests, triplet_tests, map_triplets_of, classes_at, ir_triplets_answer}
 use Rattle.triplet_grid.specs.IrTriplets as class
-use Rattle.triplet_grid.specs.declared.IrTriplets.TheVariants as class-answer
 use Rattle.triplet_grid.proofs.Outcome.{InputAccepted, input-accepted}
 use Rattle.bz_triplets.specs.BzTriplets.{State, first_of, point_of, triplet_list, triplets_read, answer_for, bz_triplet_tests, bz_triplets_answer, triplets_written}
 use Rattle.bz_triplets.specs.BzTriplets as triplet
-use Rattle.bz_triplets.specs.declared.BzTriplets.TheVariants as answer
 use Rattle.demand3.specs.FinishedList.{Starts}
 use Rattle.demand3.proofs.TableWalks.{Counts, not-got, then-got, place-got, address-got}
 
@@ -50,16 +47,16 @@ module _ (q0 : ℤ) (d rotations : List ℤ) (time_reversal swappable : Bool) (n
       never r e = let z : ◌≡◌ {A = ℕ} 0 1 = cc in omega arith
 
       go : (t : Tested) → triplet_tests q0 d rotations time_reversal n m ≡ t → class.answer_for t (kept (map_triplets_of swappable (sides_of d) (nat_abs q0) (classes_at (nat_abs q0) (sides_of d) (matrices rotations) time_reversal)) (size (sides_of d))) ≡ class-answer.Classes k → triplet_tests q0 d rotations time_reversal n m ≡ Accepted
-      go Accepted p e = p
-      go (Refused r) p e = absurd (never r e)
+      go (Ok _) p e = p
+      go (Err r) p e = absurd (never r e)
 
   pub classes-accepted : InputAccepted q0 d rotations n m
   unfolding triplet_tests
   classes-accepted = input-accepted q0 d rotations n m (go (input_tests q0 d rotations n m) refl tests-accepted)
     where
       go : (t : Tested) → input_tests q0 d rotations n m ≡ t → after t (room_tests (matrices rotations) time_reversal false) ≡ Accepted → input_tests q0 d rotations n m ≡ Accepted
-      go Accepted p e = p
-      go (Refused r) p e = absurd (not-accepted e)
+      go (Ok _) p e = p
+      go (Err r) p e = absurd (not-accepted e)
 
 -- ---- the counts of a map
 pub map-counts : (t : GridType) (d : Vec ℕ) (g : ℕ → List Image) (r : List ℤ) (p : ℕ) → p < size d → Counts t (map_of t d g ++ r) (size d) p
@@ -107,7 +104,7 @@ pub record TripletsAccepted (q0 : ℤ) (addresses map classes d : List ℤ) (q :
   pub written : triplets_written q0 addresses map classes d q lattice t n m l ≡ triplet_list states
 
 module _ (q0 : ℤ) (addresses map classes d : List ℤ) (q : List (List ℤ)) (lattice : List (List Float)) (t : ℤ) (n m l : ℕ)
-    (e : bz_triplets_answer q0 addresses map classes d q lattice t n m l ≡ answer.Written) where
+    (e : bz_triplets_answer q0 addresses map classes d q lattice t n m l ≡ Accepted) where
   abbrev tests : Tested
   tests = bz_triplet_tests q0 addresses map classes d q lattice (grid_type_of t) n m l
 
@@ -118,21 +115,21 @@ module _ (q0 : ℤ) (addresses map classes d : List ℤ) (q : List (List ℤ)) (
   unfolding bz_triplets_answer
   passed = go tests refl e
     where
-      never : (r : Refusal) → answer.Refused r ≡ answer.Written → ⊥
+      never : (r : Refusal) → Err r ≡ Accepted → ⊥
       never r e = let z : ◌≡◌ {A = ℕ} 0 1 = cc in omega arith
 
-      go : (x : Tested) → tests ≡ x → answer_for x ≡ answer.Written → tests ≡ Accepted
-      go Accepted p e = p
-      go (Refused r) p e = absurd (never r e)
+      go : (x : Tested) → tests ≡ x → answer_for x ≡ Accepted → tests ≡ Accepted
+      go (Ok _) p e = p
+      go (Err r) p e = absurd (never r e)
 
   all_read : (s : List State) × (reads ≡ got s)
   unfolding bz_triplet_tests
   all_read = go (triplet.input_tests q0 addresses classes d q lattice (grid_type_of t) n m l) reads passed
     where
       go : (x : Tested) (r : Read (List State)) → tests_after x r ≡ Accepted → (s : List State) × (r ≡ got s)
-      go Accepted (got s) e = (s, refl)
-      go Accepted outside e = absurd (not-accepted e)
-      go (Refused r) s e = absurd (not-accepted e)
+      go (Ok _) (got s) e = (s, refl)
+      go (Ok _) outside e = absurd (not-accepted e)
+      go (Err r) s e = absurd (not-accepted e)
 
   pub triplets-accepted : TripletsAccepted q0 addresses map classes d q lattice t n m l
   unfolding triplets_written

@@ -10,6 +10,8 @@ use mathlib.Core.List.{List, [], ◌∷◌, ◌++◌}
 use lib.IntN.{ℤ, pos, negsuc}
 use lib.ListN.{replicate}
 use lib.Ieee.{Float, binary64, round, add, sub, mul, div, neg, lt, le, eq, of_int, of_bits, to_signed, size}
+use Rattle.std.specs.Prelude.{Ok}
+use Rattle.common.specs.Tested.{Accepted}
 use Rattle.float.specs.Rounding.{round_of, nint_of, floor_of, ceil_of, abs_of}
 use Rattle.float.specs.Sqrt.{root, sqrt_of}
 use Rattle.common.specs.Matrix.{Vec, Mat, ◌·◌, identity, inversion, map_mat, diagonal}
@@ -27,15 +29,11 @@ use Rattle.snf_steps.specs.Finalize.{make_diag_positive, finalize_sort, finalize
 use Rattle.snf3x3.specs.Snf3x3.{diagonalised, round as snf_round, rounds, snf3x3}
 use Rattle.transform_rotations.specs.Transform.{transform_d, is_whole, rounded}
 use Rattle.transform_rotations.specs.TransformRotations.{transform_answer, transform_written}
-use Rattle.transform_rotations.specs.declared.Transformed.TheVariants as transform
 use Rattle.bzgrid.specs.declared.Lengths.{Lengths}
-use Rattle.bzgrid.specs.declared.BzGridAddresses.TheVariants as image
 use Rattle.bzsearch.specs.Lattice.{bz_tolerance, lattice_det, dual_lengths_of}
 use Rattle.bzgrid.specs.BzGridAddresses.{bz_answer, addresses_written, map_written}
 use Rattle.triplet_grid.specs.IrTriplets.{ir_triplets_answer, map_triplets_written}
-use Rattle.triplet_grid.specs.declared.IrTriplets.TheVariants as class
 use Rattle.bz_triplets.specs.BzTriplets.{lqd_inv, squared_distance, bz_triplets_answer, triplets_written}
-use Rattle.bz_triplets.specs.declared.BzTriplets.TheVariants as triplet
 use Rattle.demand3.specs.FinishedList.{Given, as-it-stands, as-returned, Calls}
 
 -- ---- what comes from outside
@@ -85,8 +83,8 @@ given-returned : Given true list returned
 unfolding point_group_answer point_group_written
 given-returned = as-returned true 432 2 refl
 
-transforms : (transform_answer returned (items d) (rows q) 18 ≡ transform.Written) × (returned ≡ transform_written returned (items d) (rows q) 18)
-    × (transform_answer list (items d) (rows q) 9 ≡ transform.Written) × (list ≡ transform_written list (items d) (rows q) 9)
+transforms : (transform_answer returned (items d) (rows q) 18 ≡ Accepted) × (returned ≡ transform_written returned (items d) (rows q) 18)
+    × (transform_answer list (items d) (rows q) 9 ≡ Accepted) × (list ≡ transform_written list (items d) (rows q) 9)
 unfolding transform_answer transform_written transform_d is_whole rounded nint_of round_of abs_of round of_bits of_int to_signed add sub mul div lt eq
 transforms = (refl, refl, refl, refl)
 
@@ -109,7 +107,7 @@ sparse-lengths = record { addresses = 9; map = 28; grg = 3 }
 
 abbrev Built : ℤ → List ℤ → Lengths → Type 0
 Built type map l =
-    (bz_answer (items d) (rows q) shift lattice type 9 l.map 3 ≡ image.Built l)
+    (bz_answer (items d) (rows q) shift lattice type 9 l.map 3 ≡ Ok l)
     × (addresses ≡ addresses_written (items d) (rows q) shift lattice type 9 l.map 3)
     × (map ≡ map_written (items d) (rows q) shift lattice type 9 l.map 3)
 
@@ -121,8 +119,8 @@ builds = ((refl, refl, refl), (refl, refl, refl))
 abbrev classes : List ℤ
 classes = pos 0 ∷ pos 1 ∷ pos 0 ∷ []
 
-classifies : (ir_triplets_answer (pos 1) (items d) returned true true 3 3 ≡ class.Classes (pos 2)) × (classes ≡ map_triplets_written (pos 1) (items d) returned true true 3 3)
-    × (ir_triplets_answer (pos 1) (items d) list true true 3 3 ≡ class.Classes (pos 2)) × (classes ≡ map_triplets_written (pos 1) (items d) list true true 3 3)
+classifies : (ir_triplets_answer (pos 1) (items d) returned true true 3 3 ≡ Ok (pos 2)) × (classes ≡ map_triplets_written (pos 1) (items d) returned true true 3 3)
+    × (ir_triplets_answer (pos 1) (items d) list true true 3 3 ≡ Ok (pos 2)) × (classes ≡ map_triplets_written (pos 1) (items d) list true true 3 3)
 unfolding ir_triplets_answer map_triplets_written
 classifies = (refl, refl, refl, refl)
 
@@ -132,7 +130,7 @@ triplets = pos 1 ∷ pos 0 ∷ pos 2 ∷ pos 1 ∷ pos 1 ∷ pos 1 ∷ []
 
 abbrev Chosen : ℤ → List ℤ → Type 0
 Chosen type map =
-    (bz_triplets_answer (pos 1) addresses map classes (items d) (rows q) lattice type 6 2 2 ≡ triplet.Written)
+    (bz_triplets_answer (pos 1) addresses map classes (items d) (rows q) lattice type 6 2 2 ≡ Accepted)
     × (triplets ≡ triplets_written (pos 1) addresses map classes (items d) (rows q) lattice type 6 2 2)
 
 chooses : Chosen (pos 2) dense × Chosen (pos 1) sparse

@@ -9,12 +9,12 @@ use native.Mathlib.Omega.{arith}
 use lib.Dec.{T}
 use lib.IntN.{ℤ, pos, nat_abs}
 use lib.ListN.{length, get_or, get_or-map}
+use Rattle.std.specs.Prelude.{Ok, Err}
 use Rattle.common.specs.Matrix.{Mat}
 use Rattle.common.specs.Array.{items, rows, matrix_of, matrices}
 use Rattle.common.specs.Limits.{diagonal_fits}
-use Rattle.common.specs.Tested.{output_of}
+use Rattle.common.specs.Tested.{output_of, Accepted}
 use Rattle.common.specs.declared.Refusal.{Refusal}
-use Rattle.common.specs.declared.Tested.TheVariants.{Accepted, Refused}
 use Rattle.common.proofs.Unimodular.{Unimodular}
 use Rattle.common.proofs.Tests.{passed-by, both-accepted}
 use Rattle.grgrid.specs.ClassMap.{kept}
@@ -33,7 +33,6 @@ use Rattle.transform_rotations.proofs.ExactCall.{sides-positive, written-tests}
 use Rattle.transform_rotations.proofs.ExactTransform.{call-acts}
 use Rattle.triplet_grid.specs.IrTriplets.{triplet_tests, map_triplets_of, classes_at, ir_triplets_answer, map_triplets_written}
 use Rattle.triplet_grid.specs.IrTriplets as classing
-use Rattle.triplet_grid.specs.declared.IrTriplets.TheVariants as class
 use Rattle.triplet_grid.proofs.Joining.{Meets, joined_meets}
 use Rattle.triplet_grid.proofs.Stabilizer.{Operation, carries-equiv, carries-partner, swapped-classes, joined-operations}
 use Rattle.triplet_grid.proofs.Swapping.{length-triplets, classes-low, triplets-low}
@@ -43,7 +42,7 @@ use Rattle.demand3.specs.FinishedList.{Calls, grid, points, number, carries, par
 use Rattle.demand3.proofs.JoinedList.{list-distinct, told_is, given-joined, transformed-joined}
 
 -- ---- accepted calls
-not-classed : {k : ℤ} (r : Refusal) → ¬ (class.Refused r ≡ class.Classes k)
+not-classed : {k : ℤ} (r : Refusal) → ¬ (Err r ≡ Ok k)
 not-classed r e = let z : ◌≡◌ {A = ℕ} 0 1 = cc in omega arith
 
 module _ (c : Calls) where

@@ -13,12 +13,12 @@ use Prim.Native.Nat.{ℕ, ◌/◌, ◌≤◌}
 use lib.Dec.{T}
 use lib.IntN.{ℤ, neg_ℤ, nat_abs}
 use lib.ListN.{length}
+use Rattle.common.specs.Tested.{Accepted}
 use Rattle.integer.proofs.Size.{abs_neg}
 use Rattle.integer.proofs.Test.{same_test}
 use Rattle.common.specs.Matrix.{Mat, entry, ◌·◌, transpose, diagonal, identity, negate, inversion, inverse}
 use Rattle.common.specs.Array.{vector_of, matrix_of, matrices}
 use Rattle.common.specs.Limits.{matrix_within}
-use Rattle.common.specs.declared.Tested.TheVariants.{Accepted}
 use Rattle.common.proofs.Matrix.{identity-product, product-identity, negate-product, product-negate, entry-matrix}
 use Rattle.common.proofs.Bounds.{matrix-sizes, sizes-within}
 use Rattle.common.proofs.Reading.{matrices-flat, read_small}

@@ -1,8 +1,9 @@
 -- Demand 3: what holds of the finished list that diagonalising, transforming, images, classes and triplets leave, each accepted and each given what those before it
 -- left. The theorem is `finished-list` of proofs/FinishedList.
-use Rattle.std.specs.Prelude.{◌≡◌, ◌↔◌, Bool, List, ℕ, ◌*◌, ◌<◌, T, ℤ, pos, length, get_or, take, Float}
+use Rattle.std.specs.Prelude.{◌≡◌, ◌↔◌, Bool, List, ℕ, ◌*◌, ◌<◌, T, ℤ, pos, length, get_or, take, Float, Ok}
 use Rattle.std.specs.Float.{binary64}
 use Rattle.std.specs.Float.Ieee.{sub, le}
+use Rattle.common.specs.Tested.{Accepted}
 use Rattle.common.specs.Matrix.{Axis, Vec, Mat, side, map_vec, origin}
 use Rattle.common.specs.Array.{items, rows, sides_of, matrix_of, matrices}
 use Rattle.common.specs.FloatMatrix.{float_matrix}
@@ -14,14 +15,11 @@ use Rattle.grgrid.specs.Own.{own_points}
 use Rattle.grgrid.proofs.Pass.{Least}
 use Rattle.grgrid.proofs.Count.{OneEach}
 use Rattle.recip_rotations.specs.PointGroup.{joined, point_group_answer, point_group_written}
-use Rattle.recip_rotations.specs.declared.PointGroup.TheVariants.{Rotations}
 use Rattle.snf3x3.specs.Snf3x3.{snf3x3, diagonalised}
 use Rattle.transform_rotations.specs.TransformRotations.{transform_answer, transform_written}
-use Rattle.transform_rotations.specs.declared.Transformed.TheVariants as transform
 use Rattle.bzgrid.specs.declared.GridType.{GridType}
 use Rattle.bzgrid.specs.declared.GridType.TheVariants.{Sparse, Dense, Unknown}
 use Rattle.bzgrid.specs.declared.Lengths.{Lengths}
-use Rattle.bzgrid.specs.declared.BzGridAddresses.TheVariants as image
 use Rattle.bzsearch.specs.Lattice.{bz_tolerance}
 use Rattle.bzsearch.specs.Search.{Search, images}
 use Rattle.bzgrid.specs.BzGridAddresses.{grid_type_of, search_of, bz_answer, addresses_written, map_written}
@@ -29,17 +27,15 @@ use Rattle.bztable.specs.Access.{image_places}
 use Rattle.bztable.specs.Reading.{triple_at}
 use Rattle.triplet_grid.specs.Partner.{partner}
 use Rattle.triplet_grid.specs.IrTriplets.{ir_triplets_answer, map_triplets_written}
-use Rattle.triplet_grid.specs.declared.IrTriplets.TheVariants as class
 use Rattle.triplet_grid.proofs.Joining.{Joined, Meets}
 use Rattle.triplet_grid.proofs.Stabilizer.{Operation, Carries}
 use Rattle.bz_triplets.specs.BzTriplets.{lqd_inv, squared_distance, sum_of, bz_triplets_answer, triplets_written}
-use Rattle.bz_triplets.specs.declared.BzTriplets.TheVariants as triplet
 
 -- ---- the calls
 -- the list goes into transforming as it stands, or as the reciprocal call returned it: the told part
 pub data Given (time_reversal : Bool) (list : List ℤ) : List ℤ → Type 0 where
   as-it-stands : Given time_reversal list list
-  as-returned : (transposed : Bool) (n count : ℕ) → point_group_answer list time_reversal transposed n ≡ Rotations count
+  as-returned : (transposed : Bool) (n count : ℕ) → point_group_answer list time_reversal transposed n ≡ Ok count
       → Given time_reversal list (take (count * 9) (point_group_written list time_reversal transposed n))
 
 -- the triplet call gets q0 as a grid point for type 1, and as any image index of q0 for type 2
@@ -70,14 +66,14 @@ pub record Calls : Type 0 where
   -- transforming
   pub transformed : List ℤ
   pub room : ℕ
-  pub transforms : transform_answer rotations (items d) (rows q) room ≡ transform.Written
+  pub transforms : transform_answer rotations (items d) (rows q) room ≡ Accepted
   pub transforms-to : transformed ≡ transform_written rotations (items d) (rows q) room
   -- images
   pub addresses : List ℤ
   pub map : List ℤ
   pub rooms : Vec ℕ
   pub lengths : Lengths
-  pub builds : bz_answer (items d) (rows q) shift lattice type rooms.x rooms.y rooms.z ≡ image.Built lengths
+  pub builds : bz_answer (items d) (rows q) shift lattice type rooms.x rooms.y rooms.z ≡ Ok lengths
   pub builds-addresses : addresses ≡ addresses_written (items d) (rows q) shift lattice type rooms.x rooms.y rooms.z
   pub builds-map : map ≡ map_written (items d) (rows q) shift lattice type rooms.x rooms.y rooms.z
   -- classes
@@ -85,14 +81,14 @@ pub record Calls : Type 0 where
   pub class-room : ℕ
   pub point-room : ℕ
   pub count : ℤ
-  pub classifies : ir_triplets_answer (pos q0) (items d) transformed time_reversal swappable class-room point-room ≡ class.Classes count
+  pub classifies : ir_triplets_answer (pos q0) (items d) transformed time_reversal swappable class-room point-room ≡ Ok count
   pub classifies-to : classes ≡ map_triplets_written (pos q0) (items d) transformed time_reversal swappable class-room point-room
   -- triplets
   pub start : ℕ
   pub starts : Starts (grid_type_of type) map (size (sides_of (items d))) q0 start
   pub triplets : List ℤ
   pub triplet-rooms : Vec ℕ
-  pub chooses : bz_triplets_answer (pos start) addresses map classes (items d) (rows q) lattice type triplet-rooms.x triplet-rooms.y triplet-rooms.z ≡ triplet.Written
+  pub chooses : bz_triplets_answer (pos start) addresses map classes (items d) (rows q) lattice type triplet-rooms.x triplet-rooms.y triplet-rooms.z ≡ Accepted
   pub chooses-to : triplets ≡ triplets_written (pos start) addresses map classes (items d) (rows q) lattice type triplet-rooms.x triplet-rooms.y triplet-rooms.z
 
 -- ---- the finished list

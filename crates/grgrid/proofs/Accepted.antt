@@ -10,11 +10,11 @@ use lib.IntN.{ℤ, pos, negsuc, nat_abs}
 use lib.ListN.{length, get_or, get_or-eq_default}
 use lib.Signed.{non_neg, le_z, lt_z}
 use borrow.Author.Tests.{eqb-true}
+use Rattle.common.specs.Tested.{Accepted}
 use Rattle.integer.proofs.Test.{holds, and_l, and_r}
 use Rattle.common.specs.Matrix.{Axis, X, Y, Z, side}
 use Rattle.common.specs.Array.{sides_of, Sized}
 use Rattle.common.specs.Limits.{all_within, side_fits, diagonal_fits, half_fits, shift_fits, point_fits, rotations_fit, whole_matrices}
-use Rattle.common.specs.declared.Tested.TheVariants.{Accepted}
 use Rattle.common.specs.declared.Refusal.TheVariants.{OutsideLimits, WrongLength}
 use Rattle.common.proofs.Bounds.{side-positive, side-size}
 use Rattle.common.proofs.Tests.{passed}

@@ -3,13 +3,9 @@ use Rattle.std.specs.Prelude.{List, [], ◌++◌, ℕ, zero, suc, ◌*◌, eqb, 
 use Rattle.common.specs.Matrix.{Vec}
 use Rattle.common.specs.Array.{sides_of, items}
 use Rattle.common.specs.Limits.{diagonal_fits}
-use Rattle.common.specs.Tested.{require, output_of}
-use Rattle.common.specs.declared.Tested.{Tested}
-use Rattle.common.specs.declared.Tested.TheVariants.{Accepted, Refused}
+use Rattle.common.specs.Tested.{require, output_of, Tested, Accepted}
 use Rattle.common.specs.declared.Refusal.TheVariants.{OutsideLimits, WrongLength}
 use Rattle.grgrid.specs.Grid.{size, address}
-use Rattle.grgrid.specs.declared.Addresses.{Addresses}
-use Rattle.grgrid.specs.declared.Addresses.TheVariants as answer
 
 -- of the points below p
 abbrev pub addresses : Vec ℕ → ℕ → List ℤ
@@ -19,13 +15,9 @@ addresses d (suc p) = addresses d p ++ items (address d p)
 unfoldable pub address_tests : List ℤ → ℕ → Tested
 address_tests d n = require (diagonal_fits d) OutsideLimits (require (eqb n (size (sides_of d) * 3)) WrongLength Accepted)
 
-abbrev pub all_grid_addresses : Tested → Addresses
-all_grid_addresses Accepted = answer.Written
-all_grid_addresses (Refused r) = answer.Refused r
-
-unfoldable pub addresses_answer : List ℤ → ℕ → Addresses
+unfoldable pub addresses_answer : List ℤ → ℕ → Tested
 unfolding address_tests
-addresses_answer d n = all_grid_addresses (address_tests d n)
+addresses_answer d n = address_tests d n
 
 unfoldable pub addresses_written : List ℤ → ℕ → List ℤ
 unfolding address_tests address

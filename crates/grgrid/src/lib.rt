@@ -13,7 +13,7 @@ ghost use Rattle.grgrid.specs.IrGridMap.{map_tests, ir_grid_map_answer, ir_grid_
 ghost use Rattle.grgrid.specs.Addresses.{addresses, address_tests, addresses_answer, addresses_written};
 ghost use Rattle.common.specs.Limits.{all_within, diagonal_fits};
 
-use common::{Refusal, Tested};
+use common::Refusal;
 
 // The diagonal numbers.
 #[derive(Clone, Copy)]
@@ -240,49 +240,42 @@ pub fn own_places(list: &[i64]) -> usize
     r
 }
 
-fn map_tests(rotations: &[i64], d: [i64; 3], ps: [i64; 3], places: usize) -> Tested
+fn map_tests(rotations: &[i64], d: [i64; 3], ps: [i64; 3], places: usize) -> Result<(), Refusal>
     ensures { result ≡ map_tests rotations.now d ps places }
 {
     if !common::whole_matrices(rotations) {
-        return Tested::Refused(Refusal::WrongLength);
+        return Err(Refusal::WrongLength);
     }
     if !common::diagonal_fits(d) {
-        return Tested::Refused(Refusal::OutsideLimits);
+        return Err(Refusal::OutsideLimits);
     }
     if places != points(grid_of(d)) {
-        return Tested::Refused(Refusal::WrongLength);
+        return Err(Refusal::WrongLength);
     }
     if !common::shift_fits(ps) {
-        return Tested::Refused(Refusal::OutsideLimits);
+        return Err(Refusal::OutsideLimits);
     }
     if !common::rotations_fit(rotations, 100000) {
-        return Tested::Refused(Refusal::OutsideLimits);
+        return Err(Refusal::OutsideLimits);
     }
-    Tested::Accepted
-}
-
-// The number of classes, or why there is none.
-#[derive(Clone, Copy)]
-pub enum IrGridMap {
-    Classes(i64),
-    Refused(Refusal),
+    Ok(())
 }
 
 // The class map: the first rotation that lands lower gives a point its number, else it keeps its own. proofs/Classes says when that is the lowest of an orbit.
-pub fn ir_grid_map(rotations: &[i64], d: [i64; 3], ps: [i64; 3], map: &mut [i64]) -> IrGridMap
+pub fn ir_grid_map(rotations: &[i64], d: [i64; 3], ps: [i64; 3], map: &mut [i64]) -> Result<i64, Refusal>
     ensures value { result ≡ ir_grid_map_answer rotations.now d ps (length map.old) }
     ensures map_after { map.new ≡ ir_grid_map_written rotations.now d ps (length map.old) }
 {
     let places = map.len();
     match map_tests(rotations, d, ps, places) {
-        Tested::Accepted => {
+        Ok(()) => {
             number_points(rotations, grid_of(d), ps, map);
             let classes = own_places(map) as i64;
-            IrGridMap::Classes(classes)
+            Ok(classes)
         }
-        Tested::Refused(r) => {
+        Err(r) => {
             common::fill(map, -1);
-            IrGridMap::Refused(r)
+            Err(r)
         }
     }
 }
@@ -343,37 +336,31 @@ fn write_addresses(g: Grid, out: &mut [i64])
     }
 }
 
-fn address_tests(d: [i64; 3], places: usize) -> Tested
+fn address_tests(d: [i64; 3], places: usize) -> Result<(), Refusal>
     ensures { result ≡ address_tests d places }
 {
     if !common::diagonal_fits(d) {
-        return Tested::Refused(Refusal::OutsideLimits);
+        return Err(Refusal::OutsideLimits);
     }
     if places != points(grid_of(d)) * 3 {
-        return Tested::Refused(Refusal::WrongLength);
+        return Err(Refusal::WrongLength);
     }
-    Tested::Accepted
-}
-
-#[derive(Clone, Copy)]
-pub enum Addresses {
-    Written,
-    Refused(Refusal),
+    Ok(())
 }
 
 // The address of each point, in index order.
-pub fn all_grid_addresses(d: [i64; 3], out: &mut [i64]) -> Addresses
+pub fn all_grid_addresses(d: [i64; 3], out: &mut [i64]) -> Result<(), Refusal>
     ensures value { result ≡ addresses_answer d (length out.old) }
     ensures out_after { out.new ≡ addresses_written d (length out.old) }
 {
     match address_tests(d, out.len()) {
-        Tested::Accepted => {
+        Ok(()) => {
             write_addresses(grid_of(d), out);
-            Addresses::Written
+            Ok(())
         }
-        Tested::Refused(r) => {
+        Err(r) => {
             common::fill(out, -1);
-            Addresses::Refused(r)
+            Err(r)
         }
     }
 }

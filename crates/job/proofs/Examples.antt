@@ -6,8 +6,8 @@ use Prim.Native.Nat.{ℕ, ◌-◌, ◌/◌, ◌%◌}
 use lib.Ieee.{Float, nan, binary64, of_bits}
 use lib.IntN.{ℤ, pos, negsuc}
 use lib.ListN.{replicate, take}
+use Rattle.common.specs.Tested.{Accepted}
 use Rattle.common.specs.declared.Refusal.TheVariants.{BadHeader}
-use Rattle.common.specs.declared.Tested.TheVariants.{Accepted}
 use Rattle.job.specs.Job.{signed, float, Header, job_fits, job_of, rotations_of}
 use Rattle.job.specs.Listing.{decimal, number, listing, refusal}
 

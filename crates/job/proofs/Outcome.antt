@@ -7,8 +7,8 @@ use native.Mathlib.Omega.{arith}
 use lib.IntN.{ℤ, negsuc}
 use lib.ListN.{length, take, drop, replicate, length-replicate}
 use lib.Seq.{take_at}
+use Rattle.common.specs.Tested.{Accepted}
 use Rattle.integer.specs.Checked.{pick}
-use Rattle.common.specs.declared.Tested.TheVariants.{Accepted}
 use Rattle.grgrid.proofs.Built.{length-build}
 use Rattle.job.specs.Job.{word, signed, signed_words, job_fits, accepted, refused, job_of, rotations_of, rotations_written}
 use Rattle.job.proofs.Lists.{drop-replicate}

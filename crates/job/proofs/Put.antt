@@ -12,28 +12,27 @@ use lib.Signed.{lt_z}
 use lib.ListN.{length, get_or, set, take, drop, replicate, length-append, length-replicate, length-set}
 use lib.Seq.{take-suc, take-length, append_snoc, set-append_seam}
 use borrow.Author.Tests.{lt-ltb, le-ltb, ltb-true, ltb-false, leb-true, leb-false}
+use Rattle.std.specs.Prelude.{Option, Some, None}
 use Rattle.integer.specs.Checked.{pick}
 use Rattle.bzsearch.specs.Search.{rows}
-use Rattle.job.specs.declared.listing.Printed.{Printed}
-use Rattle.job.specs.declared.listing.Printed.TheVariants.{Bytes, NoRoom}
 use Rattle.job.specs.Listing.{digits, decimal, number}
 use Rattle.job.proofs.Lists.{drop-replicate}
 use Rattle.job.specs.Writing.{Page, page, next, put, puts, finished, printed, printed_answer}
 
 -- ---- one byte
-module _ (l : List ℕ) (b : ℕ) {p : Printed} where
-  pub put-none : p ≡ NoRoom → page l NoRoom ≡ put (page l p) b
+module _ (l : List ℕ) (b : ℕ) {p : Option ℕ} where
+  pub put-none : p ≡ None → page l None ≡ put (page l p) b
   put-none e = sym (ap (λ p. next l p b) e)
 
-  module _ {n : ℕ} (e : p ≡ Bytes n) where
+  module _ {n : ℕ} (e : p ≡ Some n) where
     at : Bool → Page
-    at t = pick t (page (set l n b) (Bytes (n + 1))) (page l NoRoom)
+    at t = pick t (page (set l n b) (Some (n + 1))) (page l None)
 
-    pub put_in : n < length l → page (set l n b) (Bytes (n + 1)) ≡ put (page l p) b
+    pub put_in : n < length l → page (set l n b) (Some (n + 1)) ≡ put (page l p) b
     unfolding at
     put_in h = sym (ap (λ p. next l p b) e ∙ ap at (lt-ltb n (length l) h))
 
-    pub put-out : length l ≤ n → page l NoRoom ≡ put (page l p) b
+    pub put-out : length l ≤ n → page l None ≡ put (page l p) b
     unfolding at
     put-out h = sym (ap (λ p. next l p b) e ∙ ap at (le-ltb n (length l) h))
 
@@ -98,27 +97,27 @@ module _ {n : ℕ} where
   from_zero (negsuc m) e f = let z : ◌≡◌ {A = ℕ} 0 1 = cc in absurd (omega arith)
 
 -- ---- a whole text in a slice of zeros
-full : (l t : List ℕ) → puts (page l NoRoom) t ≡ page l NoRoom
+full : (l t : List ℕ) → puts (page l None) t ≡ page l None
 full l [] = refl
 full l (b ∷ t) = full l t
 
 -- the next byte after s, of whose places x is the first that is left
-next_place : (s : List ℕ) (x : ℕ) (l : List ℕ) (b : ℕ) → put (page (s ++ x ∷ l) (Bytes (length s))) b ≡ page ((s ++ (b ∷ [])) ++ l) (Bytes (length (s ++ (b ∷ []))))
+next_place : (s : List ℕ) (x : ℕ) (l : List ℕ) (b : ℕ) → put (page (s ++ x ∷ l) (Some (length s))) b ≡ page ((s ++ (b ∷ [])) ++ l) (Some (length (s ++ (b ∷ []))))
 next_place s x l b =
     sym (put_in (s ++ x ∷ l) b refl (omega (arith, length-append s (x ∷ l))))
-    ∙ ap₂ (λ m n. page m (Bytes n)) (set-append_seam s x l b ∙ sym (append_snoc s b l)) (sym (length-append s (b ∷ [])))
+    ∙ ap₂ (λ m n. page m (Some n)) (set-append_seam s x l b ∙ sym (append_snoc s b l)) (sym (length-append s (b ∷ [])))
 
-fitting : (s l t : List ℕ) → length t ≤ length l → puts (page (s ++ l) (Bytes (length s))) t ≡ page (s ++ (t ++ drop (length t) l)) (Bytes (length s + length t))
-fitting s l [] h = ap (λ n. page (s ++ l) (Bytes n)) (sym (add-zero (length s)))
+fitting : (s l t : List ℕ) → length t ≤ length l → puts (page (s ++ l) (Some (length s))) t ≡ page (s ++ (t ++ drop (length t) l)) (Some (length s + length t))
+fitting s l [] h = ap (λ n. page (s ++ l) (Some n)) (sym (add-zero (length s)))
 fitting s [] (b ∷ t) h = absurd (not-suc-le-zero h)
 fitting s (x ∷ l) (b ∷ t) h =
     ap (λ p. puts p t) (next_place s x l b) ∙ fitting (s ++ (b ∷ [])) l t (le_of_suc-le-suc h)
-    ∙ ap₂ (λ m n. page m (Bytes n)) (append_snoc s b (t ++ drop (length t) l)) longer
+    ∙ ap₂ (λ m n. page m (Some n)) (append_snoc s b (t ++ drop (length t) l)) longer
   where
     longer : length (s ++ (b ∷ [])) + length t ≡ length s + suc (length t)
     longer = omega (arith, length-append s (b ∷ []))
 
-spilling : (s l t : List ℕ) → length l < length t → (puts (page (s ++ l) (Bytes (length s))) t).so_far ≡ NoRoom
+spilling : (s l t : List ℕ) → length l < length t → (puts (page (s ++ l) (Some (length s))) t).so_far ≡ None
 spilling s l [] h = absurd (not-suc-le-zero h)
 spilling s [] (b ∷ t) h = ap (λ p. (puts p t).so_far) (sym (put-out (s ++ []) b refl (omega (arith, length-append s [])))) ∙ ap (λ p. p.so_far) (full (s ++ []) t)
 spilling s (x ∷ l) (b ∷ t) h = ap (λ p. (puts p t).so_far) (next_place s x l b) ∙ spilling (s ++ (b ∷ [])) l t (le_of_suc-le-suc h)
@@ -127,28 +126,28 @@ kept-length : (p : Page) (t : List ℕ) → length (puts p t).bytes ≡ length p
 kept-length p [] = refl
 kept-length p (b ∷ t) = kept-length (put p b) t ∙ one p.bytes p.so_far
   where
-    by-room : (l : List ℕ) (n : ℕ) (r : Bool) → length (pick r (page (set l n b) (Bytes (n + 1))) (page l NoRoom)).bytes ≡ length l
+    by-room : (l : List ℕ) (n : ℕ) (r : Bool) → length (pick r (page (set l n b) (Some (n + 1))) (page l None)).bytes ≡ length l
     by-room l n true = length-set l n b
     by-room l n false = refl
 
-    one : (l : List ℕ) (w : Printed) → length (next l w b).bytes ≡ length l
-    one l NoRoom = refl
-    one l (Bytes n) = by-room l n (ltb n (length l))
+    one : (l : List ℕ) (w : Option ℕ) → length (next l w b).bytes ≡ length l
+    one l None = refl
+    one l (Some n) = by-room l n (ltb n (length l))
 
 module _ (t : List ℕ) (n : ℕ) where
   abbrev blank : Page
-  blank = page (replicate n 0) (Bytes 0)
+  blank = page (replicate n 0) (Some 0)
 
-  fits : length t ≤ n → puts blank t ≡ page (t ++ replicate (n - length t) 0) (Bytes (length t))
+  fits : length t ≤ n → puts blank t ≡ page (t ++ replicate (n - length t) 0) (Some (length t))
   fits h =
       fitting [] (replicate n 0) t (omega (arith, length-replicate {A = ℕ} n 0))
-      ∙ ap₂ (λ m k. page (t ++ m) (Bytes k)) (drop-replicate n (length t) 0) (zero-add (length t))
+      ∙ ap₂ (λ m k. page (t ++ m) (Some k)) (drop-replicate n (length t) 0) (zero-add (length t))
 
-  spills : n < length t → (puts blank t).so_far ≡ NoRoom
+  spills : n < length t → (puts blank t).so_far ≡ None
   spills h = spilling [] (replicate n 0) t (omega (arith, length-replicate {A = ℕ} n 0))
 
   -- by whether there is room
-  answered : (r : Bool) → leb (length t) n ≡ r → (puts blank t).so_far ≡ pick r (Bytes (length t)) NoRoom
+  answered : (r : Bool) → leb (length t) n ≡ r → (puts blank t).so_far ≡ pick r (Some (length t)) None
   answered true h = ap (λ p. p.so_far) (fits (leb-true (length t) n h))
   answered false h = spills (leb-false (length t) n h)
 
@@ -157,9 +156,9 @@ module _ (t : List ℕ) (n : ℕ) where
   left false h = ap (finished (puts blank t).bytes) (spills (leb-false (length t) n h)) ∙ ap (λ m. replicate m 0) (kept-length blank t ∙ length-replicate {A = ℕ} n 0)
 
   -- in a slice that was cleared
-  module _ {l : List ℕ} {q : Page} (z : l ≡ replicate n 0) (e : q ≡ puts (page l (Bytes 0)) t) where
+  module _ {l : List ℕ} {q : Page} (z : l ≡ replicate n 0) (e : q ≡ puts (page l (Some 0)) t) where
     from-blank : q ≡ puts blank t
-    from-blank = e ∙ ap (λ l. puts (page l (Bytes 0)) t) z
+    from-blank = e ∙ ap (λ l. puts (page l (Some 0)) t) z
 
     pub whole-answer : q.so_far ≡ printed_answer t n
     unfolding printed_answer

@@ -1,10 +1,10 @@
 -- The job file: little-endian 32-bit words, of which a header of eight says where A, the rotations and the lattice stand. Sections may overlap and stand at any byte from 32 on.
-use Rattle.std.specs.Prelude.{Bool, false, ◌&&◌, List, ◌++◌, ℕ, zero, suc, ◌+◌, ◌*◌, ◌-◌, ◌%◌, eqb, leb, ltb, Float, ℤ, pos, negsuc, ◌-ℤ◌, length, get_or, replicate}
+use Rattle.std.specs.Prelude.{Bool, false, ◌&&◌, List, ◌++◌, ℕ, zero, suc, ◌+◌, ◌*◌, ◌-◌, ◌%◌, eqb, leb, ltb, Float, ℤ, pos, negsuc, ◌-ℤ◌, length, get_or, replicate, Err}
 use Rattle.std.specs.Float.{binary64}
 use Rattle.std.specs.Float.Ieee.{of_bits}
+use Rattle.common.specs.Tested.{Accepted}
 use Rattle.integer.specs.Checked.{pick}
 use Rattle.common.specs.declared.Refusal.TheVariants.{BadHeader}
-use Rattle.common.specs.declared.Tested.TheVariants.{Accepted, Refused}
 use Rattle.grgrid.specs.Build.{build}
 use Rattle.job.specs.declared.job.Job.{Job}
 
@@ -85,7 +85,7 @@ accepted b =
 abbrev pub refused : Job
 refused =
     record {
-      tested = Refused BadHeader;
+      tested = Err BadHeader;
       a = replicate 9 (negsuc 0);
       lattice = replicate 9 (of_bits binary64 0xbff0000000000000);
       count = 0;

@@ -2,12 +2,12 @@
 ghost use Rattle.std.specs.Prelude.{◌≡◌, true, ◌+◌, ◌*◌, ◌^◌, ◌≤◌, ◌<◌, length};
 ghost use Rattle.job.specs.Job.{little_endian, word, signed, float, signed_words, floats, header, section_fits, numbers_fit, sections_fit, job_fits, job_of, rotations_written, accepted, refused};
 
-use common::{Refusal, Tested};
+use common::Refusal;
 
 // A job as it was read, `count` rotations standing beside it, or its refusal: then every number is -1, but `count` is 0 and both flags are false.
 #[derive(Clone, Copy)]
 pub struct Job {
-    pub tested: Tested,
+    pub tested: Result<(), Refusal>,
     pub a: [i64; 9],
     pub lattice: [f64; 9],
     pub count: usize,
@@ -145,7 +145,7 @@ fn refuse() -> Job
     ensures { result ≡ refused }
 {
     Job {
-        tested: Tested::Refused(Refusal::BadHeader),
+        tested: Err(Refusal::BadHeader),
         a: [-1; 9],
         lattice: [-1.0; 9],
         count: 0,
@@ -166,7 +166,7 @@ fn accept(bytes: &[u8]) -> Job
     floats(bytes, word(bytes, 16), &mut lattice);
     let flags = word(bytes, 20);
     Job {
-        tested: Tested::Accepted,
+        tested: Ok(()),
         a,
         lattice,
         count: word(bytes, 4),

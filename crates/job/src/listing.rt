@@ -6,28 +6,21 @@ ghost use Rattle.job.specs.Writing.{printed, printed_answer, page, put, puts, fi
 
 use common::Refusal;
 
-// How many bytes are written, or that there is no room for the text.
-#[derive(Clone, Copy)]
-pub enum Printed {
-    Bytes(usize),
-    NoRoom,
-}
-
 // One byte more, where there is room.
-fn put(b: u8, out: &mut [u8], p: Printed) -> Printed
+fn put(b: u8, out: &mut [u8], p: Option<usize>) -> Option<usize>
     ensures { page out.new result ≡ put (page out.old p) b }
 {
-    let Printed::Bytes(n) = p else {
-        return Printed::NoRoom;
+    let Some(n) = p else {
+        return None;
     };
     if n < out.len() {
         out[n] = b;
-        return Printed::Bytes(n + 1);
+        return Some(n + 1);
     }
-    Printed::NoRoom
+    None
 }
 
-fn put_word(word: &[u8], out: &mut [u8], p: Printed) -> Printed
+fn put_word(word: &[u8], out: &mut [u8], p: Option<usize>) -> Option<usize>
     ensures { page out.new result ≡ puts (page out.old p) word.now }
 {
     let mut q = p;
@@ -40,7 +33,7 @@ fn put_word(word: &[u8], out: &mut [u8], p: Printed) -> Printed
 }
 
 // The last digit stands after those of the tenth.
-fn put_decimal(n: u64, out: &mut [u8], p: Printed) -> Printed
+fn put_decimal(n: u64, out: &mut [u8], p: Option<usize>) -> Option<usize>
     ensures { page out.new result ≡ puts (page out.old p) (decimal n) }
 {
     if n < 10 {
@@ -50,7 +43,7 @@ fn put_decimal(n: u64, out: &mut [u8], p: Printed) -> Printed
     put(b'0' + (n % 10) as u8, out, q)
 }
 
-fn put_number(z: i64, out: &mut [u8], p: Printed) -> Printed
+fn put_number(z: i64, out: &mut [u8], p: Option<usize>) -> Option<usize>
     ensures { page out.new result ≡ puts (page out.old p) (number z) }
 {
     if z < 0 {
@@ -61,7 +54,7 @@ fn put_number(z: i64, out: &mut [u8], p: Printed) -> Printed
 }
 
 // Each after a blank.
-fn put_numbers(list: &[i64], out: &mut [u8], p: Printed) -> Printed
+fn put_numbers(list: &[i64], out: &mut [u8], p: Option<usize>) -> Option<usize>
     ensures { page out.new result ≡ puts (page out.old p) (rows (spaced list.now) (length list.now)) }
 {
     let mut q = p;
@@ -74,7 +67,7 @@ fn put_numbers(list: &[i64], out: &mut [u8], p: Printed) -> Printed
     q
 }
 
-fn put_line(word: &[u8], list: &[i64], out: &mut [u8], p: Printed) -> Printed
+fn put_line(word: &[u8], list: &[i64], out: &mut [u8], p: Option<usize>) -> Option<usize>
     ensures { page out.new result ≡ puts (page out.old p) (line word.now list.now) }
 {
     let q = put_word(word, out, p);
@@ -83,7 +76,7 @@ fn put_line(word: &[u8], list: &[i64], out: &mut [u8], p: Printed) -> Printed
 }
 
 // Three numbers a line.
-fn put_triplets(list: &[i64], out: &mut [u8], p: Printed) -> Printed
+fn put_triplets(list: &[i64], out: &mut [u8], p: Option<usize>) -> Option<usize>
     ensures { page out.new result ≡ puts (page out.old p) (rows (triplet_line list.now) (length list.now / 3)) }
 {
     let count = list.len() / 3;
@@ -108,15 +101,15 @@ pub fn clear(out: &mut [u8])
 }
 
 // Without room, 0 everywhere.
-fn finish(out: &mut [u8], p: Printed) -> Printed
+fn finish(out: &mut [u8], p: Option<usize>) -> Option<usize>
     ensures value { result ≡ p }
     ensures out_after { out.new ≡ finished out.old p }
 {
-    let Printed::Bytes(n) = p else {
+    let Some(n) = p else {
         clear(out);
-        return Printed::NoRoom;
+        return None;
     };
-    Printed::Bytes(n)
+    Some(n)
 }
 
 fn put_listing(
@@ -125,8 +118,8 @@ fn put_listing(
     classes: i64,
     triplets: &[i64],
     out: &mut [u8],
-    p: Printed,
-) -> Printed
+    p: Option<usize>,
+) -> Option<usize>
     ensures { page out.new result ≡ puts (page out.old p) (listing d map.now classes triplets.now) }
 {
     let n = [classes];
@@ -143,21 +136,21 @@ pub fn print_listing(
     classes: i64,
     triplets: &[i64],
     out: &mut [u8],
-) -> Printed
+) -> Option<usize>
     ensures value { result ≡ printed_answer (listing d map.now classes triplets.now) (length out.old) }
     ensures out_after { out.new ≡ printed (listing d map.now classes triplets.now) (length out.old) }
 {
     clear(out);
-    let p = put_listing(d, map, classes, triplets, out, Printed::Bytes(0));
+    let p = put_listing(d, map, classes, triplets, out, Some(0));
     finish(out, p)
 }
 
-pub fn print_refusal(r: Refusal, out: &mut [u8]) -> Printed
+pub fn print_refusal(r: Refusal, out: &mut [u8]) -> Option<usize>
     ensures value { result ≡ printed_answer (refusal r) (length out.old) }
     ensures out_after { out.new ≡ printed (refusal r) (length out.old) }
 {
     clear(out);
     let n = [r.answer()];
-    let p = put_line(b"refused", &n, out, Printed::Bytes(0));
+    let p = put_line(b"refused", &n, out, Some(0));
     finish(out, p)
 }

@@ -10,8 +10,7 @@ use lib.ListN.{length, length-map}
 use Rattle.integer.proofs.Test.{holds}
 use Rattle.common.specs.Matrix.{Vec, origin}
 use Rattle.common.specs.Array.{matrix_of}
-use Rattle.common.specs.Tested.{require, output_of}
-use Rattle.common.specs.declared.Tested.TheVariants.{Accepted}
+use Rattle.common.specs.Tested.{require, output_of, Accepted}
 use Rattle.common.specs.declared.Refusal.{Refusal}
 use Rattle.common.specs.declared.Refusal.TheVariants.{OutsideLimits, NotUnimodularQ, WrongLength, InvertedRange}
 use Rattle.common.proofs.Tests.{passed}

@@ -4,10 +4,10 @@ use mathlib.Core.List.{List, [], ◌∷◌}
 use Prim.Native.Nat.{ℕ}
 use lib.IntN.{ℤ, pos, negsuc}
 use lib.ListN.{take}
+use Rattle.std.specs.Prelude.{Err}
+use Rattle.common.specs.Tested.{Tested, Accepted}
 use Rattle.common.specs.Matrix.{identity}
 use Rattle.common.specs.Array.{vector_of, sides_of, matrix_of, rows}
-use Rattle.common.specs.declared.Tested.{Tested}
-use Rattle.common.specs.declared.Tested.TheVariants.{Accepted, Refused}
 use Rattle.common.specs.declared.Refusal.TheVariants.{OutsideLimits, NotUnimodularQ, WrongLength, InvertedRange}
 use Rattle.bzsearch.specs.Search.{candidates, outside}
 use Rattle.grgrid.specs.Grid.{address}
@@ -73,10 +73,10 @@ crossed = six (pos 1) (pos 1) (pos 1) (pos 1) (pos 1) (pos 0)
 abbrev doubled : List (List ℤ)
 doubled = three (pos 2) (pos 0) (pos 0) ∷ three (pos 0) (pos 1) (pos 0) ∷ three (pos 0) (pos 0) (pos 1) ∷ []
 
-order : (tests_of (three (pos 0) (pos 1) (pos 1)) doubled ones crossed 124 ≡ Refused WrongLength)
-    × (tests_of (three (pos 0) (pos 1) (pos 1)) doubled ones crossed 125 ≡ Refused OutsideLimits)
-    × (tests_of (three (pos 1) (pos 1) (pos 1)) doubled ones crossed 125 ≡ Refused InvertedRange)
-    × (tests_of (three (pos 1) (pos 1) (pos 1)) doubled ones ones 125 ≡ Refused NotUnimodularQ)
+order : (tests_of (three (pos 0) (pos 1) (pos 1)) doubled ones crossed 124 ≡ Err WrongLength)
+    × (tests_of (three (pos 0) (pos 1) (pos 1)) doubled ones crossed 125 ≡ Err OutsideLimits)
+    × (tests_of (three (pos 1) (pos 1) (pos 1)) doubled ones crossed 125 ≡ Err InvertedRange)
+    × (tests_of (three (pos 1) (pos 1) (pos 1)) doubled ones ones 125 ≡ Err NotUnimodularQ)
     × (tests_of (three (pos 1) (pos 1) (pos 1)) (rows identity) ones ones 125 ≡ Accepted)
 unfolding mark_tests
 order = (refl, refl, refl, refl, refl)

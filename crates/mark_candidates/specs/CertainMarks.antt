@@ -1,7 +1,7 @@
 -- What the marks say, in the words of document 02, and that narrower ranges never change a certain one.
 use Rattle.std.specs.Prelude.{◌≡◌, ◌↔◌, List, ℕ, ◌<◌, T, ℤ, pos, length, get_or}
+use Rattle.common.specs.Tested.{Accepted}
 use Rattle.common.specs.Matrix.{Vec, origin}
-use Rattle.common.specs.declared.Tested.TheVariants.{Accepted}
 use Rattle.mark_candidates.specs.InnerProducts.{Ranges, ordered, Narrower, NeverLonger, Shorter, never_longer, shorter}
 use Rattle.mark_candidates.specs.ScaledCoordinates.{candidates125}
 use Rattle.mark_candidates.specs.MarkCandidates.{NearestForCertain, BeatenForCertain, ranges_of, placed, Marked, mark_candidates}

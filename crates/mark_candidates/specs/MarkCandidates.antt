@@ -6,9 +6,7 @@ use Rattle.common.specs.Matrix.{Vec}
 use Rattle.common.specs.Array.{vector_of, sides_of, matrix_of}
 use Rattle.common.specs.Limits.{all_within, matrix_within, diagonal_fits, shift_fits, point_fits}
 use Rattle.common.specs.Every.{every, some}
-use Rattle.common.specs.Tested.{require, output_of}
-use Rattle.common.specs.declared.Tested.{Tested}
-use Rattle.common.specs.declared.Tested.TheVariants.{Accepted}
+use Rattle.common.specs.Tested.{require, output_of, Tested, Accepted}
 use Rattle.common.specs.declared.Refusal.TheVariants.{OutsideLimits, NotUnimodularQ, WrongLength, InvertedRange}
 use Rattle.grgrid.specs.Grid.{size}
 use Rattle.bzsearch.specs.Search.{unimodular}

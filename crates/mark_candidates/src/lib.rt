@@ -8,12 +8,12 @@ mod table;
 
 ghost use Rattle.std.specs.Prelude.{◌≡◌, ◌<◌, pos, length, get_or};
 ghost use Rattle.std.specs.Int.Signed.{le_z};
-ghost use Rattle.common.specs.declared.Tested.TheVariants.{Accepted};
+ghost use Rattle.common.specs.Tested.{Accepted};
 ghost use Rattle.mark_candidates.specs.InnerProducts.{ordered};
 ghost use Rattle.mark_candidates.specs.CertainMarks.{MarksSay};
 ghost use Rattle.mark_candidates.specs.MarkCandidates.{ranges_of, grid_fits, within_limits, mark_tests, marks, marked, mark_candidates};
 
-use common::{Refusal, Tested};
+use common::Refusal;
 pub use table::Ranges;
 
 fn ordered_at(r: Ranges, k: usize) -> bool
@@ -68,22 +68,22 @@ fn mark_tests(
     r: Ranges,
     point: i64,
     places: usize,
-) -> Tested
+) -> Result<(), Refusal>
     ensures { result ≡ mark_tests d q ps r.lowest r.highest point places }
 {
     if places != 125 {
-        return Tested::Refused(Refusal::WrongLength);
+        return Err(Refusal::WrongLength);
     }
     if !within_limits(d, q, ps, r, point) {
-        return Tested::Refused(Refusal::OutsideLimits);
+        return Err(Refusal::OutsideLimits);
     }
     if !is_ordered(r) {
-        return Tested::Refused(Refusal::InvertedRange);
+        return Err(Refusal::InvertedRange);
     }
     if !bzsearch::is_unimodular(q) {
-        return Tested::Refused(Refusal::NotUnimodularQ);
+        return Err(Refusal::NotUnimodularQ);
     }
-    Tested::Accepted
+    Ok(())
 }
 
 fn mark_point(d: [i64; 3], q: [[i64; 3]; 3], ps: [i64; 3], r: Ranges, point: i64, out: &mut [i64])
@@ -103,18 +103,18 @@ pub fn mark_candidates(
     r: Ranges,
     point: i64,
     marks: &mut [i64],
-) -> Tested
+) -> Result<(), Refusal>
     ensures marks_after { marked result marks.new ≡ mark_candidates d q ps r.lowest r.highest point (length marks.old) }
     ensures marks_say { result ≡ Accepted → MarksSay d q ps r.lowest r.highest point marks.new }
 {
     match mark_tests(d, q, ps, r, point, marks.len()) {
-        Tested::Accepted => {
+        Ok(()) => {
             mark_point(d, q, ps, r, point, marks);
-            Tested::Accepted
+            Ok(())
         }
-        Tested::Refused(e) => {
+        Err(e) => {
             common::fill(marks, -1);
-            Tested::Refused(e)
+            Err(e)
         }
     }
 }

@@ -8,69 +8,66 @@ use lib.Dec.{T, leb, leb→le, eqb}
 use lib.IntN.{ℤ, negsuc}
 use lib.ListN.{length, replicate}
 use borrow.Author.Tests.{eqb-true}
+use Rattle.std.specs.Prelude.{Result, Ok, Err}
 use Rattle.integer.proofs.Test.{holds, and_l, and_r}
 use Rattle.common.specs.Matrix.{Mat}
 use Rattle.common.specs.Array.{matrices}
 use Rattle.common.specs.Limits.{all_within, whole_matrices, rotations_fit}
-use Rattle.common.specs.Tested.{after, output_of}
+use Rattle.common.specs.Tested.{after, output_of, Tested, Accepted, giving}
 use Rattle.common.specs.declared.Refusal.{Refusal}
 use Rattle.common.specs.declared.Refusal.TheVariants.{OutsideLimits, WrongLength}
-use Rattle.common.specs.declared.Tested.{Tested}
-use Rattle.common.specs.declared.Tested.TheVariants as tested
 use Rattle.common.proofs.Tests.{passed}
 use Rattle.recip_rotations.specs.Flat.{laid}
-use Rattle.recip_rotations.specs.PointGroup.{answer_for, room_tests, input_tests, group_tests, point_group, point_group_answer, point_group_written}
+use Rattle.recip_rotations.specs.PointGroup.{room_tests, input_tests, group_tests, point_group, point_group_answer, point_group_written}
 use Rattle.recip_rotations.specs.Steps.{Grouped}
-use Rattle.recip_rotations.specs.declared.PointGroup.{PointGroup}
-use Rattle.recip_rotations.specs.declared.PointGroup.TheVariants.{Rotations, Refused}
 use Rattle.recip_rotations.proofs.Outcomes.{refused}
 
 -- the tests, from the answer
-pub was-accepted : (t : Tested) (m k : ℕ) → Rotations k ≡ answer_for t m → t ≡ tested.Accepted
-was-accepted tested.Accepted m k e = refl
-was-accepted (tested.Refused r) m k e = let z : ◌≡◌ {A = ℕ} 0 1 = cc in absurd (never z)
+pub was-accepted : (t : Tested) (m k : ℕ) → Ok k ≡ giving t m → t ≡ Accepted
+was-accepted (Ok _) m k e = refl
+was-accepted (Err r) m k e = let z : ◌≡◌ {A = ℕ} 0 1 = cc in absurd (never z)
   where
     never : ◌≡◌ {A = ℕ} 0 1 → ⊥
     never z = omega arith
 
-pub was-refused : (t : Tested) (m : ℕ) {r : Refusal} → Refused r ≡ answer_for t m → t ≡ tested.Refused r
-was-refused tested.Accepted m e = let z : ◌≡◌ {A = ℕ} 0 1 = cc in absurd (never z)
+pub was-refused : (t : Tested) (m : ℕ) {r : Refusal} → Err r ≡ giving t m → t ≡ Err r
+was-refused (Ok _) m e = let z : ◌≡◌ {A = ℕ} 0 1 = cc in absurd (never z)
   where
     never : ◌≡◌ {A = ℕ} 0 1 → ⊥
     never z = omega arith
-was-refused (tested.Refused x) m e = cc
+was-refused (Err x) m e = cc
 
 -- what accepted input is
-pub input-accepted : (s : List ℤ) (n : ℕ) → input_tests s n ≡ tested.Accepted → (n ≡ 432) × (length s ≤ 1728) × T (all_within 100000 s)
+pub input-accepted : (s : List ℤ) (n : ℕ) → input_tests s n ≡ Accepted → (n ≡ 432) × (length s ≤ 1728) × T (all_within 100000 s)
 unfolding input_tests
 input-accepted s n e =
     let a = passed (whole_matrices s) WrongLength _ e in
     let b = passed (eqb n 432) WrongLength _ a.1 in
-    let f = holds (passed (rotations_fit 100000 s) OutsideLimits tested.Accepted b.1).0 in
+    let f = holds (passed (rotations_fit 100000 s) OutsideLimits Accepted b.1).0 in
     (eqb-true n 432 b.0, leb→le (length s) 1728 (and_l (leb (length s) 1728) (all_within 100000 s) f), and_r (leb (length s) 1728) (all_within 100000 s) f)
 
 module _ (s : List ℤ) (time t : Bool) (n : ℕ) where
   module _ {l : List (Mat ℤ)} {before out : List ℤ} where
-    pub input-passed : {r : PointGroup} → input_tests s n ≡ tested.Accepted → Grouped (room_tests (matrices s) time t) l before out r → Grouped (group_tests s time t n) l before out r
+    pub input-passed : {r : Result ℕ Refusal} → input_tests s n ≡ Accepted → Grouped (room_tests (matrices s) time t) l before out r → Grouped (group_tests s time t n) l before out r
     unfolding group_tests
     input-passed {r} e g = subst (λ q. Grouped (after q (room_tests (matrices s) time t)) l before out r) (sym e) g
 
-    pub input-refused : {x : Refusal} → input_tests s n ≡ tested.Refused x → Grouped (group_tests s time t n) l before out (Refused x)
+    pub input-refused : {x : Refusal} → input_tests s n ≡ Err x → Grouped (group_tests s time t n) l before out (Err x)
     unfolding group_tests
     input-refused e = refused (ap (λ q. after q (room_tests (matrices s) time t)) e)
 
-  module _ {out : List ℤ} {r : PointGroup} (g : Grouped (group_tests s time t n) (point_group (matrices s) time t) (replicate n (negsuc 0)) out r) where
+  module _ {out : List ℤ} {r : Result ℕ Refusal} (g : Grouped (group_tests s time t n) (point_group (matrices s) time t) (replicate n (negsuc 0)) out r) where
     pub answered : r ≡ point_group_answer s time t n
     unfolding point_group_answer
     answered = g.answer
 
-    pub group-written : {k : ℕ} → r ≡ Rotations k → out ≡ point_group_written s time t n
+    pub group-written : {k : ℕ} → r ≡ Ok k → out ≡ point_group_written s time t n
     unfolding point_group_written
     group-written {k} e =
         let a = was-accepted (group_tests s time t n) _ k (sym e ∙ g.answer) in
         g.held a ∙ sym (ap (λ q. output_of q n (laid (point_group (matrices s) time t) (replicate n (negsuc 0)))) a)
 
-    pub blank-written : {x : Refusal} {filled : List ℤ} (k : ℕ) → r ≡ Refused x → filled ≡ replicate k (negsuc 0) → k ≡ n → filled ≡ point_group_written s time t n
+    pub blank-written : {x : Refusal} {filled : List ℤ} (k : ℕ) → r ≡ Err x → filled ≡ replicate k (negsuc 0) → k ≡ n → filled ≡ point_group_written s time t n
     unfolding point_group_written
     blank-written k e f h =
         f ∙ ap (λ n. replicate n (negsuc 0)) h ∙ sym (ap (λ q. output_of q n (laid (point_group (matrices s) time t) (replicate n (negsuc 0)))) (was-refused (group_tests s time t n) _ (sym e ∙ g.answer)))

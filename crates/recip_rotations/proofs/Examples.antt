@@ -5,11 +5,11 @@ use mathlib.Core.List.{List, [], ◌∷◌}
 use Prim.Native.Nat.{ℕ, zero, suc}
 use lib.IntN.{ℤ, pos, negsuc}
 use lib.ListN.{replicate}
+use Rattle.std.specs.Prelude.{Ok, Err}
+use Rattle.common.specs.Tested.{Accepted}
 use Rattle.common.specs.Matrix.{Mat, scalar, identity, inversion}
-use Rattle.common.specs.declared.Tested.TheVariants.{Accepted, Refused}
 use Rattle.common.specs.declared.Refusal.TheVariants.{OutsideLimits, TooManyRotations, TooManyForInversion, WrongLength}
 use Rattle.recip_rotations.specs.PointGroup.{room_tests, point_group, point_group_answer, point_group_written}
-use Rattle.recip_rotations.specs.declared.PointGroup.TheVariants as answer
 
 -- rows 0 1 0, 0 0 1 and 1 0 0, and its transpose
 abbrev turn : Mat ℤ
@@ -47,7 +47,7 @@ room-48 : room_tests (distinct 48) false true ≡ Accepted
 unfolding room_tests
 room-48 = refl
 
-room-49 : room_tests (distinct 49) true true ≡ Refused TooManyRotations
+room-49 : room_tests (distinct 49) true true ≡ Err TooManyRotations
 unfolding room_tests
 room-49 = refl
 
@@ -55,7 +55,7 @@ room-24 : room_tests (distinct 24) true false ≡ Accepted
 unfolding room_tests
 room-24 = refl
 
-room-25 : room_tests (distinct 25) true false ≡ Refused TooManyForInversion
+room-25 : room_tests (distinct 25) true false ≡ Err TooManyForInversion
 unfolding room_tests
 room-25 = refl
 
@@ -64,27 +64,27 @@ unfolding room_tests
 room-inversion = refl
 
 -- ---- the other tests, and the output
-no-rotations : point_group_answer [] true true 432 ≡ answer.Rotations 0
+no-rotations : point_group_answer [] true true 432 ≡ Ok 0
 unfolding point_group_answer
 no-rotations = refl
 
-no-matrix : point_group_answer (pos 100001 ∷ []) false false 432 ≡ answer.Refused WrongLength
+no-matrix : point_group_answer (pos 100001 ∷ []) false false 432 ≡ Err WrongLength
 unfolding point_group_answer
 no-matrix = refl
 
-other_length : point_group_answer (replicate 9 (pos 100001)) false false 431 ≡ answer.Refused WrongLength
+other_length : point_group_answer (replicate 9 (pos 100001)) false false 431 ≡ Err WrongLength
 unfolding point_group_answer
 other_length = refl
 
-at-limit : point_group_answer (replicate 1728 (negsuc 99999)) false false 432 ≡ answer.Rotations 1
+at-limit : point_group_answer (replicate 1728 (negsuc 99999)) false false 432 ≡ Ok 1
 unfolding point_group_answer
 at-limit = refl
 
-large-entry : point_group_answer (replicate 9 (negsuc 100000)) false false 432 ≡ answer.Refused OutsideLimits
+large-entry : point_group_answer (replicate 9 (negsuc 100000)) false false 432 ≡ Err OutsideLimits
 unfolding point_group_answer
 large-entry = refl
 
-many-rotations : point_group_answer (replicate 1737 (pos 0)) false false 432 ≡ answer.Refused OutsideLimits
+many-rotations : point_group_answer (replicate 1737 (pos 0)) false false 432 ≡ Err OutsideLimits
 unfolding point_group_answer
 many-rotations = refl
 

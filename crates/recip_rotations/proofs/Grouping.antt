@@ -8,6 +8,8 @@ use native.Mathlib.Omega.{arith}
 use lib.IntN.{ℤ}
 use lib.ListN.{length, length-append, length-map}
 use borrow.Author.Tests.{le-leb, lt-leb}
+use Rattle.std.specs.Prelude.{Result, Err}
+use Rattle.common.specs.declared.Refusal.{Refusal}
 use Rattle.common.specs.Matrix.{Mat, transpose, negate}
 use Rattle.common.specs.Array.{matrices_from, matrices}
 use Rattle.common.specs.Tested.{require}
@@ -17,8 +19,6 @@ use Rattle.recip_rotations.specs.Unique.{unique}
 use Rattle.recip_rotations.specs.Flat.{laid}
 use Rattle.recip_rotations.specs.PointGroup.{turned, joins, joined, join_tests, room_tests, point_group}
 use Rattle.recip_rotations.specs.Steps.{Counted, Grouped}
-use Rattle.recip_rotations.specs.declared.PointGroup.{PointGroup}
-use Rattle.recip_rotations.specs.declared.PointGroup.TheVariants.{Refused}
 use Rattle.recip_rotations.proofs.Blocks.{laid-over}
 use Rattle.recip_rotations.proofs.Outcomes.{refused}
 
@@ -41,7 +41,7 @@ module _ (s : List ℤ) (time t : Bool) (d : List ℤ) where
   u = unique (matrices s)
 
   module _ {out : List ℤ} {r : ℕ} (c : Counted u d out r) where
-    pub group-over : {before after : List ℤ} → 48 < r → Grouped (room_tests (matrices s) time t) (point_group (matrices s) time t) before after (Refused TooManyRotations)
+    pub group-over : {before after : List ℤ} → 48 < r → Grouped (room_tests (matrices s) time t) (point_group (matrices s) time t) before after (Err TooManyRotations)
     unfolding room_tests
     group-over k = refused (ap (λ b. require b TooManyRotations (join_tests time (turned t u))) (lt-leb (length u) 48 (c.over k)))
 
@@ -54,7 +54,7 @@ module _ (s : List ℤ) (time t : Bool) (d : List ℤ) where
           e ∙ ap₂ (λ l o. laid (turned t l) o) (ap₂ (λ o n. matrices_from o 0 n) (c.held h) (c.count h) ∙ read-flat u _) (c.held h)
           ∙ laid-over (turned t u) u d (le_of_eq (sym (turned-length t u)))
 
-      pub group-joined : {turn after : List ℤ} {x : PointGroup} → turn ≡ laid (turned t u) d
+      pub group-joined : {turn after : List ℤ} {x : Result ℕ Refusal} → turn ≡ laid (turned t u) d
           → Grouped (join_tests time (matrices_from turn 0 r)) (joined time (matrices_from turn 0 r)) turn after x
           → Grouped (room_tests (matrices s) time t) (point_group (matrices s) time t) d after x
       unfolding room_tests point_group

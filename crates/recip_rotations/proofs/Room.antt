@@ -8,15 +8,14 @@ use lib.Dec.{leb}
 use lib.IntN.{ℤ}
 use lib.ListN.{length, length-append, length-map}
 use borrow.Author.Tests.{leb-true}
+use Rattle.std.specs.Prelude.{Ok, Err}
 use Rattle.common.specs.Matrix.{Mat, negate}
 use Rattle.common.specs.Array.{matrices}
-use Rattle.common.specs.Tested.{after}
-use Rattle.common.specs.declared.Tested.{Tested}
-use Rattle.common.specs.declared.Tested.TheVariants.{Accepted, Refused}
+use Rattle.common.specs.Tested.{after, Tested, Accepted, giving}
 use Rattle.common.specs.declared.Refusal.TheVariants.{TooManyRotations, TooManyForInversion}
 use Rattle.common.proofs.Tests.{passed, both-accepted}
 use Rattle.recip_rotations.specs.Unique.{unique}
-use Rattle.recip_rotations.specs.PointGroup.{turned, joins, joined, join_tests, room_tests, input_tests, group_tests, point_group, answer_for, point_group_answer, count_of}
+use Rattle.recip_rotations.specs.PointGroup.{turned, joins, joined, join_tests, room_tests, input_tests, group_tests, point_group, point_group_answer, count_of}
 use Rattle.recip_rotations.proofs.Grouping.{turned-length}
 
 joined-room : (time : Bool) (l : List (Mat ℤ)) → length l ≤ 48 → join_tests time l ≡ Accepted → length (joined time l) ≤ 48
@@ -33,12 +32,12 @@ room l time t e =
     joined-room time (turned t (unique l)) (omega (arith, turned-length t (unique l), leb-true (length (unique l)) 48 p.0)) p.1
 
 -- whatever is tested before the room
-pub count-few : (l : List (Mat ℤ)) (time t : Bool) (front : Tested) → count_of (answer_for (after front (room_tests l time t)) (length (point_group l time t))) ≤ 48
+pub count-few : (l : List (Mat ℤ)) (time t : Bool) (front : Tested) → count_of (giving (after front (room_tests l time t)) (length (point_group l time t))) ≤ 48
 count-few l time t front = step (after front (room_tests l time t)) (λ e. room l time t (both-accepted front (room_tests l time t) e).1)
   where
-    step : (q : Tested) → (q ≡ Accepted → length (point_group l time t) ≤ 48) → count_of (answer_for q (length (point_group l time t))) ≤ 48
-    step Accepted h = h refl
-    step (Refused r) h = zero-le
+    step : (q : Tested) → (q ≡ Accepted → length (point_group l time t) ≤ 48) → count_of (giving q (length (point_group l time t))) ≤ 48
+    step (Ok _) h = h refl
+    step (Err r) h = zero-le
 
 pub count_small : (s : List ℤ) (time t : Bool) (n : ℕ) → count_of (point_group_answer s time t n) ≤ 48
 unfolding point_group_answer group_tests

@@ -6,17 +6,17 @@ use Prim.Native.Nat.{ℕ, ◌*◌}
 use lib.IntN.{ℤ, negsuc}
 use lib.ListN.{length, take, replicate}
 use lib.Seq.{take-append_seam}
+use Rattle.std.specs.Prelude.{Ok}
 use Rattle.common.specs.Matrix.{Mat}
 use Rattle.common.specs.Array.{matrices, flat}
-use Rattle.common.specs.Tested.{output_of}
-use Rattle.common.specs.declared.Tested.TheVariants.{Accepted}
+use Rattle.common.specs.Tested.{output_of, Accepted, giving}
 use Rattle.common.proofs.Reading.{length-flat}
+use Rattle.common.proofs.Tests.{same-ok}
 use Rattle.recip_rotations.specs.Flat.{laid}
-use Rattle.recip_rotations.specs.PointGroup.{group_tests, point_group, answer_for, point_group_answer, point_group_written}
-use Rattle.recip_rotations.specs.declared.PointGroup.TheVariants.{Rotations}
+use Rattle.recip_rotations.specs.PointGroup.{group_tests, point_group, point_group_answer, point_group_written}
 use Rattle.recip_rotations.proofs.Answered.{was-accepted}
 
-module _ (list : List ℤ) (time transposed : Bool) (n count : ℕ) (e : point_group_answer list time transposed n ≡ Rotations count) where
+module _ (list : List ℤ) (time transposed : Bool) (n count : ℕ) (e : point_group_answer list time transposed n ≡ Ok count) where
   abbrev pub told : List (Mat ℤ)
   told = point_group (matrices list) time transposed
 
@@ -24,10 +24,7 @@ module _ (list : List ℤ) (time transposed : Bool) (n count : ℕ) (e : point_g
   unfolding point_group_answer
   told-count =
       let a = was-accepted (group_tests list time transposed n) (length told) count (sym e) in
-      (a, same count (length told) (sym e ∙ ap (λ t. answer_for t (length told)) a))
-    where
-      same : (i j : ℕ) → Rotations i ≡ Rotations j → i ≡ j
-      same i j e = cc
+      (a, same-ok (sym e ∙ ap (λ t. giving t (length told)) a))
 
   -- the told part is the list of the group
   pub told_part : take (count * 9) (point_group_written list time transposed n) ≡ flat told

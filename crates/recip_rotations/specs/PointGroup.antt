@@ -1,16 +1,13 @@
 -- `get_reciprocal_point_group`: the tests, the answer and the output, which has n places.
-use Rattle.std.specs.Prelude.{Bool, true, false, not, ◌&&◌, ◌||◌, List, ◌++◌, map, ℕ, leb, eqb, ℤ, negsuc, length, replicate}
+use Rattle.std.specs.Prelude.{Bool, true, false, not, ◌&&◌, ◌||◌, List, ◌++◌, map, ℕ, leb, eqb, ℤ, negsuc, length, replicate, Result, Ok, Err}
+use Rattle.common.specs.declared.Refusal.{Refusal}
 use Rattle.common.specs.Matrix.{Mat, transpose, negate, inversion}
 use Rattle.common.specs.Array.{matrices}
 use Rattle.common.specs.Limits.{whole_matrices, rotations_fit}
-use Rattle.common.specs.Tested.{require, after, output_of}
-use Rattle.common.specs.declared.Tested.{Tested}
-use Rattle.common.specs.declared.Tested.TheVariants.{Accepted, Refused}
+use Rattle.common.specs.Tested.{require, after, output_of, Tested, Accepted, giving}
 use Rattle.common.specs.declared.Refusal.TheVariants.{OutsideLimits, TooManyRotations, TooManyForInversion, WrongLength}
 use Rattle.recip_rotations.specs.Unique.{among, unique}
 use Rattle.recip_rotations.specs.Flat.{laid}
-use Rattle.recip_rotations.specs.declared.PointGroup.{PointGroup}
-use Rattle.recip_rotations.specs.declared.PointGroup.TheVariants as answer
 
 abbrev pub turned : Bool → List (Mat ℤ) → List (Mat ℤ)
 turned transposed l = elim transposed [ true ↦ map transpose l | false ↦ l ]
@@ -44,18 +41,14 @@ unfoldable pub group_tests : List ℤ → Bool → Bool → ℕ → Tested
 unfolding input_tests room_tests
 group_tests rotations time_reversal transposed n = after (input_tests rotations n) (room_tests (matrices rotations) time_reversal transposed)
 
-abbrev pub answer_for : Tested → ℕ → PointGroup
-answer_for Accepted n = answer.Rotations n
-answer_for (Refused r) n = answer.Refused r
+abbrev pub count_of : Result ℕ Refusal → ℕ
+count_of (Ok n) = n
+count_of (Err r) = 0
 
-abbrev pub count_of : PointGroup → ℕ
-count_of (answer.Rotations n) = n
-count_of (answer.Refused r) = 0
-
-unfoldable pub point_group_answer : List ℤ → Bool → Bool → ℕ → PointGroup
+unfoldable pub point_group_answer : List ℤ → Bool → Bool → ℕ → Result ℕ Refusal
 unfolding group_tests point_group
 point_group_answer rotations time_reversal transposed n =
-    answer_for (group_tests rotations time_reversal transposed n) (length (point_group (matrices rotations) time_reversal transposed))
+    giving (group_tests rotations time_reversal transposed n) (length (point_group (matrices rotations) time_reversal transposed))
 
 -- the matrices, then -1
 unfoldable pub point_group_written : List ℤ → Bool → Bool → ℕ → List ℤ

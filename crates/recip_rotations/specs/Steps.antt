@@ -1,12 +1,10 @@
 -- What the steps of the code answer, and leave in the output.
-use Rattle.std.specs.Prelude.{◌≡◌, Bool, ◌&&◌, List, ℕ, ◌+◌, ◌≤◌, ◌<◌, ℤ, pos, length, get_or, set}
-use Rattle.common.specs.declared.Tested.{Tested}
-use Rattle.common.specs.declared.Tested.TheVariants.{Accepted}
+use Rattle.std.specs.Prelude.{◌≡◌, Bool, ◌&&◌, List, ℕ, ◌+◌, ◌≤◌, ◌<◌, ℤ, pos, length, get_or, set, Result}
+use Rattle.common.specs.declared.Refusal.{Refusal}
+use Rattle.common.specs.Tested.{Tested, Accepted, giving}
 use Rattle.common.specs.Matrix.{Mat}
 use Rattle.integer.specs.Same.{same}
 use Rattle.recip_rotations.specs.Flat.{laid}
-use Rattle.recip_rotations.specs.PointGroup.{answer_for}
-use Rattle.recip_rotations.specs.declared.PointGroup.{PointGroup}
 
 -- three numbers from place i of a list are those from place j of another
 abbrev pub same_row : List ℤ → ℕ → List ℤ → ℕ → Bool
@@ -29,6 +27,6 @@ pub record Counted (u : List (Mat ℤ)) (before after : List ℤ) (r : ℕ) : Ty
   pub over : 48 < r → 48 < length u
 
 -- l at the front of the output, so far as the tests t accept it
-pub record Grouped (t : Tested) (l : List (Mat ℤ)) (before after : List ℤ) (r : PointGroup) : Type 0 where
-  pub answer : r ≡ answer_for t (length l)
+pub record Grouped (t : Tested) (l : List (Mat ℤ)) (before after : List ℤ) (r : Result ℕ Refusal) : Type 0 where
+  pub answer : r ≡ giving t (length l)
   pub held : t ≡ Accepted → after ≡ laid l before

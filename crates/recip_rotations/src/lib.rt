@@ -10,14 +10,7 @@ ghost use Rattle.recip_rotations.specs.Flat.{laid};
 ghost use Rattle.recip_rotations.specs.PointGroup.{turned, joined, join_tests, room_tests, input_tests, group_tests, point_group, point_group_answer, point_group_written};
 ghost use Rattle.recip_rotations.specs.Steps.{same_row, swapped, transposed_at, Counted, Grouped};
 
-use common::{Refusal, Tested};
-
-// How many rotations the output holds, or why there are none.
-#[derive(Clone, Copy)]
-pub enum PointGroup {
-    Rotations(usize),
-    Refused(Refusal),
-}
+use common::Refusal;
 
 fn same_row(a: &[i64], i: usize, b: &[i64], j: usize) -> bool
     requires { (i + 3 ≤ length a.now) × (j + 3 ≤ length b.now) }
@@ -156,23 +149,23 @@ fn negatives(out: &mut [i64], count: usize)
 }
 
 // Under time reversal the negatives of the first `count` matrices, unless the inversion is among these.
-fn join(out: &mut [i64], count: usize, is_time_reversal: bool) -> PointGroup
+fn join(out: &mut [i64], count: usize, is_time_reversal: bool) -> Result<usize, Refusal>
     requires fact_1 { (count ≤ 48) × (length out.old ≡ 432) }
     requires fact_2 { Sized 100000 out.old }
     ensures { Grouped (join_tests is_time_reversal (matrices_from out.old 0 count)) (joined is_time_reversal (matrices_from out.old 0 count)) out.old out.new result }
 {
     if !is_time_reversal {
-        return PointGroup::Rotations(count);
+        return Ok(count);
     }
     let inversion = [-1, 0, 0, 0, -1, 0, 0, 0, -1];
     if contains(&inversion, 0, out, count) {
-        return PointGroup::Rotations(count);
+        return Ok(count);
     }
     if 24 < count {
-        return PointGroup::Refused(Refusal::TooManyForInversion);
+        return Err(Refusal::TooManyForInversion);
     }
     negatives(out, count);
-    PointGroup::Rotations(count * 2)
+    Ok(count * 2)
 }
 
 // The group of rotations within the limits.
@@ -181,7 +174,7 @@ fn distinct_group(
     is_time_reversal: bool,
     is_transpose: bool,
     out: &mut [i64],
-) -> PointGroup
+) -> Result<usize, Refusal>
     requires fact_1 { length out.old ≡ 432 }
     requires fact_2 { T (all_within 100000 rotations.now) }
     ensures { Grouped (room_tests (matrices rotations.now) is_time_reversal is_transpose) (point_group (matrices rotations.now) is_time_reversal is_transpose) (replicate (length out.old) (negsuc 0)) out.new result }
@@ -189,26 +182,26 @@ fn distinct_group(
     common::fill(out, -1);
     let count = collect(rotations, out);
     if 48 < count {
-        return PointGroup::Refused(Refusal::TooManyRotations);
+        return Err(Refusal::TooManyRotations);
     }
     turn(out, count, is_transpose);
     join(out, count, is_time_reversal)
 }
 
 // Of the list, and of the places for its group.
-pub fn input_tests(rotations: &[i64], places: usize) -> Tested
+pub fn input_tests(rotations: &[i64], places: usize) -> Result<(), Refusal>
     ensures { result ≡ input_tests rotations.now places }
 {
     if !common::whole_matrices(rotations) {
-        return Tested::Refused(Refusal::WrongLength);
+        return Err(Refusal::WrongLength);
     }
     if places != 432 {
-        return Tested::Refused(Refusal::WrongLength);
+        return Err(Refusal::WrongLength);
     }
     if !common::rotations_fit(rotations, 100000) {
-        return Tested::Refused(Refusal::OutsideLimits);
+        return Err(Refusal::OutsideLimits);
     }
-    Tested::Accepted
+    Ok(())
 }
 
 // With the tests of the input. A refusal may leave anything in the output.
@@ -217,12 +210,12 @@ fn group_of(
     is_time_reversal: bool,
     is_transpose: bool,
     out: &mut [i64],
-) -> PointGroup
+) -> Result<usize, Refusal>
     ensures { Grouped (group_tests rotations.now is_time_reversal is_transpose (length out.old)) (point_group (matrices rotations.now) is_time_reversal is_transpose) (replicate (length out.old) (negsuc 0)) out.new result }
 {
     match input_tests(rotations, out.len()) {
-        Tested::Accepted => distinct_group(rotations, is_time_reversal, is_transpose, out),
-        Tested::Refused(r) => PointGroup::Refused(r),
+        Ok(()) => distinct_group(rotations, is_time_reversal, is_transpose, out),
+        Err(r) => Err(r),
     }
 }
 
@@ -232,15 +225,15 @@ pub fn get_reciprocal_point_group(
     is_time_reversal: bool,
     is_transpose: bool,
     out: &mut [i64],
-) -> PointGroup
+) -> Result<usize, Refusal>
     ensures value { result ≡ point_group_answer rotations.now is_time_reversal is_transpose (length out.old) }
     ensures out_after { out.new ≡ point_group_written rotations.now is_time_reversal is_transpose (length out.old) }
 {
     match group_of(rotations, is_time_reversal, is_transpose, out) {
-        PointGroup::Rotations(n) => PointGroup::Rotations(n),
-        PointGroup::Refused(r) => {
+        Ok(n) => Ok(n),
+        Err(r) => {
             common::fill(out, -1);
-            PointGroup::Refused(r)
+            Err(r)
         }
     }
 }
@@ -250,7 +243,7 @@ pub fn reciprocal_rotations(
     rotations: &[i64],
     is_time_reversal: bool,
     out: &mut [i64],
-) -> PointGroup
+) -> Result<usize, Refusal>
     ensures value { result ≡ point_group_answer rotations.now is_time_reversal true (length out.old) }
     ensures out_after { out.new ≡ point_group_written rotations.now is_time_reversal true (length out.old) }
 {

@@ -6,8 +6,7 @@ use Prim.Native.Nat.{ℕ}
 use lib.IntN.{ℤ}
 use Rattle.integer.proofs.Test.{holds}
 use Rattle.common.specs.Array.{matrices}
-use Rattle.common.specs.Tested.{require, after}
-use Rattle.common.specs.declared.Tested.TheVariants.{Accepted}
+use Rattle.common.specs.Tested.{require, after, Accepted}
 use Rattle.common.specs.declared.Refusal.TheVariants.{NotGroup}
 use Rattle.common.proofs.Tests.{passed, both-accepted}
 use Rattle.grgrid.proofs.MatrixGroup.{MatrixGroup}

@@ -4,9 +4,10 @@ use mathlib.Core.Bool.{true, false}
 use mathlib.Core.List.{[], ◌∷◌}
 use lib.IntN.{ℤ, pos, negsuc}
 use lib.ListN.{replicate}
+use Rattle.std.specs.Prelude.{Err}
+use Rattle.common.specs.Tested.{Accepted}
 use Rattle.common.specs.Matrix.{Mat, diagonal, identity, inversion}
 use Rattle.common.specs.Array.{flat}
-use Rattle.common.specs.declared.Tested.TheVariants.{Accepted, Refused}
 use Rattle.common.specs.declared.Refusal.TheVariants.{OutsideLimits, WrongLength, NotGroup}
 use Rattle.rotation_group.specs.Group.{is_group}
 use Rattle.rotation_group.specs.ReciprocalGroup.{reciprocal_tests}
@@ -52,19 +53,19 @@ unfolding is_group
 four = refl
 
 -- ---- the tests of the reciprocal step, in order: 13, 3, 18
-short : reciprocal_tests (replicate 8 (pos 0)) false 432 ≡ Refused WrongLength
+short : reciprocal_tests (replicate 8 (pos 0)) false 432 ≡ Err WrongLength
 unfolding reciprocal_tests
 short = refl
 
-little-room : reciprocal_tests [] false 431 ≡ Refused WrongLength
+little-room : reciprocal_tests [] false 431 ≡ Err WrongLength
 unfolding reciprocal_tests
 little-room = refl
 
-large : reciprocal_tests (replicate 9 (pos 100001)) false 432 ≡ Refused OutsideLimits
+large : reciprocal_tests (replicate 9 (pos 100001)) false 432 ≡ Err OutsideLimits
 unfolding reciprocal_tests
 large = refl
 
-no-rotations : reciprocal_tests [] false 432 ≡ Refused NotGroup
+no-rotations : reciprocal_tests [] false 432 ≡ Err NotGroup
 unfolding reciprocal_tests
 no-rotations = refl
 
@@ -79,6 +80,6 @@ third = record { a = pos 0; b = negsuc 0; c = pos 0; d = pos 0; e = pos 0; f = n
 abbrev third_back : Mat ℤ
 third_back = record { a = pos 0; b = pos 0; c = negsuc 0; d = negsuc 0; e = pos 0; f = pos 0; g = pos 0; h = negsuc 0; i = pos 0 }
 
-as-given : reciprocal_tests (flat (identity ∷ third ∷ third_back ∷ [])) true 432 ≡ Refused NotGroup
+as-given : reciprocal_tests (flat (identity ∷ third ∷ third_back ∷ [])) true 432 ≡ Err NotGroup
 unfolding reciprocal_tests
 as-given = refl

@@ -5,16 +5,13 @@ use mathlib.Core.List.{List}
 use Prim.Native.Nat.{ℕ, ◌≤◌}
 use lib.IntN.{ℤ, negsuc}
 use lib.ListN.{length, replicate}
+use Rattle.std.specs.Prelude.{Result, Ok, Err}
 use Rattle.common.specs.Matrix.{Mat}
 use Rattle.common.specs.Array.{matrices}
-use Rattle.common.specs.Tested.{after, output_of}
-use Rattle.common.specs.declared.Tested.{Tested}
-use Rattle.common.specs.declared.Tested.TheVariants.{Accepted, Refused}
+use Rattle.common.specs.Tested.{after, output_of, Tested, Accepted}
 use Rattle.common.specs.declared.Refusal.{Refusal}
 use Rattle.recip_rotations.specs.Flat.{laid}
 use Rattle.recip_rotations.specs.PointGroup.{room_tests, point_group, answer_for, count_of, point_group_answer, point_group_written}
-use Rattle.recip_rotations.specs.declared.PointGroup.{PointGroup}
-use Rattle.recip_rotations.specs.declared.PointGroup.TheVariants as answer
 use Rattle.recip_rotations.proofs.Answered.{was-accepted, was-refused}
 use Rattle.recip_rotations.proofs.Room.{count-few}
 use Rattle.rotation_group.specs.ReciprocalGroup.{given_tests, reciprocal_tests, reciprocal_answer, reciprocal_written}
@@ -24,19 +21,19 @@ module _ (l : List ℤ) (time : Bool) (n : ℕ) where
   abbrev group : List (Mat ℤ)
   group = point_group (matrices l) time true
 
-  abbrev answered : Tested → PointGroup
+  abbrev answered : Tested → Result ℕ Refusal
   answered t = answer_for t (length group)
 
   abbrev written : Tested → List ℤ
   written t = output_of t n (laid group (replicate n (negsuc 0)))
 
   -- ---- the list as given is refused
-  module _ {r : Refusal} (e : given_tests l n ≡ Refused r) where
-    refused-tests : reciprocal_tests l time n ≡ Refused r
+  module _ {r : Refusal} (e : given_tests l n ≡ Err r) where
+    refused-tests : reciprocal_tests l time n ≡ Err r
     unfolding reciprocal_tests
     refused-tests = ap (λ t. after t (room_tests (matrices l) time true)) e
 
-    pub refused-answer : answer.Refused r ≡ reciprocal_answer l time n
+    pub refused-answer : Err r ≡ reciprocal_answer l time n
     unfolding reciprocal_answer
     refused-answer = sym (ap answered refused-tests)
 
@@ -55,18 +52,18 @@ module _ (l : List ℤ) (time : Bool) (n : ℕ) where
     group-written = sym (ap written (same_tests l time n e))
 
   -- ---- the tests, from the answer
-  module _ {k : ℕ} (e : reciprocal_answer l time n ≡ answer.Rotations k) where
+  module _ {k : ℕ} (e : reciprocal_answer l time n ≡ Ok k) where
     pub tests-accepted : reciprocal_tests l time n ≡ Accepted
     unfolding reciprocal_answer
     tests-accepted = was-accepted (reciprocal_tests l time n) (length group) k (sym e)
 
-    pub same_answer : point_group_answer l time true n ≡ answer.Rotations k
+    pub same_answer : point_group_answer l time true n ≡ Ok k
     same_answer = group-answer (given l time n tests-accepted) ∙ e
 
     pub same-written : reciprocal_written l time n ≡ point_group_written l time true n
     same-written = sym (group-written (given l time n tests-accepted))
 
-  pub tests-refused : {r : Refusal} → answer.Refused r ≡ reciprocal_answer l time n → reciprocal_tests l time n ≡ Refused r
+  pub tests-refused : {r : Refusal} → Err r ≡ reciprocal_answer l time n → reciprocal_tests l time n ≡ Err r
   unfolding reciprocal_answer
   tests-refused e = was-refused (reciprocal_tests l time n) (length group) e
 

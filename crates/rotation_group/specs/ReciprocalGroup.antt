@@ -1,14 +1,12 @@
 -- `reciprocal_group`, the reciprocal step of the chain: `reciprocal_rotations` of a list that must be a group as given. The tests, the answer
 -- and the output, which has n places.
-use Rattle.std.specs.Prelude.{Bool, true, List, ℕ, ℤ, negsuc, length, replicate}
+use Rattle.std.specs.Prelude.{Bool, true, List, ℕ, ℤ, negsuc, length, replicate, Result}
+use Rattle.common.specs.declared.Refusal.{Refusal}
 use Rattle.common.specs.Array.{matrices}
-use Rattle.common.specs.Tested.{require, after, output_of}
-use Rattle.common.specs.declared.Tested.{Tested}
-use Rattle.common.specs.declared.Tested.TheVariants.{Accepted}
+use Rattle.common.specs.Tested.{require, after, output_of, Tested, Accepted}
 use Rattle.common.specs.declared.Refusal.TheVariants.{NotGroup}
 use Rattle.recip_rotations.specs.Flat.{laid}
 use Rattle.recip_rotations.specs.PointGroup.{input_tests, room_tests, point_group, answer_for}
-use Rattle.recip_rotations.specs.declared.PointGroup.{PointGroup}
 use Rattle.rotation_group.specs.Group.{is_group}
 
 -- of the list as given: lengths and limits, then whether it is a group
@@ -21,7 +19,7 @@ module _ (rotations : List ℤ) (time_reversal : Bool) (n : ℕ) where
   unfolding given_tests room_tests
   reciprocal_tests = after (given_tests rotations n) (room_tests (matrices rotations) time_reversal true)
 
-  unfoldable pub reciprocal_answer : PointGroup
+  unfoldable pub reciprocal_answer : Result ℕ Refusal
   unfolding reciprocal_tests point_group
   reciprocal_answer = answer_for reciprocal_tests (length (point_group (matrices rotations) time_reversal true))
 

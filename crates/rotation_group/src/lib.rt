@@ -10,8 +10,7 @@ ghost use Rattle.common.specs.Limits.{all_within};
 ghost use Rattle.rotation_group.specs.Group.{is_group};
 ghost use Rattle.rotation_group.specs.ReciprocalGroup.{given_tests, reciprocal_answer, reciprocal_written};
 
-use common::{Refusal, Tested};
-use recip_rotations::PointGroup;
+use common::Refusal;
 
 // Within the limits; a part of a matrix at the end does not count.
 pub fn is_group(rotations: &[i64]) -> bool
@@ -33,32 +32,32 @@ pub fn is_group(rotations: &[i64]) -> bool
 }
 
 // Of the list as given.
-fn given_tests(rotations: &[i64], places: usize) -> Tested
+fn given_tests(rotations: &[i64], places: usize) -> Result<(), Refusal>
     ensures { result ≡ given_tests rotations.now places }
 {
     match recip_rotations::input_tests(rotations, places) {
-        Tested::Accepted => {
+        Ok(()) => {
             if is_group(rotations) {
-                return Tested::Accepted;
+                return Ok(());
             }
-            Tested::Refused(Refusal::NotGroup)
+            Err(Refusal::NotGroup)
         }
-        Tested::Refused(r) => Tested::Refused(r),
+        Err(r) => Err(r),
     }
 }
 
 // `reciprocal_rotations` of a list that must be a group as given: the reciprocal step of the chain.
-pub fn reciprocal_group(rotations: &[i64], is_time_reversal: bool, out: &mut [i64]) -> PointGroup
+pub fn reciprocal_group(rotations: &[i64], is_time_reversal: bool, out: &mut [i64]) -> Result<usize, Refusal>
     ensures value { result ≡ reciprocal_answer rotations.now is_time_reversal (length out.old) }
     ensures out_after { out.new ≡ reciprocal_written rotations.now is_time_reversal (length out.old) }
 {
     match given_tests(rotations, out.len()) {
-        Tested::Accepted => {
+        Ok(()) => {
             recip_rotations::reciprocal_rotations(rotations, is_time_reversal, out)
         }
-        Tested::Refused(r) => {
+        Err(r) => {
             common::fill(out, -1);
-            PointGroup::Refused(r)
+            Err(r)
         }
     }
 }

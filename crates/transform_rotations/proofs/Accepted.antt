@@ -7,11 +7,11 @@ use lib.Dec.{T, leb, eqb}
 use lib.IntN.{ℤ}
 use lib.Ieee.{Float, binary64, of_int}
 use lib.ListN.{length}
+use Rattle.common.specs.Tested.{Accepted}
 use Rattle.integer.proofs.Test.{holds, and_l, and_r}
 use Rattle.common.specs.Matrix.{Vec, Mat, map_vec, entries}
 use Rattle.common.specs.Array.{matrix_of}
 use Rattle.common.specs.Limits.{all_within, matrix_within, whole_matrices, diagonal_fits}
-use Rattle.common.specs.declared.Tested.TheVariants.{Accepted}
 use Rattle.common.specs.declared.Refusal.TheVariants.{OutsideLimits, WrongLength}
 use Rattle.common.proofs.Tests.{passed}
 use Rattle.transform_rotations.specs.Transform.{to_d, inverse_d, transform_d, is_whole, rounded}

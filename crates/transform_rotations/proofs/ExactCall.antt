@@ -11,13 +11,12 @@ use Prim.Native.Nat.{ℕ}
 use native.Mathlib.Omega.{arith}
 use lib.Dec.{T, leb}
 use lib.IntN.{ℤ, pos, nat_abs}
+use Rattle.std.specs.Prelude.{Err}
 use Rattle.integer.proofs.Test.{and_l, and_r, and_in, holds, is_true}
 use Rattle.common.specs.Matrix.{Axis, X, Y, Z, Vec, Mat, side, entries, diagonal}
 use Rattle.common.specs.Array.{along, vector_of, sides_of, matrix_of, matrices, flat}
 use Rattle.common.specs.Limits.{side_fits, diagonal_fits}
-use Rattle.common.specs.Tested.{require, output_of, after}
-use Rattle.common.specs.declared.Tested.{Tested}
-use Rattle.common.specs.declared.Tested.TheVariants.{Accepted}
+use Rattle.common.specs.Tested.{require, output_of, after, Tested, Accepted}
 use Rattle.common.specs.declared.Refusal.{Refusal}
 use Rattle.common.specs.declared.Refusal.TheVariants.{SymmetryBroken}
 use Rattle.common.proofs.Matrix.{axes-of, same-vector}
@@ -30,8 +29,6 @@ use Rattle.grgrid.proofs.Acting.{grid}
 use Rattle.grgrid.proofs.Accepted.{grid-fits}
 use Rattle.transform_rotations.specs.Transform.{transform_d, is_whole, rounded}
 use Rattle.transform_rotations.specs.TransformRotations.{all_whole, transformed_list, input_tests, transform_tests, answer_for, transform_answer, transform_written}
-use Rattle.transform_rotations.specs.declared.Transformed.TheVariants as answer
-use Rattle.transform_rotations.specs.declared.Transformed.TheVariants.{Written}
 
 -- ---- the diagonal numbers
 pub sides-fit : (d : List ℤ) → T (diagonal_fits d) → (k : Axis) → T (side_fits (side (vector_of d) k))
@@ -66,11 +63,11 @@ module _ (rotations d : List ℤ) (q : List (List ℤ)) (n : ℕ) where
   whole = require (all_whole (vector_of d) (matrix_of q) (matrices rotations)) SymmetryBroken Accepted
 
   -- an accepted call
-  pub written-tests : transform_answer rotations d q n ≡ Written → transform_tests rotations d q n ≡ Accepted
+  pub written-tests : transform_answer rotations d q n ≡ Accepted → transform_tests rotations d q n ≡ Accepted
   unfolding transform_answer
   written-tests e = passed-by answer_for not_written (transform_tests rotations d q n) e
     where
-      not_written : (r : Refusal) → ¬ (answer.Refused r ≡ Written)
+      not_written : (r : Refusal) → ¬ (Err r ≡ Accepted)
       not_written r e = let z : ◌≡◌ {A = ℕ} 0 1 = cc in omega arith
 
   pub tests-input : transform_tests rotations d q n ≡ Accepted → input_tests rotations d q n ≡ Accepted

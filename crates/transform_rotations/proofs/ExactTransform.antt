@@ -10,12 +10,12 @@ use lib.Dec.{T, lit≤, not_T}
 use lib.IntN.{ℤ, pos, nat_abs}
 use lib.ListN.{length}
 use lib.Ieee.{binary64, of_int}
+use Rattle.common.specs.Tested.{Accepted}
 use Rattle.float.proofs.Whole.{eq→whole}
 use Rattle.common.specs.Matrix.{Vec, Mat, det_over, ◌·◌, det, diagonal, identity, negate, inverse}
 use Rattle.common.specs.Array.{vector_of, sides_of, matrix_of, matrices, flat}
 use Rattle.common.specs.Limits.{matrix_within, diagonal_fits}
 use Rattle.common.specs.FloatMatrix.{floats}
-use Rattle.common.specs.declared.Tested.TheVariants.{Accepted}
 use Rattle.common.proofs.Bounds.{matrix-sizes, sizes-within}
 use Rattle.common.proofs.Reading.{matrices-flat, read_small}
 use Rattle.common.proofs.Unimodular.{Regular, Unimodular, regular-product, unimodular-regular, unimodular-inverse, cancel_left, cancel_right, similar-identity, similar-product, similar-negate, similar-det, conjugate-similar}

@@ -1,17 +1,13 @@
 -- `transform_rotations`: the tests, the answer and the output, which has n places.
-use Rattle.std.specs.Prelude.{Bool, true, not, ◌&&◌, List, [], ◌∷◌, ℕ, leb, eqb, ℤ, pos, length}
+use Rattle.std.specs.Prelude.{Bool, true, not, ◌&&◌, List, [], ◌∷◌, ℕ, leb, eqb, ℤ, pos, length, Ok, Err}
 use Rattle.std.specs.Float.{binary64}
 use Rattle.std.specs.Float.Ieee.{of_int, eq}
 use Rattle.common.specs.Matrix.{Vec, Mat, entries, det_over}
 use Rattle.common.specs.Array.{vector_of, matrix_of, matrices}
 use Rattle.common.specs.FloatMatrix.{floats}
 use Rattle.common.specs.Limits.{all_within, matrix_within, whole_matrices, diagonal_fits}
-use Rattle.common.specs.Tested.{require, output_of, after}
-use Rattle.common.specs.declared.Tested.{Tested}
-use Rattle.common.specs.declared.Tested.TheVariants.{Accepted, Refused}
+use Rattle.common.specs.Tested.{require, output_of, after, Tested, Accepted}
 use Rattle.common.specs.declared.Refusal.TheVariants.{OutsideLimits, SingularQ, SymmetryBroken, WrongLength}
-use Rattle.transform_rotations.specs.declared.Transformed.{Transformed}
-use Rattle.transform_rotations.specs.declared.Transformed.TheVariants as answer
 use Rattle.transform_rotations.specs.Transform.{to_d, transform_d, is_whole, rounded}
 
 -- det Q, as f64 has it, is 0
@@ -42,11 +38,11 @@ unfoldable pub transform_tests : List ℤ → List ℤ → List (List ℤ) → �
 unfolding input_tests
 transform_tests rotations d q n = after (input_tests rotations d q n) (require (all_whole (vector_of d) (matrix_of q) (matrices rotations)) SymmetryBroken Accepted)
 
-abbrev pub answer_for : Tested → Transformed
-answer_for Accepted = answer.Written
-answer_for (Refused r) = answer.Refused r
+abbrev pub answer_for : Tested → Tested
+answer_for (Ok _) = Accepted
+answer_for (Err r) = Err r
 
-unfoldable pub transform_answer : List ℤ → List ℤ → List (List ℤ) → ℕ → Transformed
+unfoldable pub transform_answer : List ℤ → List ℤ → List (List ℤ) → ℕ → Tested
 unfolding transform_tests
 transform_answer rotations d q n = answer_for (transform_tests rotations d q n)
 

@@ -5,17 +5,17 @@ ghost use Rattle.std.specs.Prelude.{◌≡◌, true, ◌&&◌, [], ◌+◌, ◌*
 ghost use Rattle.std.specs.Float.{nan, binary64};
 ghost use Rattle.std.specs.Float.Ieee.{div};
 ghost use Rattle.std.proofs.lemmas.List.Edits.{sets};
+ghost use Rattle.common.specs.Tested.{Accepted};
 ghost use Rattle.float.specs.Rounding.{nint_of};
 ghost use Rattle.common.specs.Matrix.{all_axes, cross, entries, map_vec};
 ghost use Rattle.common.specs.Array.{number, along, vector_of, items, matrix_of, rows, row_at, matrix_at, matrices};
 ghost use Rattle.common.specs.FloatMatrix.{floats, row_d, float_vector, float_matrix};
 ghost use Rattle.common.specs.Limits.{all_within, matrix_within, whole_matrices, diagonal_fits};
-ghost use Rattle.common.specs.declared.Tested.TheVariants.{Accepted};
 ghost use Rattle.transform_rotations.specs.Transform.{to_d, rounded};
 ghost use Rattle.transform_rotations.specs.TransformRotations.{singular_q, all_whole, transformed_list, input_tests, transform_tests, transform_answer, transform_written};
 ghost use Rattle.transform_rotations.specs.Steps.{inverse_row, inverse_over, scaled_row, transform_over, transform_by, near, all_near, whole_by, list_by};
 
-use common::{Refusal, Tested};
+use common::Refusal;
 
 const IDENTITY_TOL: f64 = 0.00001;
 
@@ -253,46 +253,40 @@ fn entries_fit(rotations: &[i64], d: [i64; 3], q: [[i64; 3]; 3]) -> bool
     common::diagonal_fits(d)
 }
 
-fn input_tests(rotations: &[i64], d: [i64; 3], q: [[i64; 3]; 3], places: usize) -> Tested
+fn input_tests(rotations: &[i64], d: [i64; 3], q: [[i64; 3]; 3], places: usize) -> Result<(), Refusal>
     ensures { result ≡ input_tests rotations.now d q places }
 {
     if !common::whole_matrices(rotations) {
-        return Tested::Refused(Refusal::WrongLength);
+        return Err(Refusal::WrongLength);
     }
     if rotations.len() > 1728 {
-        return Tested::Refused(Refusal::OutsideLimits);
+        return Err(Refusal::OutsideLimits);
     }
     if places != rotations.len() {
-        return Tested::Refused(Refusal::WrongLength);
+        return Err(Refusal::WrongLength);
     }
     if !entries_fit(rotations, d, q) {
-        return Tested::Refused(Refusal::OutsideLimits);
+        return Err(Refusal::OutsideLimits);
     }
     if singular_q(q) {
-        return Tested::Refused(Refusal::SingularQ);
+        return Err(Refusal::SingularQ);
     }
-    Tested::Accepted
-}
-
-#[derive(Clone, Copy)]
-pub enum Transformed {
-    Written,
-    Refused(Refusal),
+    Ok(())
 }
 
 // With the tests of the input. A refusal may leave anything in the output.
-fn transform_tests(rotations: &[i64], d: [i64; 3], q: [[i64; 3]; 3], out: &mut [i64]) -> Tested
+fn transform_tests(rotations: &[i64], d: [i64; 3], q: [[i64; 3]; 3], out: &mut [i64]) -> Result<(), Refusal>
     ensures value { result ≡ transform_tests rotations.now d q (length out.old) }
     ensures out_after { result ≡ Accepted → out.new ≡ transformed_list (vector_of d) (matrix_of q) (matrices rotations.now) }
 {
     match input_tests(rotations, d, q, out.len()) {
-        Tested::Accepted => {
+        Ok(()) => {
             if transform_all(rotations, d, q, out) {
-                return Tested::Accepted;
+                return Ok(());
             }
-            Tested::Refused(Refusal::SymmetryBroken)
+            Err(Refusal::SymmetryBroken)
         }
-        Tested::Refused(r) => Tested::Refused(r),
+        Err(r) => Err(r),
     }
 }
 
@@ -302,15 +296,15 @@ pub fn transform_rotations(
     d: [i64; 3],
     q: [[i64; 3]; 3],
     out: &mut [i64],
-) -> Transformed
+) -> Result<(), Refusal>
     ensures value { result ≡ transform_answer rotations.now d q (length out.old) }
     ensures out_after { out.new ≡ transform_written rotations.now d q (length out.old) }
 {
     match transform_tests(rotations, d, q, out) {
-        Tested::Accepted => Transformed::Written,
-        Tested::Refused(r) => {
+        Ok(()) => Ok(()),
+        Err(r) => {
             common::fill(out, -1);
-            Transformed::Refused(r)
+            Err(r)
         }
     }
 }

@@ -7,21 +7,19 @@ use lib.Dec.{T, eqb}
 use lib.IntN.{ℤ, pos, nat_abs}
 use lib.Signed.{non_neg}
 use borrow.Author.Tests.{eqb-true}
+use Rattle.std.specs.Prelude.{Result, Err}
 use Rattle.integer.proofs.Test.{holds, and_l, and_r, is_true}
 use Rattle.common.specs.Array.{sides_of, matrices}
 use Rattle.common.specs.Limits.{whole_matrices, rotations_fit, diagonal_fits, point_fits}
-use Rattle.common.specs.Tested.{output_of, after}
+use Rattle.common.specs.Tested.{output_of, after, Tested, Accepted}
 use Rattle.common.specs.declared.Refusal.{Refusal}
 use Rattle.common.specs.declared.Refusal.TheVariants.{OutsideLimits, WrongLength}
-use Rattle.common.specs.declared.Tested.{Tested}
-use Rattle.common.specs.declared.Tested.TheVariants.{Accepted, Refused}
 use Rattle.common.proofs.Tests.{passed}
 use Rattle.grgrid.specs.Grid.{size}
 use Rattle.grgrid.specs.ClassMap.{kept}
 use Rattle.grgrid.proofs.Accepted.{point-inside}
 use Rattle.recip_rotations.specs.PointGroup.{room_tests}
 use Rattle.triplet_grid.specs.IrTriplets.{map_triplets_of, input_tests, triplet_tests, classes_at, answer_for, ir_triplets_answer, map_triplets_written, map_qwritten}
-use Rattle.triplet_grid.specs.declared.IrTriplets.{IrTriplets}
 
 pub record InputAccepted (q0 : ℤ) (d rotations : List ℤ) (n m : ℕ) : Type 0 where
   pub whole : T (whole_matrices rotations)
@@ -56,7 +54,7 @@ module _ (q0 : ℤ) (d rotations : List ℤ) (time : Bool) (n m : ℕ) where
   abbrev room : Tested
   room = room_tests (matrices rotations) time false
 
-  pub input-refused : {r : Refusal} → input_tests q0 d rotations n m ≡ Refused r → Refused r ≡ triplet_tests q0 d rotations time n m
+  pub input-refused : {r : Refusal} → input_tests q0 d rotations n m ≡ Err r → Err r ≡ triplet_tests q0 d rotations time n m
   unfolding triplet_tests
   input-refused e = sym (ap (λ t. after t room) e)
 
@@ -72,7 +70,7 @@ module _ (q0 : ℤ) (d rotations : List ℤ) (time : Bool) (n m : ℕ) where
     abbrev all : List ℕ
     all = map_triplets_of swappable (sides_of d) (nat_abs q0) here
 
-    pub outcome : {t : Tested} → t ≡ triplet_tests q0 d rotations time n m → {answer : IrTriplets} {triplets classes : List ℤ}
+    pub outcome : {t : Tested} → t ≡ triplet_tests q0 d rotations time n m → {answer : Result ℤ Refusal} {triplets classes : List ℤ}
         → answer ≡ answer_for t (kept all (size (sides_of d))) → triplets ≡ output_of t n (map pos all) → classes ≡ output_of t m (map pos here)
         → (answer ≡ ir_triplets_answer q0 d rotations time swappable n m) × ((triplets ≡ map_triplets_written q0 d rotations time swappable n m) × (classes ≡ map_qwritten q0 d rotations time swappable n m))
     unfolding ir_triplets_answer map_triplets_written map_qwritten

@@ -7,30 +7,29 @@ use lib.Dec.{T, leb}
 use lib.IntN.{ℤ, negsuc}
 use lib.ListN.{length, replicate}
 use borrow.Author.Tests.{eq-eqb}
+use Rattle.std.specs.Prelude.{Result, Ok, Err}
 use Rattle.integer.proofs.Test.{is_true, and_r}
 use Rattle.common.specs.Matrix.{Mat}
 use Rattle.common.specs.Array.{matrices_from, matrices}
 use Rattle.common.specs.Limits.{all_within, whole_matrices, rotations_fit}
-use Rattle.common.specs.Tested.{output_of}
+use Rattle.common.specs.Tested.{output_of, Accepted, giving}
 use Rattle.common.specs.declared.Refusal.{Refusal}
-use Rattle.common.specs.declared.Tested.TheVariants as tested
 use Rattle.common.proofs.Reading.{read-flat}
+use Rattle.common.proofs.Tests.{same-ok}
 use Rattle.recip_rotations.specs.Flat.{laid}
-use Rattle.recip_rotations.specs.PointGroup.{answer_for, room_tests, group_tests, point_group, point_group_answer, point_group_written}
-use Rattle.recip_rotations.specs.declared.PointGroup.{PointGroup}
-use Rattle.recip_rotations.specs.declared.PointGroup.TheVariants.{Rotations, Refused}
+use Rattle.recip_rotations.specs.PointGroup.{room_tests, group_tests, point_group, point_group_answer, point_group_written}
 use Rattle.recip_rotations.proofs.Answered.{was-accepted, was-refused}
 use Rattle.recip_rotations.proofs.Room.{room}
 use Rattle.recip_rotations.proofs.Sizes.{within-told}
 
 -- of rotations s: k matrices at the front of the output
 pub record Told (s : List ℤ) (time : Bool) (out : List ℤ) (k : ℕ) : Type 0 where
-  pub accepted : tested.Accepted ≡ room_tests (matrices s) time false
+  pub accepted : Accepted ≡ room_tests (matrices s) time false
   pub few : k ≤ 48
   pub within : T (all_within 100000 out)
   pub read : matrices_from out 0 k ≡ point_group (matrices s) time false
 
-module _ (s : List ℤ) (time : Bool) (w : T (whole_matrices s)) (f : T (rotations_fit 100000 s)) (n : ℕ) (h : n ≡ 432) {r : PointGroup} (a : r ≡ point_group_answer s time false n) where
+module _ (s : List ℤ) (time : Bool) (w : T (whole_matrices s)) (f : T (rotations_fit 100000 s)) (n : ℕ) (h : n ≡ 432) {r : Result ℕ Refusal} (a : r ≡ point_group_answer s time false n) where
   abbrev told : List (Mat ℤ)
   told = point_group (matrices s) time false
 
@@ -38,18 +37,18 @@ module _ (s : List ℤ) (time : Bool) (w : T (whole_matrices s)) (f : T (rotatio
   unfolding group_tests
   tests = rw (is_true (whole_matrices s) w, eq-eqb n 432 h, is_true (rotations_fit 100000 s) f)
 
-  answered : r ≡ answer_for (room_tests (matrices s) time false) (length told)
+  answered : r ≡ giving (room_tests (matrices s) time false) (length told)
   unfolding point_group_answer
-  answered = a ∙ ap (λ t. answer_for t (length told)) tests
+  answered = a ∙ ap (λ t. giving t (length told)) tests
 
-  pub refused : {x : Refusal} → r ≡ Refused x → tested.Refused x ≡ room_tests (matrices s) time false
+  pub refused : {x : Refusal} → r ≡ Err x → Err x ≡ room_tests (matrices s) time false
   refused e = sym (was-refused (room_tests (matrices s) time false) (length told) (sym e ∙ answered))
 
-  pub group-told : {k : ℕ} → r ≡ Rotations k → {out : List ℤ} → out ≡ point_group_written s time false n → Told s time out k
+  pub group-told : {k : ℕ} → r ≡ Ok k → {out : List ℤ} → out ≡ point_group_written s time false n → Told s time out k
   unfolding point_group_written
   group-told {k} e {out} o =
-      let room-is : tested.Accepted ≡ room_tests (matrices s) time false = sym (was-accepted (room_tests (matrices s) time false) (length told) k (sym e ∙ answered)) in
-      let count : k ≡ length told = same k (length told) (sym e ∙ answered ∙ ap (λ t. answer_for t (length told)) (sym room-is)) in
+      let room-is : Accepted ≡ room_tests (matrices s) time false = sym (was-accepted (room_tests (matrices s) time false) (length told) k (sym e ∙ answered)) in
+      let count : k ≡ length told = same-ok (sym e ∙ answered ∙ ap (λ t. giving t (length told)) (sym room-is)) in
       let held : out ≡ laid told (replicate n (negsuc 0)) = o ∙ ap (λ t. output_of t n (laid told (replicate n (negsuc 0)))) (tests ∙ sym room-is) in
       record {
         accepted = room-is;
@@ -57,6 +56,3 @@ module _ (s : List ℤ) (time : Bool) (w : T (whole_matrices s)) (f : T (rotatio
         within = rw held (within-told s (and_r (leb (length s) 1728) (all_within 100000 s) f) false time n);
         read = ap₂ (λ o k. matrices_from o 0 k) held count ∙ read-flat told _;
       }
-    where
-      same : (i j : ℕ) → Rotations i ≡ Rotations j → i ≡ j
-      same i j e = cc

@@ -1,19 +1,16 @@
 -- `ir_triplets_at_q`: the tests, in document 01's order, the answer and the two outputs, which have n and m places.
-use Rattle.std.specs.Prelude.{Bool, true, false, ◌&&◌, List, map, ℕ, eqb, ltb, ℤ, pos, nat_abs, get_or}
+use Rattle.std.specs.Prelude.{Bool, true, false, ◌&&◌, List, map, ℕ, eqb, ltb, ℤ, pos, nat_abs, get_or, Result, Ok, Err}
+use Rattle.common.specs.declared.Refusal.{Refusal}
 use Rattle.integer.specs.Checked.{pick}
 use Rattle.common.specs.Matrix.{Vec, Mat, origin}
 use Rattle.common.specs.Array.{sides_of, matrices}
 use Rattle.common.specs.Limits.{whole_matrices, rotations_fit, diagonal_fits, point_fits}
-use Rattle.common.specs.Tested.{require, output_of, after}
-use Rattle.common.specs.declared.Tested.{Tested}
-use Rattle.common.specs.declared.Tested.TheVariants.{Accepted, Refused}
+use Rattle.common.specs.Tested.{require, output_of, after, Tested, Accepted}
 use Rattle.common.specs.declared.Refusal.TheVariants.{OutsideLimits, WrongLength}
 use Rattle.grgrid.specs.Grid.{size}
 use Rattle.grgrid.specs.Build.{build}
 use Rattle.grgrid.specs.ClassMap.{class_map_of, kept}
 use Rattle.recip_rotations.specs.PointGroup.{point_group, room_tests}
-use Rattle.triplet_grid.specs.declared.IrTriplets.{IrTriplets}
-use Rattle.triplet_grid.specs.declared.IrTriplets.TheVariants as answer
 use Rattle.triplet_grid.specs.Partner.{stabilizer, partner}
 
 -- the class map of the operations that keep q0
@@ -54,9 +51,8 @@ unfoldable pub classes_at : ℕ → Vec ℕ → List (Mat ℤ) → Bool → List
 unfolding map_q_of point_group
 classes_at q0 d l time_reversal = map_q_of d q0 (point_group l time_reversal false)
 
-abbrev pub answer_for : Tested → ℕ → IrTriplets
-answer_for Accepted n = answer.Classes (pos n)
-answer_for (Refused r) n = answer.Refused r
+abbrev pub answer_for : Tested → ℕ → Result ℤ Refusal
+answer_for t n = giving t (pos n)
 
 module _ (q0 : ℤ) (d rotations : List ℤ) (time_reversal swappable : Bool) (n m : ℕ) where
   abbrev tests : Tested
@@ -68,7 +64,7 @@ module _ (q0 : ℤ) (d rotations : List ℤ) (time_reversal swappable : Bool) (n
   abbrev triplets : List ℕ
   triplets = map_triplets_of swappable (sides_of d) (nat_abs q0) here
 
-  unfoldable pub ir_triplets_answer : IrTriplets
+  unfoldable pub ir_triplets_answer : Result ℤ Refusal
   unfolding triplet_tests classes_at map_triplets_of
   ir_triplets_answer = answer_for tests (kept triplets (size (sides_of d)))
 

@@ -1,31 +1,22 @@
 // Irreducible triplet search on a generalized regular grid.
 #![tactic(auto)]
 
-ghost use Rattle.std.specs.Prelude.{◌≡◌, true, false, [], map, ◌+◌, ◌*◌, ◌≤◌, ◌<◌, T, pos, negsuc, nat_abs, length, get_or, replicate};
+ghost use Rattle.std.specs.Prelude.{◌≡◌, true, false, [], map, ◌+◌, ◌*◌, ◌≤◌, ◌<◌, T, pos, negsuc, nat_abs, length, get_or, replicate, Err};
 ghost use Rattle.std.proofs.Math.Seq.{paste};
+ghost use Rattle.common.specs.Tested.{Accepted};
 ghost use Rattle.common.specs.Matrix.{entries, ◌▹◌};
 ghost use Rattle.common.specs.Array.{vector_of, matrices_from, matrix_of, items, matrices, Sized, SizedRows};
 ghost use Rattle.common.specs.Limits.{all_within, whole_matrices, rotations_fit};
 ghost use Rattle.grgrid.specs.Grid.{size, index, address};
 ghost use Rattle.grgrid.specs.Sides.{sides, GridFits};
 ghost use Rattle.grgrid.specs.ClassMap.{kept, Numbered};
-ghost use Rattle.common.specs.declared.Tested.TheVariants.{Accepted};
 ghost use Rattle.recip_rotations.specs.Flat.{laid};
 ghost use Rattle.recip_rotations.specs.PointGroup.{room_tests};
-ghost use Rattle.triplet_grid.specs.declared.IrTriplets.TheVariants.{Refused};
 ghost use Rattle.triplet_grid.specs.Partner.{stabilizer, third};
 ghost use Rattle.triplet_grid.specs.IrTriplets.{map_q_of, lower_of, map_triplets_of, input_tests, classes_at, ir_triplets_answer, map_triplets_written, map_qwritten};
 
-use common::{Refusal, Tested};
+use common::Refusal;
 use grgrid::Grid;
-use recip_rotations::PointGroup;
-
-// The number of classes, or why there is none.
-#[derive(Clone, Copy)]
-pub enum IrTriplets {
-    Classes(i64),
-    Refused(Refusal),
-}
 
 // `-a - b`.
 pub fn third(a: [i64; 3], b: [i64; 3]) -> [i64; 3]
@@ -151,26 +142,26 @@ fn ir_triplets_at_q_noperm(map_q: &[i64], map_triplets: &mut [i64])
     }
 }
 
-fn triplet_tests(q0: i64, d: [i64; 3], rotations: &[i64], triplets: usize, classes: usize) -> Tested
+fn triplet_tests(q0: i64, d: [i64; 3], rotations: &[i64], triplets: usize, classes: usize) -> Result<(), Refusal>
     ensures { result ≡ input_tests q0 d rotations.now triplets classes }
 {
     if !common::whole_matrices(rotations) {
-        return Tested::Refused(Refusal::WrongLength);
+        return Err(Refusal::WrongLength);
     }
     if !common::diagonal_fits(d) {
-        return Tested::Refused(Refusal::OutsideLimits);
+        return Err(Refusal::OutsideLimits);
     }
     let n = grgrid::points(grgrid::grid_of(d));
     if triplets != n || classes != n {
-        return Tested::Refused(Refusal::WrongLength);
+        return Err(Refusal::WrongLength);
     }
     if !common::point_fits(q0, n as i64) {
-        return Tested::Refused(Refusal::OutsideLimits);
+        return Err(Refusal::OutsideLimits);
     }
     if !common::rotations_fit(rotations, 100000) {
-        return Tested::Refused(Refusal::OutsideLimits);
+        return Err(Refusal::OutsideLimits);
     }
-    Tested::Accepted
+    Ok(())
 }
 
 // The classes under the operations that keep q0, or why there is no such group.
@@ -180,7 +171,7 @@ fn classes_at(
     rotations: &[i64],
     is_time_reversal: bool,
     map_q: &mut [i64],
-) -> Tested
+) -> Result<(), Refusal>
     requires fact_1 { GridFits (sides g) }
     requires fact_2 { q0 < size (sides g) }
     requires fact_3 { T (whole_matrices rotations.now) }
@@ -196,11 +187,11 @@ fn classes_at(
         false,
         &mut group,
     ) {
-        PointGroup::Rotations(count) => {
+        Ok(count) => {
             number_classes(&mut group, count, g, q0, map_q);
-            Tested::Accepted
+            Ok(())
         }
-        PointGroup::Refused(r) => Tested::Refused(r),
+        Err(r) => Err(r),
     }
 }
 
@@ -226,14 +217,14 @@ fn number_triplets(
     grgrid::own_places(map_triplets) as i64
 }
 
-fn refuse(r: Refusal, map_triplets: &mut [i64], map_q: &mut [i64]) -> IrTriplets
-    ensures value { result ≡ Refused r }
+fn refuse(r: Refusal, map_triplets: &mut [i64], map_q: &mut [i64]) -> Result<i64, Refusal>
+    ensures value { result ≡ Err r }
     ensures map_triplets_after { map_triplets.new ≡ replicate (length map_triplets.old) (negsuc 0) }
     ensures map_q_after { map_q.new ≡ replicate (length map_q.old) (negsuc 0) }
 {
     common::fill(map_triplets, -1);
     common::fill(map_q, -1);
-    IrTriplets::Refused(r)
+    Err(r)
 }
 
 // Search symmetry-reduced triplets at a fixed q-point: `map_q` has the classes under the operations that keep q0, `map_triplets` those of the triplets.
@@ -245,23 +236,23 @@ pub fn ir_triplets_at_q(
     swappable: bool,
     map_triplets: &mut [i64],
     map_q: &mut [i64],
-) -> IrTriplets
+) -> Result<i64, Refusal>
     ensures value { result ≡ ir_triplets_answer q0 d rotations.now is_time_reversal swappable (length map_triplets.old) (length map_q.old) }
     ensures map_triplets_after { map_triplets.new ≡ map_triplets_written q0 d rotations.now is_time_reversal swappable (length map_triplets.old) (length map_q.old) }
     ensures map_q_after { map_q.new ≡ map_qwritten q0 d rotations.now is_time_reversal swappable (length map_triplets.old) (length map_q.old) }
 {
-    if let Tested::Refused(r) = triplet_tests(q0, d, rotations, map_triplets.len(), map_q.len()) {
+    if let Err(r) = triplet_tests(q0, d, rotations, map_triplets.len(), map_q.len()) {
         return refuse(r, map_triplets, map_q);
     }
     let g = grgrid::grid_of(d);
     match classes_at(q0 as usize, g, rotations, is_time_reversal, &mut *map_q) {
-        Tested::Accepted => IrTriplets::Classes(number_triplets(
+        Ok(()) => Ok(number_triplets(
             swappable,
             map_q,
             q0 as usize,
             g,
             map_triplets,
         )),
-        Tested::Refused(r) => refuse(r, map_triplets, map_q),
+        Err(r) => refuse(r, map_triplets, map_q),
     }
 }

@@ -7,38 +7,32 @@ use lib.Dec.{T, leb}
 use lib.IntN.{ℤ, pos, negsuc, nat_abs}
 use lib.ListN.{length, take, length-map}
 use lib.Signed.{non_neg}
+use Rattle.std.specs.Prelude.{Result, Ok, Err}
+use Rattle.common.specs.declared.Refusal.{Refusal}
 use Rattle.common.specs.Matrix.{Vec, Mat}
 use Rattle.common.specs.Array.{matrix_of, matrix_at, matrices, items, rows}
 use Rattle.common.specs.declared.Refusal.TheVariants.{WrongLength}
-use Rattle.common.specs.declared.Tested.{Tested}
-use Rattle.common.specs.declared.Tested.TheVariants.{Accepted, Refused}
 use Rattle.common.proofs.Tests.{passed, not-accepted, both-accepted}
-use Rattle.common.specs.Tested.{after}
+use Rattle.common.specs.Tested.{after, Tested, Accepted}
 use Rattle.snf3x3.specs.Snf3x3.{Answer, refused, diagonalised, snf3x3}
 use Rattle.snf3x3.specs.Written.{written}
 use Rattle.recip_rotations.specs.PointGroup.{point_group, point_group_answer, point_group_written}
 use Rattle.recip_rotations.specs.PointGroup as reciprocal
-use Rattle.recip_rotations.specs.declared.PointGroup.TheVariants.{Rotations}
 use Rattle.rotation_group.specs.ReciprocalGroup.{reciprocal_tests}
 use Rattle.rotation_group.proofs.Accepted.{accepted-joined, accepted-call}
 use Rattle.transform_rotations.specs.TransformRotations.{transform_tests, transform_answer, transform_written}
 use Rattle.transform_rotations.specs.TransformRotations as transforming
-use Rattle.transform_rotations.specs.declared.Transformed.TheVariants as transform
 use Rattle.bzgrid.specs.declared.GridType.{GridType}
 use Rattle.bzgrid.specs.declared.GridType.TheVariants.{Sparse, Dense, Unknown}
 use Rattle.bzgrid.specs.declared.Lengths.{Lengths}
-use Rattle.bzgrid.specs.declared.BzGridAddresses.{BzGridAddresses}
-use Rattle.bzgrid.specs.declared.BzGridAddresses.TheVariants as image
 use Rattle.bzgrid.specs.BzGridAddresses.{grid_type_of, is_known, bz_answer, addresses_written, map_written}
 use Rattle.bztable.specs.Reading.{triple_at, address_of}
 use Rattle.bztable.specs.Access.{number_in, image_places}
 use Rattle.bztable.proofs.AcceptedCall.{CallAccepted, call-accepted, call-stands, call-found}
 use Rattle.triplet_grid.specs.IrTriplets as class
 use Rattle.triplet_grid.specs.IrTriplets.{ir_triplets_answer, map_triplets_written, triplet_tests}
-use Rattle.triplet_grid.specs.declared.IrTriplets.TheVariants as class-answer
 use Rattle.bz_triplets.specs.BzTriplets as triplet
 use Rattle.bz_triplets.specs.BzTriplets.{bz_triplets_answer, triplets_written, triplets_read}
-use Rattle.bz_triplets.specs.declared.BzTriplets.TheVariants as triplet-answer
 use Rattle.bz_triplets.proofs.CallOutcome.{asked-for}
 use Rattle.zone.specs.declared.Finished.{Finished}
 use Rattle.demand3.specs.FinishedList.{Given, as-returned, Starts, Calls}
@@ -59,13 +53,13 @@ whole (pos n) t = refl
 whole (negsuc n) t = absurd t
 
 -- ---- images were built
-built : (a : BzGridAddresses) → images_tested a ≡ Accepted → (l : Lengths) × (a ≡ image.Built l)
-built (image.Built l) e = (l, refl)
-built (image.Refused r) e = absurd (not-accepted e)
+built : (a : Result Lengths Refusal) → images_tested a ≡ Accepted → (l : Lengths) × (a ≡ Ok l)
+built (Ok l) e = (l, refl)
+built (Err r) e = absurd (not-accepted e)
 
 classified-by : (t : Tested) (k : ℕ) → t ≡ Accepted → (z : ℤ) × (class.answer_for t k ≡ class-answer.Classes z)
-classified-by Accepted k e = (pos k, refl)
-classified-by (Refused r) k e = absurd (not-accepted e)
+classified-by (Ok _) k e = (pos k, refl)
+classified-by (Err r) k e = absurd (not-accepted e)
 
 -- ---- where the triplet call starts
 starts-at : (t : GridType) → T (is_known t) → (map : List ℤ) (n q0 : ℕ) → 0 < length (image_places t map n q0) → Starts t map n q0 (nat_abs (start_of t map (pos q0)))
@@ -98,7 +92,7 @@ module _ (j : Job) (r : Rooms) (d : Vec ℤ) (p q : Mat ℤ) (rounds : ℕ) (dia
     unfolding rotation_tests
     both = both-accepted (reciprocal_tests j.rotations j.time_reversal 432) (transform_tests list (items d) (rows q) (length list)) rotations-accepted
 
-    returned : point_group_answer j.rotations j.time_reversal true 432 ≡ Rotations told
+    returned : point_group_answer j.rotations j.time_reversal true 432 ≡ Ok told
     unfolding point_group_answer
     returned = ap (λ t. reciprocal.answer_for t told) (accepted-call j.rotations j.time_reversal 432 both.0)
 
@@ -109,7 +103,7 @@ module _ (j : Job) (r : Rooms) (d : Vec ℤ) (p q : Mat ℤ) (rounds : ℕ) (dia
     given : Given j.time_reversal j.rotations list
     given = subst (Given j.time_reversal j.rotations) told-list (as-returned true 432 told returned)
 
-    transforms : transform_answer list (items d) (rows q) (length list) ≡ transform.Written
+    transforms : transform_answer list (items d) (rows q) (length list) ≡ Accepted
     unfolding transform_answer
     transforms = ap transforming.answer_for both.1
 
@@ -122,10 +116,10 @@ module _ (j : Job) (r : Rooms) (d : Vec ℤ) (p q : Mat ℤ) (rounds : ℕ) (dia
     unfolding grid_tests
     after-room = (passed (leb (points_of g) r.classes) WrongLength (after (image_tests g j.shift r) (list_tests g a m)) grid-accepted).1
 
-    abbrev answer : BzGridAddresses
+    abbrev answer : Result Lengths Refusal
     answer = bz_answer (items d) (rows q) j.shift j.lattice j.type r.addresses r.map r.grg
 
-    builds : (l : Lengths) × (answer ≡ image.Built l)
+    builds : (l : Lengths) × (answer ≡ Ok l)
     unfolding image_tests
     builds = built answer (both-accepted (image_tests g j.shift r) (list_tests g a m) after-room).0
 

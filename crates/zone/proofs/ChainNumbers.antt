@@ -8,9 +8,7 @@ use lib.ListN.{length, get_or, take}
 use lib.Seq.{take_at}
 use Rattle.common.specs.Matrix.{Axis, X, Y, Z, Vec, Mat, side, map_vec}
 use Rattle.common.specs.Array.{matrix_of, matrix_at, items, rows, sides_of}
-use Rattle.common.specs.Tested.{after}
-use Rattle.common.specs.declared.Tested.{Tested}
-use Rattle.common.specs.declared.Tested.TheVariants.{Accepted}
+use Rattle.common.specs.Tested.{after, Tested, Accepted}
 use Rattle.common.specs.declared.Refusal.TheVariants.{WrongLength}
 use Rattle.common.proofs.Tests.{passed, not-accepted, both-accepted}
 use Rattle.grgrid.specs.Grid.{size}

@@ -11,13 +11,12 @@ use lib.Ieee.{Float}
 use lib.ListN.{length, get_or, replicate, length-append, length-replicate, get_or-replicate, get_or-append}
 use lib.Seq.{get_or-append-add}
 use borrow.Author.Tests.{eqb-true}
+use Rattle.std.specs.Prelude.{Ok, Err}
 use Rattle.integer.proofs.Test.{holds, and_l, and_r, is_true}
 use Rattle.common.specs.Array.{matrix_at, matrix_of, rows}
-use Rattle.common.specs.Tested.{require, output_of, after}
+use Rattle.common.specs.Tested.{require, output_of, after, Tested, Accepted}
 use Rattle.common.specs.declared.Refusal.{Refusal}
 use Rattle.common.specs.declared.Refusal.TheVariants.{WrongLength}
-use Rattle.common.specs.declared.Tested.{Tested}
-use Rattle.common.specs.declared.Tested.TheVariants.{Accepted, Refused}
 use Rattle.grgrid.specs.Own.{is_place, own_places}
 use Rattle.snf3x3.specs.declared.Snf.{Snf}
 use Rattle.snf3x3.specs.Snf3x3.{snf3x3}
@@ -79,7 +78,7 @@ module _ (j : Job) (r : Rooms) where
   unfolding chain_answer
   answered e = ap (λ t. answer_for t (diagonal j.matrix) (count (grid_of j))) e
 
-  refused-answer : {x : Refusal} {f : Finished} → f ≡ refused_with x → Refused x ≡ chain_tests j r → f ≡ chain_answer j r
+  refused-answer : {x : Refusal} {f : Finished} → f ≡ refused_with x → Err x ≡ chain_tests j r → f ≡ chain_answer j r
   refused-answer e t = e ∙ answered t
 
   -- ---- the refusals
@@ -98,7 +97,7 @@ module _ (j : Job) (r : Rooms) where
         sym (ap (λ t. after t gridded) (sym (ap (λ s. s.tested) diagonal-is) ∙ e))
         ∙ sym (ap (λ b. require b WrongLength (after (diagonal j.matrix).tested gridded)) h)
 
-    pub diagonal-refused : {x : Refusal} → s.tested ≡ Refused x → {f : Finished} → f ≡ refused_with x → f ≡ chain_answer j r
+    pub diagonal-refused : {x : Refusal} → s.tested ≡ Err x → {f : Finished} → f ≡ refused_with x → f ≡ chain_answer j r
     diagonal-refused e k = refused-answer k (tests-are e)
 
     -- ---- the grid, by what stands for its change of basis, type and q0
@@ -125,7 +124,7 @@ module _ (j : Job) (r : Rooms) where
       stepped-is : stepped ≡ chain_tests j r
       stepped-is = (λ i. after (rotation_tests j.rotations j.time_reversal (side-path i) (change-path i)) (grid_tests (grid-path i) j.shift r)) ∙ tests-are f
 
-      pub grid-refused : {v : Tested} → v ≡ stepped → {x : Refusal} → v ≡ Refused x → {k : Finished} → k ≡ refused_with x → k ≡ chain_answer j r
+      pub grid-refused : {v : Tested} → v ≡ stepped → {x : Refusal} → v ≡ Err x → {k : Finished} → k ≡ refused_with x → k ≡ chain_answer j r
       grid-refused e n k = refused-answer k (sym n ∙ e ∙ stepped-is)
 
       module _ {v : Tested} (ev : v ≡ stepped) (n : v ≡ Accepted) {a b c : List ℤ} {classes points triplets left : List ℤ} {lengths : List Float} (l : Listed (given s.d_diag q u p) j.shift r a b c (lists classes points triplets left lengths)) where
@@ -149,8 +148,8 @@ module _ (j : Job) (r : Rooms) where
   tested-is = again (chain_tests j r)
     where
       again : (t : Tested) → (answer_for t (diagonal j.matrix) (count (grid_of j))).tested ≡ t
-      again Accepted = refl
-      again (Refused x) = refl
+      again (Ok _) = refl
+      again (Err x) = refl
 
   abbrev Left : List ℤ → List ℤ → List ℤ → Lists → Type 0
   Left a b c l = (a ≡ chain_addresses j r) × ((b ≡ chain_map j r) × ((c ≡ chain_grg j r) × (l ≡ chain_lists j r)))
@@ -170,8 +169,8 @@ module _ (j : Job) (r : Rooms) where
     pub left-accepted : f.tested ≡ Accepted → {a b c : List ℤ} {l : Lists} → Listed (grid_of j) j.shift r a b c l → Left a b c l
     left-accepted n k = left_by Accepted (sym n ∙ tests) k.addresses-are k.map_is k.grg-is k.lists-are
 
-    pub left-refused : {x : Refusal} → f.tested ≡ Refused x → {a b c : List ℤ} {l : Lists} → a ≡ replicate r.addresses (negsuc 0) → b ≡ replicate r.map (negsuc 0) → c ≡ replicate r.grg (negsuc 0) → l ≡ wiped r → Left a b c l
-    left-refused {x} n a b c l = left_by (Refused x) (sym n ∙ tests) a b c l
+    pub left-refused : {x : Refusal} → f.tested ≡ Err x → {a b c : List ℤ} {l : Lists} → a ≡ replicate r.addresses (negsuc 0) → b ≡ replicate r.map (negsuc 0) → c ≡ replicate r.grg (negsuc 0) → l ≡ wiped r → Left a b c l
+    left-refused {x} n a b c l = left_by (Err x) (sym n ∙ tests) a b c l
 
 -- by numbers that stand for the type and q0
 pub listed-as : {u type p q0 : ℤ} → u ≡ type → p ≡ q0 → (matrix : List (List ℤ)) (rotations : List ℤ) (lattice : List (List Float)) (shift : List ℤ) (time swappable : Bool) (r : Rooms) {a b c : List ℤ} {l : Lists}

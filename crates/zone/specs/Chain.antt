@@ -1,12 +1,10 @@
 -- The chain of calls: diagonalise, take the reciprocal rotations of a group, transform them, build the images, number the classes, choose the
 -- triplets.
-use Rattle.std.specs.Prelude.{Bool, ◌&&◌, List, ℕ, ◌*◌, ◌-◌, eqb, ℤ, pos, negsuc, replicate, Float}
+use Rattle.std.specs.Prelude.{Bool, ◌&&◌, List, ℕ, ◌*◌, ◌-◌, eqb, ℤ, pos, negsuc, replicate, Float, Ok, Err}
 use Rattle.std.specs.Float.{binary64}
 use Rattle.std.specs.Float.Ieee.{of_int}
 use Rattle.common.specs.Array.{matrix_of, matrix_at, rows}
-use Rattle.common.specs.Tested.{require, output_of, after}
-use Rattle.common.specs.declared.Tested.{Tested}
-use Rattle.common.specs.declared.Tested.TheVariants.{Accepted, Refused}
+use Rattle.common.specs.Tested.{require, output_of, after, Tested, Accepted}
 use Rattle.common.specs.declared.Refusal.TheVariants.{WrongLength}
 use Rattle.snf3x3.specs.declared.Snf.{Snf}
 use Rattle.snf3x3.specs.Snf3x3.{snf3x3}
@@ -41,8 +39,8 @@ module _ (matrix : List (List ℤ)) where
 
 -- ---- the chain
 abbrev pub answer_for : Tested → Snf → ℕ → Finished
-answer_for Accepted s n = record { tested = Accepted; d = s.d_diag; num_ir = pos n }
-answer_for (Refused r) s n = record { tested = Refused r; d = replicate 3 (negsuc 0); num_ir = negsuc 0 }
+answer_for (Ok _) s n = record { tested = Accepted; d = s.d_diag; num_ir = pos n }
+answer_for (Err r) s n = record { tested = Err r; d = replicate 3 (negsuc 0); num_ir = negsuc 0 }
 
 -- -1 in every place
 abbrev pub wiped : Rooms → Lists
@@ -55,8 +53,8 @@ wiped r = record {
 }
 
 abbrev pub lists_for : Tested → Rooms → Lists → Lists
-lists_for Accepted r l = l
-lists_for (Refused _) r l = wiped r
+lists_for (Ok _) r l = l
+lists_for (Err _) r l = wiped r
 
 unfoldable pub grid_of : Job → Grid
 unfolding diagonal transformed

@@ -1,7 +1,7 @@
 -- What the chain answers, as its contracts say it.
-use Rattle.std.specs.Prelude.{Bool, List, ℕ, ℤ, pos, negsuc, Float, replicate}
+use Rattle.std.specs.Prelude.{Bool, List, ℕ, ℤ, pos, negsuc, Float, replicate, Err}
+use Rattle.common.specs.Tested.{Accepted}
 use Rattle.common.specs.declared.Refusal.{Refusal}
-use Rattle.common.specs.declared.Tested.TheVariants.{Accepted, Refused}
 use Rattle.zone.specs.declared.Finished.{Finished}
 use Rattle.zone.specs.Chain.{Job}
 
@@ -23,4 +23,4 @@ abbrev pub finished_with : List ℤ → ℕ → Finished
 finished_with d n = record { tested = Accepted; d = d; num_ir = pos n }
 
 abbrev pub refused_with : Refusal → Finished
-refused_with r = record { tested = Refused r; d = replicate 3 (negsuc 0); num_ir = negsuc 0 }
+refused_with r = record { tested = Err r; d = replicate 3 (negsuc 0); num_ir = negsuc 0 }

@@ -2,19 +2,19 @@
 #![tactic(auto)]
 
 ghost use Rattle.std.specs.Prelude.{◌≡◌, ◌&&◌, ◌*◌, ◌<◌, eqb, length};
-ghost use Rattle.common.specs.declared.Tested.TheVariants.{Accepted};
+ghost use Rattle.common.specs.Tested.{Accepted};
 ghost use Rattle.grgrid.specs.Own.{own_places};
 ghost use Rattle.zone.specs.Chain.{grid_of, chain_answer, chain_addresses, chain_map, chain_grg, chain_lists};
 ghost use Rattle.zone.specs.ChainFinished.{FinishedChain};
 ghost use Rattle.zone_steps.specs.StepsView.{rooms, lists, Listed};
 ghost use Rattle.zone.specs.ChainView.{job, finished_with, refused_with};
 
-use common::{Refusal, Tested};
+use common::Refusal;
 
 // The diagonal and the number of classes; -1 in every place after a refusal.
 #[derive(Clone, Copy)]
 pub struct Finished {
-    pub tested: Tested,
+    pub tested: Result<(), Refusal>,
     pub d: [i64; 3],
     pub num_ir: i64,
 }
@@ -23,7 +23,7 @@ pub fn refused(r: Refusal) -> Finished
     ensures { result ≡ refused_with r }
 {
     Finished {
-        tested: Tested::Refused(r),
+        tested: Err(r),
         d: [-1, -1, -1],
         num_ir: -1,
     }
@@ -36,7 +36,7 @@ fn count_classes(d: [i64; 3], classes: &[i64]) -> Finished
 {
     let num_ir = grgrid::own_places(classes) as i64;
     Finished {
-        tested: Tested::Accepted,
+        tested: Ok(()),
         d,
         num_ir,
     }
@@ -91,7 +91,7 @@ fn run_chain(
     let d = s.d_diag;
     let f = s.q;
     let t = s.tested;
-    if let Tested::Refused(r) = t {
+    if let Err(r) = t {
         return refused(r);
     }
     match zone_steps::list_in_basis(
@@ -113,8 +113,8 @@ fn run_chain(
         left,
         lengths,
     ) {
-        Tested::Accepted => count_classes(d, classes),
-        Tested::Refused(r) => refused(r),
+        Ok(()) => count_classes(d, classes),
+        Err(r) => refused(r),
     }
 }
 
@@ -164,7 +164,7 @@ pub fn finished_list(
         &mut *lengths,
     );
     let t = f.tested;
-    if let Tested::Refused(_) = t {
+    if let Err(_) = t {
         zone_steps::wipe_tables(addresses, map, grg);
         zone_steps::wipe_lists(classes, points, triplets, left, lengths);
         return f;

@@ -9,38 +9,35 @@ use lib.Dec.{leb, leb→le}
 use lib.IntN.{ℤ, pos, negsuc}
 use lib.ListN.{length, replicate}
 use borrow.Author.Tests.{eq-eqb, ne_eqb}
+use Rattle.std.specs.Prelude.{Result, Ok, Err}
 use Rattle.integer.proofs.Test.{holds}
 use Rattle.common.specs.declared.Refusal.{Refusal}
 use Rattle.common.specs.declared.Refusal.TheVariants.{WrongLength}
-use Rattle.common.specs.declared.Tested.{Tested}
-use Rattle.common.specs.declared.Tested.TheVariants as tested
 use Rattle.common.specs.Refusal.{number_of}
-use Rattle.common.specs.Tested.{require, after}
+use Rattle.common.specs.Tested.{require, after, Tested, Accepted}
 use Rattle.zone.specs.declared.Finished.{Finished}
 use Rattle.zone_steps.specs.Steps.{Rooms}
-use Rattle.zone_list.specs.declared.Listing.{Listing}
-use Rattle.zone_list.specs.declared.Listing.TheVariants.{Bytes, Refused}
 use Rattle.zone_list.specs.List.{list_rooms, answer_for, print_tests, print_answer, finished, text, list_answer, list_text}
 use Rattle.zone_c.specs.Lists.{listing_number, listing_told, BytesFit, ZoneListTold}
 use Rattle.answers.proofs.Lengths.{taken, left}
 
 -- ---- a listing that was printed had room
-not-bytes : (r : Refusal) (m : ℕ) → Refused r ≡ Bytes m → ⊥
+not-bytes : (r : Refusal) (m : ℕ) → Err r ≡ Ok m → ⊥
 not-bytes r m e = let z : ◌≡◌ {A = ℕ} 0 1 = cc in omega arith
 
-same_bytes : (k m : ℕ) → Bytes k ≡ Bytes m → k ≡ m
+same_bytes : (k m : ℕ) → Ok k ≡ Ok m → k ≡ m
 same_bytes k m e = cc
 
-bytes_below : (f : Finished) (text : List ℕ) (n m : ℕ) → print_answer f text n ≡ Bytes m → m ≤ n
+bytes_below : (f : Finished) (text : List ℕ) (n m : ℕ) → print_answer f text n ≡ Ok m → m ≤ n
 unfolding print_answer print_tests
 bytes_below f text n m e = go f.tested (leb (length text) n) refl e
   where
-    go : (t : Tested) (b : Bool) → leb (length text) n ≡ b → answer_for (after t (require b WrongLength tested.Accepted)) (length text) ≡ Bytes m → m ≤ n
-    go tested.Accepted true p e = subst (λ (k : ℕ). k ≤ n) (same_bytes (length text) m e) (leb→le (length text) n (holds p))
-    go tested.Accepted false p e = absurd (not-bytes WrongLength m e)
-    go (tested.Refused r) b p e = absurd (not-bytes r m e)
+    go : (t : Tested) (b : Bool) → leb (length text) n ≡ b → answer_for (after t (require b WrongLength Accepted)) (length text) ≡ Ok m → m ≤ n
+    go (Ok _) true p e = subst (λ (k : ℕ). k ≤ n) (same_bytes (length text) m e) (leb→le (length text) n (holds p))
+    go (Ok _) false p e = absurd (not-bytes WrongLength m e)
+    go (Err r) b p e = absurd (not-bytes r m e)
 
-pub bytes_fit : (job : List ℕ) (r : Rooms) (n : ℕ) {a : Listing} → n < 0x8000000000000000 → a ≡ list_answer job r n → BytesFit a
+pub bytes_fit : (job : List ℕ) (r : Rooms) (n : ℕ) {a : Result ℕ Refusal} → n < 0x8000000000000000 → a ≡ list_answer job r n → BytesFit a
 unfolding list_answer
 bytes_fit job r n h e = record { held = λ m p. lt_of_le_of_lt (bytes_below (finished job r) (text job r) n m (sym e ∙ p)) h }
 
@@ -55,7 +52,7 @@ module _ (job : List ℕ) (n k : ℕ) {r : ℤ} {text : List ℕ} {told : List �
         value = t ∙ left (listing_told (list_answer job list_rooms n)) (replicate k (negsuc 0)) e;
       }
 
-  pub list-passed : k ≡ 1 → {a : Listing} → a ≡ list_answer job list_rooms n → text ≡ list_text job list_rooms n → r ≡ listing_number a → told ≡ listing_told a → ZoneListTold job n k r text told
+  pub list-passed : k ≡ 1 → {a : Result ℕ Refusal} → a ≡ list_answer job list_rooms n → text ≡ list_text job list_rooms n → r ≡ listing_number a → told ≡ listing_told a → ZoneListTold job n k r text told
   list-passed h ea b a t =
       let e = eq-eqb k 1 h in
       record {

@@ -3,7 +3,6 @@ ghost use Rattle.std.specs.Prelude.{length};
 ghost use Rattle.answers.specs.Grids.{IrGridMapTold, AddressesTold};
 
 use common::Refusal;
-use grgrid::Addresses;
 
 pub fn zone_ir_grid_map(
     rotations: &[i64],
@@ -33,7 +32,7 @@ pub fn zone_all_grid_addresses(d: &[i64], out: &mut [i64]) -> i64
         return Refusal::WrongLength.answer();
     }
     match grgrid::all_grid_addresses(common::row_at(d, 0), out) {
-        Addresses::Written => 0,
-        Addresses::Refused(r) => r.answer(),
+        Ok(()) => 0,
+        Err(r) => r.answer(),
     }
 }

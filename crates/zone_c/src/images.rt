@@ -2,7 +2,6 @@
 ghost use Rattle.std.specs.Prelude.{length};
 ghost use Rattle.answers.specs.Images.{BzGridAddressesTold, RotateTold, NeighboursTold};
 
-use bztable::Neighbours;
 use common::Refusal;
 
 pub fn zone_bz_grid_addresses(
@@ -90,7 +89,7 @@ pub fn zone_neighboring_grid_points(
         bz_grid_type,
         out,
     ) {
-        Neighbours::Written => 0,
-        Neighbours::Refused(r) => r.answer(),
+        Ok(()) => 0,
+        Err(r) => r.answer(),
     }
 }

@@ -4,10 +4,9 @@ ghost use Rattle.zone_list.specs.List.{list_rooms, list_answer, list_text};
 ghost use Rattle.zone_c.specs.Lists.{listing_number, listing_told, BytesFit, ZoneListTold};
 
 use common::Refusal;
-use zone_list::Listing;
 
 // In arrays for 256 points and 1,024 images.
-fn list_job(job: &[u8], text: &mut [u8]) -> Listing
+fn list_job(job: &[u8], text: &mut [u8]) -> Result<usize, Refusal>
     ensures value { result ≡ list_answer job.now list_rooms (length text.old) }
     ensures text_after { text.new ≡ list_text job.now list_rooms (length text.old) }
 {
@@ -33,18 +32,18 @@ fn list_job(job: &[u8], text: &mut [u8]) -> Listing
     )
 }
 
-fn tell_listing(answer: Listing, told: &mut [i64]) -> i64
+fn tell_listing(answer: Result<usize, Refusal>, told: &mut [i64]) -> i64
     requires fact_1 { length told.old ≡ 1 }
     requires fact_2 { BytesFit answer }
     ensures value { result ≡ listing_number answer }
     ensures told_after { told.new ≡ listing_told answer }
 {
     match answer {
-        Listing::Bytes(n) => {
+        Ok(n) => {
             told[0] = n as i64;
             0
         }
-        Listing::Refused(r) => {
+        Err(r) => {
             told[0] = -1;
             r.answer()
         }

@@ -2,7 +2,7 @@
 ghost use Rattle.std.specs.Prelude.{length};
 ghost use Rattle.answers.specs.Marks.{MarkCandidatesTold};
 
-use common::{Refusal, Tested};
+use common::Refusal;
 
 pub fn zone_mark_candidates(
     d: &[i64],
@@ -28,7 +28,7 @@ pub fn zone_mark_candidates(
         point,
         marks,
     ) {
-        Tested::Accepted => 0,
-        Tested::Refused(r) => r.answer(),
+        Ok(()) => 0,
+        Err(r) => r.answer(),
     }
 }

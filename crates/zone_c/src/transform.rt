@@ -3,7 +3,6 @@ ghost use Rattle.std.specs.Prelude.{length};
 ghost use Rattle.answers.specs.Transforms.{TransformRotationsTold};
 
 use common::Refusal;
-use transform_rotations::Transformed;
 
 pub fn zone_transform_rotations(rotations: &[i64], d: &[i64], q: &[i64], out: &mut [i64]) -> i64
     ensures { TransformRotationsTold rotations.now d.now q.now (length out.old) result out.new }
@@ -18,7 +17,7 @@ pub fn zone_transform_rotations(rotations: &[i64], d: &[i64], q: &[i64], out: &m
         common::matrix_at(q, 0),
         out,
     ) {
-        Transformed::Written => 0,
-        Transformed::Refused(r) => r.answer(),
+        Ok(()) => 0,
+        Err(r) => r.answer(),
     }
 }

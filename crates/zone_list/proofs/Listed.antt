@@ -9,15 +9,14 @@ use lib.IntN.{ℤ, pos, negsuc, nat_abs}
 use lib.Ieee.{Float}
 use lib.Signed.{non_neg, mag}
 use lib.ListN.{length, take, replicate, length-replicate}
+use Rattle.std.specs.Prelude.{Result, Ok, Err, Option, Some, None}
 use Rattle.integer.specs.Checked.{pick}
 use Rattle.integer.proofs.Fits.{held, held-is}
 use Rattle.integer.proofs.Test.{holds}
 use Rattle.common.specs.Array.{rows, matrix_at, sides_of, matrices}
-use Rattle.common.specs.Tested.{require, output_of, after}
+use Rattle.common.specs.Tested.{require, output_of, after, Tested, Accepted}
 use Rattle.common.specs.declared.Refusal.{Refusal}
 use Rattle.common.specs.declared.Refusal.TheVariants.{WrongLength}
-use Rattle.common.specs.declared.Tested.{Tested}
-use Rattle.common.specs.declared.Tested.TheVariants.{Accepted, Refused}
 use Rattle.common.proofs.Tests.{passed, not-accepted, both-accepted}
 use Rattle.grgrid.specs.Grid.{size}
 use Rattle.grgrid.specs.Own.{own_places}
@@ -27,16 +26,12 @@ use Rattle.bzsearch.specs.SearchView.{float_nine}
 use Rattle.triplet_grid.specs.IrTriplets.{triplet_tests, classes_at, map_triplets_of, map_triplets_written}
 use Rattle.triplet_grid.proofs.Swapping.{length-triplets}
 use Rattle.job.specs.declared.job.Job as read
-use Rattle.job.specs.declared.listing.Printed.{Printed}
-use Rattle.job.specs.declared.listing.Printed.TheVariants as print
 use Rattle.job.specs.Job.{word, job_of, job_fits, accepted, rotations_of, rotations_written}
 use Rattle.job.specs.Listing.{listing}
 use Rattle.job.specs.Writing.{printed, printed_answer}
 use Rattle.job.proofs.Sections.{sections}
 use Rattle.job.proofs.Outcome.{accepted-job, told-rotations, fits-if-accepted}
 use Rattle.zone.specs.declared.Finished.{Finished}
-use Rattle.zone_list.specs.declared.Listing.{Listing}
-use Rattle.zone_list.specs.declared.Listing.TheVariants as answer
 use Rattle.zone.specs.Chain as chain
 use Rattle.zone_steps.specs.Steps.{Rooms, Grid, Lists, rotation_tests, points_of, class_map_of, count, grid_tests}
 use Rattle.zone.specs.Chain.{Job, rooms_agree, diagonal, sides, change, grid_of, lists_for, wiped, chain_tests, chain_answer, chain_addresses, chain_map, chain_grg, chain_lists}
@@ -54,7 +49,7 @@ first-places {k} l e = ap (λ k. take k l) (whole k ∙ e)
 
 -- ---- a job that was read
 module _ (b : List ℕ) (r : Rooms) where
-  pub job-refused : {j : read.Job} {x : Refusal} {f : Finished} → j ≡ job_of b → j.tested ≡ Refused x → f ≡ refused_with x → f ≡ finished b r
+  pub job-refused : {j : read.Job} {x : Refusal} {f : Finished} → j ≡ job_of b → j.tested ≡ Err x → f ≡ refused_with x → f ≡ finished b r
   unfolding finished
   job-refused ej e ef = ef ∙ sym (ap (λ t. after_reading t (chain_answer (chain_job b) r)) (sym (ap (λ j. j.tested) ej) ∙ e))
 
@@ -113,12 +108,12 @@ module _ {f : Finished} {m n : ℕ} (w : Whole f m n) where
   count_room = subst (λ z. nat_abs z * 3 ≤ n) (sym held-pos) w.triplets-in
 
 -- ---- a finished list that is printed in n places
-abbrev pub listing_of : Printed → Listing
-listing_of (print.Bytes n) = answer.Bytes n
-listing_of print.NoRoom = answer.Refused WrongLength
+abbrev pub listing_of : Option ℕ → Result ℕ Refusal
+listing_of (Some n) = Ok n
+listing_of None = Err WrongLength
 
 module _ (f : Finished) (classes triplets : List ℤ) (n : ℕ) where
-  pub print-refused : {x : Refusal} {l : List ℕ} → f.tested ≡ Refused x → l ≡ replicate n 0 → (answer.Refused x ≡ print_answer f (text_of f classes triplets) n) × (l ≡ print_text f (text_of f classes triplets) n)
+  pub print-refused : {x : Refusal} {l : List ℕ} → f.tested ≡ Err x → l ≡ replicate n 0 → (Err x ≡ print_answer f (text_of f classes triplets) n) × (l ≡ print_text f (text_of f classes triplets) n)
   unfolding print_answer print_text print_tests
   print-refused e el =
       let t = text_of f classes triplets in
@@ -133,7 +128,7 @@ module _ (f : Finished) (classes triplets : List ℤ) (n : ℕ) where
     unfolding text_of
     same_text ec = λ i. listing f.d (ec i) (eu i) (take ((whole (nat_abs u * 3) ∙ ap (λ u. nat_abs u * 3) eu) i) triplets)
 
-    pub print-accepted : {points : List ℤ} {p : Printed} {l : List ℕ} → p ≡ printed_answer (written points) n → l ≡ printed (written points) n → points ≡ take (size (sides_of f.d)) classes
+    pub print-accepted : {points : List ℤ} {p : Option ℕ} {l : List ℕ} → p ≡ printed_answer (written points) n → l ≡ printed (written points) n → points ≡ take (size (sides_of f.d)) classes
         → (listing_of p ≡ print_answer f (text_of f classes triplets) n) × (l ≡ print_text f (text_of f classes triplets) n)
     unfolding print_answer print_text print_tests printed_answer printed
     print-accepted ep el ec =
@@ -143,7 +138,7 @@ module _ (f : Finished) (classes triplets : List ℤ) (n : ℕ) where
           el ∙ ap (λ t. printed t n) (same_text ec) ∙ kept (leb (length t) n) t refl ∙ sym (ap (λ x. text_for (s x) t n) e),
         )
       where
-        answered : (t : Bool) (k : ℕ) → listing_of (pick t (print.Bytes k) print.NoRoom) ≡ answer_for (require t WrongLength Accepted) k
+        answered : (t : Bool) (k : ℕ) → listing_of (pick t (Some k) None) ≡ answer_for (require t WrongLength Accepted) k
         answered true k = refl
         answered false k = refl
 
@@ -158,16 +153,16 @@ module _ (f : Finished) (s t : List ℕ) (n : ℕ) (h : f.tested ≡ Accepted �
   same_answer = go f.tested h
     where
       go : (x : Tested) → (x ≡ Accepted → s ≡ t) → answer_for (after x (require (leb (length s) n) WrongLength Accepted)) (length s) ≡ answer_for (after x (require (leb (length t) n) WrongLength Accepted)) (length t)
-      go Accepted h = ap (λ t. answer_for (require (leb (length t) n) WrongLength Accepted) (length t)) (h refl)
-      go (Refused r) h = refl
+      go (Ok _) h = ap (λ t. answer_for (require (leb (length t) n) WrongLength Accepted) (length t)) (h refl)
+      go (Err r) h = refl
 
   same-print : print_text f s n ≡ print_text f t n
   unfolding print_text print_tests
   same-print = go f.tested h
     where
       go : (x : Tested) → (x ≡ Accepted → s ≡ t) → text_for (after x (require (leb (length s) n) WrongLength Accepted)) s n ≡ text_for (after x (require (leb (length t) n) WrongLength Accepted)) t n
-      go Accepted h = ap (λ t. text_for (require (leb (length t) n) WrongLength Accepted) t n) (h refl)
-      go (Refused r) h = refl
+      go (Ok _) h = ap (λ t. text_for (require (leb (length t) n) WrongLength Accepted) t n) (h refl)
+      go (Err r) h = refl
 
 -- ---- an accepted chain: the grid is within the limits, and its points and triplets are in the outputs
 length-classes : (g : Grid) → length (class_map_of g) ≡ points_of g
@@ -178,8 +173,8 @@ length-classes g = go (triplet_tests g.q0 g.d g.rotations g.time_reversal (point
     here = classes_at (nat_abs g.q0) (sides_of g.d) (matrices g.rotations) g.time_reversal
 
     go : (t : Tested) → length (output_of t (points_of g) (map pos (map_triplets_of g.swappable (sides_of g.d) (nat_abs g.q0) here))) ≡ points_of g
-    go Accepted = length-triplets g.swappable (sides_of g.d) (nat_abs g.q0) here refl
-    go (Refused r) = length-replicate (points_of g) (negsuc 0)
+    go (Ok _) = length-triplets g.swappable (sides_of g.d) (nat_abs g.q0) here refl
+    go (Err r) = length-replicate (points_of g) (negsuc 0)
 
 few-classes : (g : Grid) → count g ≤ points_of g
 few-classes g = subst (λ k. own_places (class_map_of g) (length (class_map_of g)) ≤ k) (length-classes g) (own-few (class_map_of g) (length (class_map_of g)))
@@ -204,20 +199,20 @@ module _ (j : Job) (r : Rooms) where
   chain-accepted e = go (chain_tests j r) e
     where
       go : (t : Tested) → (chain.answer_for t (diagonal j.matrix) (count (grid_of j))).tested ≡ Accepted → t ≡ Accepted
-      go Accepted e = refl
-      go (Refused r) e = absurd (not-accepted e)
+      go (Ok _) e = refl
+      go (Err r) e = absurd (not-accepted e)
 
 -- ---- a job that is listed
-pub refusal-of : (t : Tested) (k : ℕ) {x : Refusal} → answer_for t k ≡ answer.Refused x → t ≡ Refused x
-refusal-of Accepted k e = absurd (let z : ◌≡◌ {A = ℕ} 0 1 = cc in never z)
+pub refusal-of : (t : Tested) (k : ℕ) {x : Refusal} → answer_for t k ≡ Err x → t ≡ Err x
+refusal-of (Ok _) k e = absurd (let z : ◌≡◌ {A = ℕ} 0 1 = cc in never z)
   where
     never : ◌≡◌ {A = ℕ} 0 1 → ⊥
     never z = omega arith
-refusal-of (Refused r) k e = cc
+refusal-of (Err r) k e = cc
 
-pub acceptance-of : (t : Tested) (k : ℕ) {n : ℕ} → answer_for t k ≡ answer.Bytes n → t ≡ Accepted
-acceptance-of Accepted k e = refl
-acceptance-of (Refused r) k e = absurd (let z : ◌≡◌ {A = ℕ} 0 1 = cc in never z)
+pub acceptance-of : (t : Tested) (k : ℕ) {n : ℕ} → answer_for t k ≡ Ok n → t ≡ Accepted
+acceptance-of (Ok _) k e = refl
+acceptance-of (Err r) k e = absurd (let z : ◌≡◌ {A = ℕ} 0 1 = cc in never z)
   where
     never : ◌≡◌ {A = ℕ} 0 1 → ⊥
     never z = omega arith
@@ -228,8 +223,8 @@ module _ (b : List ℕ) (r : Rooms) {f : Finished} (ef : f ≡ finished b r) whe
   chain-answered e = go (job_of b).tested ef
     where
       go : (t : Tested) → f ≡ after_reading t (chain_answer (chain_job b) r) → (f ≡ chain_answer (chain_job b) r) × (chain_tests (chain_job b) r ≡ Accepted)
-      go Accepted h = (h, chain-accepted (chain_job b) r (sym (ap (λ f. f.tested) h) ∙ e))
-      go (Refused x) h = absurd (not-accepted (sym (ap (λ f. f.tested) h) ∙ e))
+      go (Ok _) h = (h, chain-accepted (chain_job b) r (sym (ap (λ f. f.tested) h) ∙ e))
+      go (Err x) h = absurd (not-accepted (sym (ap (λ f. f.tested) h) ∙ e))
 
   pub whole-job : {m k : ℕ} → m ≡ r.classes → k ≡ r.triplets → f.tested ≡ Accepted → Whole f m k
   whole-job {m} {k} em ek e =
@@ -244,7 +239,7 @@ module _ (b : List ℕ) (r : Rooms) {f : Finished} (ef : f ≡ finished b r) whe
     unfolding text
     text-is e = λ i. text_of (ef i) ((h e).lists-are i).classes ((h e).lists-are i).triplets
 
-    pub listed_answer : {a : Listing} → a ≡ print_answer f mine n → a ≡ list_answer b r n
+    pub listed_answer : {a : Result ℕ Refusal} → a ≡ print_answer f mine n → a ≡ list_answer b r n
     unfolding list_answer
     listed_answer ea = ea ∙ same_answer f mine (text b r) n text-is ∙ ap (λ f. print_answer f (text b r) n) ef
 
@@ -252,7 +247,7 @@ module _ (b : List ℕ) (r : Rooms) {f : Finished} (ef : f ≡ finished b r) whe
     unfolding list_text
     listed-text et = et ∙ same-print f mine (text b r) n text-is ∙ ap (λ f. print_text f (text b r) n) ef
 
-    tests-for : {a : Listing} → a ≡ print_answer f mine n → a ≡ answer_for (list_tests b r n) (length (text b r))
+    tests-for : {a : Result ℕ Refusal} → a ≡ print_answer f mine n → a ≡ answer_for (list_tests b r n) (length (text b r))
     unfolding list_tests list_answer print_answer
     tests-for ea = listed_answer ea
 
@@ -260,14 +255,14 @@ module _ (b : List ℕ) (r : Rooms) {f : Finished} (ef : f ≡ finished b r) whe
     unfolding list_tests print_tests
     from-tests e = (both-accepted (finished b r).tested _ e).0
 
-    pub kept : {k : ℕ} → answer.Bytes k ≡ print_answer f mine n → (x ≡ list_addresses b r n) × ((y ≡ list_map b r n) × ((z ≡ list_grg b r n) × (l ≡ list_lists b r n)))
+    pub kept : {k : ℕ} → Ok k ≡ print_answer f mine n → (x ≡ list_addresses b r n) × ((y ≡ list_map b r n) × ((z ≡ list_grg b r n) × (l ≡ list_lists b r n)))
     unfolding list_addresses list_map list_grg list_lists
     kept ea =
         let t = acceptance-of (list_tests b r n) (length (text b r)) (sym (tests-for ea)) in
         let p = h (ap (λ f. f.tested) ef ∙ from-tests t) in
         (p.addresses-are ∙ sym (ap (λ t. output_of t r.addresses (chain_addresses (chain_job b) r)) t), (p.map_is ∙ sym (ap (λ t. output_of t r.map (chain_map (chain_job b) r)) t), (p.grg-is ∙ sym (ap (λ t. output_of t r.grg (chain_grg (chain_job b) r)) t), p.lists-are ∙ sym (ap (λ t. lists_for t r (chain_lists (chain_job b) r)) t))))
 
-    pub wiped-lists : {w : Refusal} → answer.Refused w ≡ print_answer f mine n → {x y z : List ℤ} {l : Lists} → x ≡ replicate r.addresses (negsuc 0) → y ≡ replicate r.map (negsuc 0) → z ≡ replicate r.grg (negsuc 0) → l ≡ wiped r
+    pub wiped-lists : {w : Refusal} → Err w ≡ print_answer f mine n → {x y z : List ℤ} {l : Lists} → x ≡ replicate r.addresses (negsuc 0) → y ≡ replicate r.map (negsuc 0) → z ≡ replicate r.grg (negsuc 0) → l ≡ wiped r
         → (x ≡ list_addresses b r n) × ((y ≡ list_map b r n) × ((z ≡ list_grg b r n) × (l ≡ list_lists b r n)))
     unfolding list_addresses list_map list_grg list_lists
     wiped-lists ea ex ey ez el =

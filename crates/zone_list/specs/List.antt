@@ -1,10 +1,9 @@
 -- What a job file lists: the text of its finished list, or its refusal. Every lent place is told: after a refusal -1, and 0 in the text.
-use Rattle.std.specs.Prelude.{◌≡◌, List, [], ◌∷◌, ℕ, ◌*◌, ◌≤◌, T, leb, ℤ, pos, nat_abs, length, take, replicate}
+use Rattle.std.specs.Prelude.{◌≡◌, List, [], ◌∷◌, ℕ, ◌*◌, ◌≤◌, T, leb, ℤ, pos, nat_abs, length, take, replicate, Result, Ok, Err}
+use Rattle.common.specs.declared.Refusal.{Refusal}
 use Rattle.common.specs.Array.{rows, matrix_at, sides_of}
 use Rattle.common.specs.Limits.{diagonal_fits}
-use Rattle.common.specs.Tested.{require, output_of, after}
-use Rattle.common.specs.declared.Tested.{Tested}
-use Rattle.common.specs.declared.Tested.TheVariants.{Accepted, Refused}
+use Rattle.common.specs.Tested.{require, output_of, after, Tested, Accepted}
 use Rattle.common.specs.declared.Refusal.TheVariants.{WrongLength}
 use Rattle.grgrid.specs.Grid.{size}
 use Rattle.bzsearch.specs.SearchView.{float_nine}
@@ -12,8 +11,6 @@ use Rattle.job.specs.Job.{job_of, rotations_of}
 use Rattle.job.specs.Listing.{listing}
 use Rattle.job.specs.Writing.{printed}
 use Rattle.zone.specs.declared.Finished.{Finished}
-use Rattle.zone_list.specs.declared.Listing.{Listing}
-use Rattle.zone_list.specs.declared.Listing.TheVariants as answer
 use Rattle.zone_steps.specs.Steps.{Rooms, Lists}
 use Rattle.zone_steps.specs.StepsView.{rooms}
 use Rattle.zone.specs.Chain.{Job, chain_answer, chain_addresses, chain_map, chain_grg, chain_lists, lists_for}
@@ -32,8 +29,8 @@ chain_job b =
 
 -- the reader's refusal comes before the chain's
 abbrev pub after_reading : Tested → Finished → Finished
-after_reading Accepted f = f
-after_reading (Refused r) f = refused_with r
+after_reading (Ok _) f = f
+after_reading (Err r) f = refused_with r
 
 -- the diagonal, the class of each point, the number of classes, the triplets
 unfoldable pub text_of : Finished → (classes triplets : List ℤ) → List ℕ
@@ -41,19 +38,19 @@ unfolding listing
 text_of f classes triplets = listing f.d (take (size (sides_of f.d)) classes) f.num_ir (take (nat_abs f.num_ir * 3) triplets)
 
 -- ---- a finished list, printed in n places
-abbrev pub answer_for : Tested → ℕ → Listing
-answer_for Accepted n = answer.Bytes n
-answer_for (Refused r) n = answer.Refused r
+abbrev pub answer_for : Tested → ℕ → Result ℕ Refusal
+answer_for (Ok _) n = Ok n
+answer_for (Err r) n = Err r
 
 abbrev pub text_for : Tested → List ℕ → ℕ → List ℕ
-text_for Accepted text n = printed text n
-text_for (Refused r) text n = replicate n 0
+text_for (Ok _) text n = printed text n
+text_for (Err r) text n = replicate n 0
 
 module _ (f : Finished) (text : List ℕ) (n : ℕ) where
   unfoldable pub print_tests : Tested
   print_tests = after f.tested (require (leb (length text) n) WrongLength Accepted)
 
-  unfoldable pub print_answer : Listing
+  unfoldable pub print_answer : Result ℕ Refusal
   unfolding print_tests
   print_answer = answer_for print_tests (length text)
 
@@ -77,7 +74,7 @@ module _ (b : List ℕ) (r : Rooms) where
     unfolding finished text print_tests
     list_tests = print_tests finished text n
 
-    unfoldable pub list_answer : Listing
+    unfoldable pub list_answer : Result ℕ Refusal
     unfolding finished text print_answer
     list_answer = print_answer finished text n
 

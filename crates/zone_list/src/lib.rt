@@ -2,22 +2,14 @@
 #![tactic(auto)]
 
 ghost use Rattle.std.specs.Prelude.{◌≡◌, length};
+ghost use Rattle.common.specs.Tested.{Accepted};
 ghost use Rattle.common.specs.Array.{rows};
-ghost use Rattle.common.specs.declared.Tested.TheVariants.{Accepted};
 ghost use Rattle.bzsearch.specs.SearchView.{float_nine};
 ghost use Rattle.zone_steps.specs.StepsView.{rooms, lists};
 ghost use Rattle.zone_list.specs.List.{chain_job, finished, text_of, print_answer, print_text, list_answer, list_text, list_addresses, list_map, list_grg, list_lists, Whole, Ran};
 
-use common::{Refusal, Tested};
-use job::Printed;
+use common::Refusal;
 use zone::Finished;
-
-// How many bytes the listing has, or why there is none.
-#[derive(Clone, Copy)]
-pub enum Listing {
-    Bytes(usize),
-    Refused(Refusal),
-}
 
 // A record holds a matrix flat, by rows.
 fn nested(l: [f64; 9]) -> [[f64; 3]; 3]
@@ -44,7 +36,7 @@ fn run_job(
     let mut rotations = [0i64; 1728];
     let j = job::read_job(bytes, &mut rotations);
     let t = j.tested;
-    if let Tested::Refused(r) = t {
+    if let Err(r) = t {
         return zone::refused(r);
     }
     let a = j.a;
@@ -71,22 +63,22 @@ fn run_job(
 }
 
 // The class of each point, and the triplets of the classes; 0 in every place of the text after a refusal.
-fn print_finished(f: Finished, classes: &[i64], triplets: &[i64], text: &mut [u8]) -> Listing
+fn print_finished(f: Finished, classes: &[i64], triplets: &[i64], text: &mut [u8]) -> Result<usize, Refusal>
     requires { f.tested ≡ Accepted → Whole f (length classes.now) (length triplets.now) }
     ensures value { result ≡ print_answer f (text_of f classes.now triplets.now) (length text.old) }
     ensures text_after { text.new ≡ print_text f (text_of f classes.now triplets.now) (length text.old) }
 {
     let t = f.tested;
-    if let Tested::Refused(r) = t {
+    if let Err(r) = t {
         job::clear(text);
-        return Listing::Refused(r);
+        return Err(r);
     }
     let d = f.d;
     let n = grgrid::points(grgrid::grid_of(d));
     let k = f.num_ir as usize * 3;
     match job::print_listing(d, &classes[0..n], f.num_ir, &triplets[0..k], text) {
-        Printed::Bytes(b) => Listing::Bytes(b),
-        Printed::NoRoom => Listing::Refused(Refusal::WrongLength),
+        Some(b) => Ok(b),
+        None => Err(Refusal::WrongLength),
     }
 }
 
@@ -102,7 +94,7 @@ pub fn list(
     left: &mut [i64],
     lengths: &mut [f64],
     text: &mut [u8],
-) -> Listing
+) -> Result<usize, Refusal>
     ensures value { result ≡ list_answer job.now (rooms (length addresses.old) (length map.old) (length grg.old) (length classes.old) (length points.old) (length triplets.old) (length left.old) (length lengths.old)) (length text.old) }
     ensures addresses_after { addresses.new ≡ list_addresses job.now (rooms (length addresses.old) (length map.old) (length grg.old) (length classes.old) (length points.old) (length triplets.old) (length left.old) (length lengths.old)) (length text.old) }
     ensures map_after { map.new ≡ list_map job.now (rooms (length addresses.old) (length map.old) (length grg.old) (length classes.old) (length points.old) (length triplets.old) (length left.old) (length lengths.old)) (length text.old) }
@@ -122,10 +114,10 @@ pub fn list(
         &mut *lengths,
     );
     let a = print_finished(f, classes, triplets, text);
-    if let Listing::Refused(r) = a {
+    if let Err(r) = a {
         zone_steps::wipe_tables(addresses, map, grg);
         zone_steps::wipe_lists(classes, points, triplets, left, lengths);
-        return Listing::Refused(r);
+        return Err(r);
     }
     a
 }

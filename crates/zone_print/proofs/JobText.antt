@@ -9,20 +9,17 @@ use lib.Dec.{T, leb, ltb, ltb→lt}
 use lib.IntN.{ℤ, pos, negsuc, nat_abs}
 use lib.ListN.{length, get_or, take, replicate, length-take, length-append}
 use borrow.Author.Tests.{le-leb}
+use Rattle.std.specs.Prelude.{Result, Ok, Err, Option, Some, None}
 use Rattle.integer.specs.Checked.{pick}
 use Rattle.common.specs.Array.{sides_of}
 use Rattle.common.specs.Limits.{side_fits, diagonal_fits}
 use Rattle.common.specs.Refusal.{number_of}
-use Rattle.common.specs.Tested.{require, after}
+use Rattle.common.specs.Tested.{require, after, Tested, Accepted}
 use Rattle.common.specs.declared.Refusal.{Refusal}
 use Rattle.common.specs.declared.Refusal.TheVariants.{Singular, NotConverged, OutsideLimits, Overflow, SingularQ, SymmetryBroken, TooManyRotations, TooManyForInversion, BadGridType, NotUnimodularQ, SingularReciprocalLattice, SearchFailed, WrongLength, OutsideTable, BadHeader, NotGroup, InvertedRange}
-use Rattle.common.specs.declared.Tested.{Tested}
-use Rattle.common.specs.declared.Tested.TheVariants.{Accepted, Refused}
 use Rattle.common.proofs.Bounds.{side-size}
 use Rattle.grgrid.specs.Grid.{size}
 use Rattle.grgrid.proofs.Accepted.{side-0, side-1, side-2}
-use Rattle.job.specs.declared.listing.Printed.{Printed}
-use Rattle.job.specs.declared.listing.Printed.TheVariants as print
 use Rattle.job.specs.Listing.{decimal, number, listing, refusal}
 use Rattle.job.specs.Writing.{printed, printed_answer}
 use Rattle.job.proofs.Lengths.{tenfold, digits-few, listing-length}
@@ -30,8 +27,6 @@ use Rattle.zone.specs.declared.Finished.{Finished}
 use Rattle.zone.specs.Chain.{Job, chain_tests, chain_answer, chain_lists}
 use Rattle.zone.proofs.ChainNumbers.{Below, Numbers, chain-numbers}
 use Rattle.zone_steps.specs.Steps.{Lists}
-use Rattle.zone_list.specs.declared.Listing.{Listing}
-use Rattle.zone_list.specs.declared.Listing.TheVariants as answer
 use Rattle.zone_list.specs.List.{list_rooms, Whole, chain_job, text_of, answer_for, text_for, print_tests, print_answer, print_text, finished, text, list_tests, list_answer, list_text, list_addresses, list_map, list_grg, list_lists}
 use Rattle.zone_print.specs.JobText.{text_or_refusal, job_text, PrintedJob, printed_job}
 use Rattle.zone_list.proofs.Listed.{chain-answered, whole-chain, refusal-of, acceptance-of}
@@ -104,8 +99,8 @@ module _ (b : List ℕ) where
     same_tests = go (finished b list_rooms).tested text-short
       where
         go : (t : Tested) → (t ≡ Accepted → length (text b list_rooms) ≤ 6940) → after t (require (leb (length (text b list_rooms)) n) WrongLength Accepted) ≡ t
-        go Accepted h = ap (λ v. require v WrongLength Accepted) (le-leb (length (text b list_rooms)) n (le_trans (h refl) room))
-        go (Refused r) h = refl
+        go (Ok _) h = ap (λ v. require v WrongLength Accepted) (le-leb (length (text b list_rooms)) n (le_trans (h refl) room))
+        go (Err r) h = refl
 
 -- ---- what the program prints
 -- a refusal's number has one digit or two
@@ -132,20 +127,20 @@ refusal-short : (r : Refusal) → length (refusal r) ≤ 11
 unfolding refusal
 refusal-short r = let h = digits-few 1 (number_of r) (ltb→lt (number_of r) 100 (few-digits r)) in omega (arith, length-append (decimal (number_of r)) (10 ∷ []))
 
-pub refusal-printed : (r : Refusal) {p : Printed} → p ≡ printed_answer (refusal r) 8192 → p ≡ print.Bytes (length (refusal r))
+pub refusal-printed : (r : Refusal) {p : Option ℕ} → p ≡ printed_answer (refusal r) 8192 → p ≡ Some (length (refusal r))
 unfolding printed_answer
-refusal-printed r e = e ∙ ap (λ t. pick t (print.Bytes (length (refusal r))) print.NoRoom) (le-leb (length (refusal r)) 8192 (le_trans (refusal-short r) (omega arith)))
+refusal-printed r e = e ∙ ap (λ t. pick t (Some (length (refusal r))) None) (le-leb (length (refusal r)) 8192 (le_trans (refusal-short r) (omega arith)))
 
 abbrev printed-with : ℕ → List ℕ → (addresses map grg : List ℤ) → Lists → PrintedJob
 printed-with n text addresses map grg lists = record { bytes = n; text = text; addresses = addresses; map = map; grg = grg; lists = lists }
 
 module _ (b : List ℕ) where
-  tests-are : {a : Listing} → a ≡ list_answer b list_rooms 8192 → a ≡ answer_for (finished b list_rooms).tested (length (text b list_rooms))
+  tests-are : {a : Result ℕ Refusal} → a ≡ list_answer b list_rooms 8192 → a ≡ answer_for (finished b list_rooms).tested (length (text b list_rooms))
   unfolding list_answer print_answer list_tests
   tests-are e = e ∙ ap (λ t. answer_for t (length (text b list_rooms))) (same_tests b 8192 (omega arith))
 
   -- the listing
-  module _ {k : ℕ} (e : answer.Bytes k ≡ list_answer b list_rooms 8192) where
+  module _ {k : ℕ} (e : Ok k ≡ list_answer b list_rooms 8192) where
     accepted : (finished b list_rooms).tested ≡ Accepted
     accepted = acceptance-of (finished b list_rooms).tested (length (text b list_rooms)) (sym (tests-are e))
 
@@ -156,7 +151,7 @@ module _ (b : List ℕ) where
     pub listed-bytes : k ≡ length (job_text b)
     listed-bytes = same_bytes (tests-are e ∙ ap (λ t. answer_for t (length (text b list_rooms))) accepted) ∙ ap length text-is
       where
-        same_bytes : {m n : ℕ} → answer.Bytes m ≡ answer.Bytes n → m ≡ n
+        same_bytes : {m n : ℕ} → Ok m ≡ Ok n → m ≡ n
         same_bytes h = cc
 
     pub listed-whole : {t : List ℕ} → t ≡ list_text b list_rooms 8192 → t ≡ printed (job_text b) 8192
@@ -164,7 +159,7 @@ module _ (b : List ℕ) where
     listed-whole h = h ∙ ap (λ t. text_for t (text b list_rooms) 8192) (same_tests b 8192 (omega arith) ∙ accepted) ∙ ap (λ t. printed t 8192) text-is
 
   -- the line of a refusal
-  pub refused-text : {r : Refusal} → answer.Refused r ≡ list_answer b list_rooms 8192 → refusal r ≡ job_text b
+  pub refused-text : {r : Refusal} → Err r ≡ list_answer b list_rooms 8192 → refusal r ≡ job_text b
   unfolding job_text
   refused-text {r} e = sym (ap (λ t. text_or_refusal t (text b list_rooms)) (refusal-of (finished b list_rooms).tested (length (text b list_rooms)) (sym (tests-are e))))
 
@@ -173,8 +168,8 @@ module _ (b : List ℕ) where
   text-fits = go (finished b list_rooms).tested (text-short b)
     where
       go : (t : Tested) → (t ≡ Accepted → length (text b list_rooms) ≤ 6940) → length (text_or_refusal t (text b list_rooms)) ≤ 6940
-      go Accepted h = h refl
-      go (Refused r) h = le_trans (refusal-short r) (omega arith)
+      go (Ok _) h = h refl
+      go (Err r) h = le_trans (refusal-short r) (omega arith)
 
   pub printed-fits : {o : PrintedJob} → o ≡ printed_job b → o.bytes ≤ length o.text
   unfolding printed_job printed
@@ -186,10 +181,10 @@ module _ (b : List ℕ) where
 
   -- ---- every array
   module _ {x y z : List ℤ} {l : Lists} (ex : x ≡ list_addresses b list_rooms 8192) (ey : y ≡ list_map b list_rooms 8192) (ez : z ≡ list_grg b list_rooms 8192) (el : l ≡ list_lists b list_rooms 8192) where
-    pub listing-printed : {k : ℕ} {t : List ℕ} → answer.Bytes k ≡ list_answer b list_rooms 8192 → t ≡ list_text b list_rooms 8192 → printed-with k t x y z l ≡ printed_job b
+    pub listing-printed : {k : ℕ} {t : List ℕ} → Ok k ≡ list_answer b list_rooms 8192 → t ≡ list_text b list_rooms 8192 → printed-with k t x y z l ≡ printed_job b
     unfolding printed_job
     listing-printed e et = λ i. printed-with (listed-bytes e i) (listed-whole e et i) (ex i) (ey i) (ez i) (el i)
 
-    pub line-printed : {r : Refusal} {k : ℕ} {t : List ℕ} → answer.Refused r ≡ list_answer b list_rooms 8192 → k ≡ length (refusal r) → t ≡ printed (refusal r) 8192 → printed-with k t x y z l ≡ printed_job b
+    pub line-printed : {r : Refusal} {k : ℕ} {t : List ℕ} → Err r ≡ list_answer b list_rooms 8192 → k ≡ length (refusal r) → t ≡ printed (refusal r) 8192 → printed-with k t x y z l ≡ printed_job b
     unfolding printed_job
     line-printed e ek et = λ i. printed-with ((ek ∙ ap length (refused-text e)) i) ((et ∙ ap (λ t. printed t 8192) (refused-text e)) i) (ex i) (ey i) (ez i) (el i)

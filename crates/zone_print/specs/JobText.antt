@@ -1,15 +1,14 @@
 -- What the program zonelist prints of the bytes that it read, and what its arrays then hold: the listing, or the line of the refusal.
-use Rattle.std.specs.Prelude.{List, ℕ, ℤ, length}
-use Rattle.common.specs.declared.Tested.{Tested}
-use Rattle.common.specs.declared.Tested.TheVariants.{Accepted, Refused}
+use Rattle.std.specs.Prelude.{List, ℕ, ℤ, length, Ok, Err}
+use Rattle.common.specs.Tested.{Tested}
 use Rattle.job.specs.Listing.{refusal}
 use Rattle.job.specs.Writing.{printed}
 use Rattle.zone_steps.specs.Steps.{Lists}
 use Rattle.zone_list.specs.List.{list_rooms, finished, text, list_addresses, list_map, list_grg, list_lists}
 
 abbrev pub text_or_refusal : Tested → List ℕ → List ℕ
-text_or_refusal Accepted text = text
-text_or_refusal (Refused r) text = refusal r
+text_or_refusal (Ok _) text = text
+text_or_refusal (Err r) text = refusal r
 
 unfoldable pub job_text : List ℕ → List ℕ
 unfolding finished text refusal

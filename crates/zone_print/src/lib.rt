@@ -8,14 +8,12 @@ ghost use Rattle.zone_steps.specs.StepsView.{lists};
 ghost use Rattle.zone_print.specs.JobText.{PrintedJob, printed_job};
 
 use common::Refusal;
-use job::Printed;
-use zone_list::Listing;
 
 fn print_refused(r: Refusal, text: &mut [u8; 8192]) -> usize
     ensures value { result ≡ length (refusal r) }
     ensures text_after { text.new ≡ printed (refusal r) 8192 }
 {
-    let Printed::Bytes(n) = job::print_refusal(r, text) else {
+    let Some(n) = job::print_refusal(r, text) else {
         return 0;
     };
     n
@@ -48,8 +46,8 @@ fn print_bytes(
     match zone_list::list(
         bytes, addresses, map, grg, classes, points, triplets, left, lengths, &mut *text,
     ) {
-        Listing::Bytes(n) => n,
-        Listing::Refused(r) => print_refused(r, text),
+        Ok(n) => n,
+        Err(r) => print_refused(r, text),
     }
 }
 

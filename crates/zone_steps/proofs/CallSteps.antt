@@ -8,31 +8,22 @@ use lib.IntN.{ℤ}
 use lib.Ieee.{Float}
 use lib.ListN.{length, take, drop}
 use lib.Seq.{length-take-le, take_at}
+use Rattle.std.specs.Prelude.{Result, Ok, Err}
+use Rattle.bzgrid.specs.declared.Lengths.{Lengths}
 use Rattle.common.specs.Array.{matrices}
 use Rattle.common.specs.declared.Refusal.{Refusal}
-use Rattle.common.specs.declared.Tested.{Tested}
-use Rattle.common.specs.declared.Tested.TheVariants.{Accepted, Refused}
 use Rattle.common.proofs.Reading.{length-flat}
-use Rattle.common.specs.Tested.{after}
+use Rattle.common.specs.Tested.{after, Tested, Accepted}
 use Rattle.grgrid.specs.Own.{own_places}
-use Rattle.recip_rotations.specs.declared.PointGroup.{PointGroup}
-use Rattle.recip_rotations.specs.declared.PointGroup.TheVariants as group-answer
 use Rattle.recip_rotations.specs.PointGroup.{count_of, point_group, point_group_answer}
 use Rattle.recip_rotations.proofs.Room.{count_small}
 use Rattle.rotation_group.specs.ReciprocalGroup.{reciprocal_answer, reciprocal_written}
 use Rattle.rotation_group.proofs.Outcome.{tests-accepted, tests-refused, same_answer, same-written}
-use Rattle.transform_rotations.specs.declared.Transformed.{Transformed}
-use Rattle.transform_rotations.specs.declared.Transformed.TheVariants as transform-answer
 use Rattle.transform_rotations.specs.TransformRotations as transform
 use Rattle.transform_rotations.specs.TransformRotations.{transform_tests, transform_answer, transform_written}
-use Rattle.bzgrid.specs.declared.BzGridAddresses.{BzGridAddresses}
 use Rattle.bzgrid.specs.BzGridAddresses.{grid_type_of, bz_answer, addresses_written, map_written, grg_written}
-use Rattle.triplet_grid.specs.declared.IrTriplets.{IrTriplets}
-use Rattle.triplet_grid.specs.declared.IrTriplets.TheVariants as class-answer
 use Rattle.triplet_grid.specs.IrTriplets as class
 use Rattle.triplet_grid.specs.IrTriplets.{triplet_tests, ir_triplets_answer, map_triplets_written, map_qwritten}
-use Rattle.bz_triplets.specs.declared.BzTriplets.{BzTriplets}
-use Rattle.bz_triplets.specs.declared.BzTriplets.TheVariants as triplet-answer
 use Rattle.bz_triplets.specs.BzTriplets as triplet
 use Rattle.bz_triplets.specs.BzTriplets.{bz_triplet_tests, bz_triplets_answer, triplets_written, left_written, left_length_written}
 use Rattle.zone_steps.specs.Steps.{group, transformed, rotation_tests, images_tested}
@@ -52,24 +43,24 @@ front-drop n l = ap (λ k. drop k l) whole
     whole = omega arith
 
 -- ---- the tests, from an answer
-abbrev pub transform_tested : Transformed → Tested
+abbrev pub transform_tested : Tested → Tested
 transform_tested transform-answer.Written = Accepted
-transform_tested (transform-answer.Refused r) = Refused r
+transform_tested (transform-answer.Refused r) = Err r
 
-abbrev pub class_tested : IrTriplets → Tested
+abbrev pub class_tested : Result ℤ Refusal → Tested
 class_tested (class-answer.Classes n) = Accepted
-class_tested (class-answer.Refused r) = Refused r
+class_tested (class-answer.Refused r) = Err r
 
-abbrev pub triplet_tested : BzTriplets → Tested
+abbrev pub triplet_tested : Tested → Tested
 triplet_tested triplet-answer.Written = Accepted
-triplet_tested (triplet-answer.Refused r) = Refused r
+triplet_tested (triplet-answer.Refused r) = Err r
 
 -- ---- the rotations in the basis of the grid
 module _ (list : List ℤ) (time : Bool) where
-  abbrev answer : PointGroup
+  abbrev answer : Result ℕ Refusal
   answer = reciprocal_answer list time 432
 
-  module _ {n : ℕ} {a : PointGroup} (e : a ≡ answer) (f : a ≡ group-answer.Rotations n) where
+  module _ {n : ℕ} {a : Result ℕ Refusal} (e : a ≡ answer) (f : a ≡ group-answer.Rotations n) where
     call : point_group_answer list time true 432 ≡ group-answer.Rotations n
     call = same_answer list time 432 (sym e ∙ f)
 
@@ -92,28 +83,28 @@ module _ (list : List ℤ) (time : Bool) where
       lent : (take (n * 9 - 0) g ≡ group list time) × (length (take (n * 9 - 0) out) ≡ length (group list time))
       lent = (told-group k, front_length (n * 9) out (subst (λ m. n * 9 ≤ m) (sym room) few-rotations) ∙ sym told-length)
 
-      pub turned-tested : {t : Transformed} → t ≡ transform_answer (take (n * 9 - 0) g) d q (length (take (n * 9 - 0) out)) → transform_tested t ≡ rotation_tests list time d q
+      pub turned-tested : {t : Tested} → t ≡ transform_answer (take (n * 9 - 0) g) d q (length (take (n * 9 - 0) out)) → transform_tested t ≡ rotation_tests list time d q
       unfolding rotation_tests transform_answer
       turned-tested h =
           ap transform_tested (h ∙ ap₂ (λ l m. transform_answer l d q m) lent.0 lent.1) ∙ again (transform_tests (group list time) d q (length (group list time)))
           ∙ sym (ap (λ t. after t (transform_tests (group list time) d q (length (group list time)))) (tests-accepted list time 432 (sym e ∙ f)))
         where
           again : (t : Tested) → transform_tested (transform.answer_for t) ≡ t
-          again Accepted = refl
-          again (Refused r) = refl
+          again (Ok _) = refl
+          again (Err r) = refl
 
       pub turned-list : {x : List ℤ} → x ≡ transform_written (take (n * 9 - 0) g) d q (length (take (n * 9 - 0) out)) → length x ≡ length (take (n * 9 - 0) out) → (rest : List ℤ) → take (n * 9) (x ++ rest) ≡ transformed list time d q
       unfolding transformed
       turned-list {x} h m rest = take_at x rest (n * 9) (m ∙ lent.1 ∙ told-length) ∙ h ∙ ap₂ (λ l m. transform_written l d q m) lent.0 lent.1
 
   module _ (d : List ℤ) (q : List (List ℤ)) where
-    pub turned-refused : {r : Refusal} {a : PointGroup} → a ≡ answer → a ≡ group-answer.Refused r → Refused r ≡ rotation_tests list time d q
+    pub turned-refused : {r : Refusal} {a : Result ℕ Refusal} → a ≡ answer → a ≡ group-answer.Refused r → Err r ≡ rotation_tests list time d q
     unfolding rotation_tests
     turned-refused e f = sym (ap (λ t. after t (transform_tests (group list time) d q (length (group list time)))) (tests-refused list time 432 (sym f ∙ e)))
 
 -- ---- images; a signed number is handed on as its bits, which stand for it
 module _ (d : List ℤ) (q : List (List ℤ)) (ps : List ℤ) (lattice : List (List Float)) (t : ℤ) (a b c : ℕ) where
-  pub images-built : {u : ℤ} {r : BzGridAddresses} {x y z : List ℤ} {v : Tested} → u ≡ t → r ≡ bz_answer d q ps lattice u a b c → x ≡ addresses_written d q ps lattice u a b c → y ≡ map_written d q ps lattice u a b c → z ≡ grg_written d q ps lattice u a b c
+  pub images-built : {u : ℤ} {r : Result Lengths Refusal} {x y z : List ℤ} {v : Tested} → u ≡ t → r ≡ bz_answer d q ps lattice u a b c → x ≡ addresses_written d q ps lattice u a b c → y ≡ map_written d q ps lattice u a b c → z ≡ grg_written d q ps lattice u a b c
       → v ≡ images_tested r
       → (v ≡ images_tested (bz_answer d q ps lattice t a b c)) × ((x ≡ addresses_written d q ps lattice t a b c) × ((y ≡ map_written d q ps lattice t a b c) × (z ≡ grg_written d q ps lattice t a b c)))
   images-built e er ex ey ez ev = (
@@ -128,10 +119,10 @@ module _ (q0 : ℤ) (d rotations : List ℤ) (time swappable : Bool) (n : ℕ) (
   class-tested = again (triplet_tests q0 d rotations time n n) _
     where
       again : (t : Tested) (k : ℕ) → class_tested (class.answer_for t k) ≡ t
-      again Accepted k = refl
-      again (Refused r) k = refl
+      again (Ok _) k = refl
+      again (Err r) k = refl
 
-  pub classes-numbered : {i : ℤ} {r : IrTriplets} {x y : List ℤ} {v : Tested} → i ≡ q0
+  pub classes-numbered : {i : ℤ} {r : Result ℤ Refusal} {x y : List ℤ} {v : Tested} → i ≡ q0
       → r ≡ ir_triplets_answer i d rotations time swappable (length (take (n - 0) classes)) (length (take (n - 0) points))
       → x ≡ map_triplets_written i d rotations time swappable (length (take (n - 0) classes)) (length (take (n - 0) points))
       → y ≡ map_qwritten i d rotations time swappable (length (take (n - 0) classes)) (length (take (n - 0) points))
@@ -151,8 +142,8 @@ module _ (start : ℤ) (addresses map classes d : List ℤ) (q : List (List ℤ)
   triplet-tested = again (bz_triplet_tests start addresses map classes d q lattice (grid_type_of type) (k * 3) k k)
     where
       again : (t : Tested) → triplet_tested (triplet.answer_for t) ≡ t
-      again Accepted = refl
-      again (Refused r) = refl
+      again (Ok _) = refl
+      again (Err r) = refl
 
   abbrev a : ℕ
   a = length (take (k * 3 - 0) triplets)
@@ -164,7 +155,7 @@ module _ (start : ℤ) (addresses map classes d : List ℤ) (q : List (List ℤ)
   c = length (take (k - 0) lengths)
 
   pub triplets-chosen : k ≡ own_places classes (length classes) → k ≤ length classes
-      → (length classes * 3 ≤ length triplets) × (length classes ≤ length left) × (length classes ≤ length lengths) → {i u : ℤ} {r : BzTriplets} {x y : List ℤ} {z : List Float} {v : Tested}
+      → (length classes * 3 ≤ length triplets) × (length classes ≤ length left) × (length classes ≤ length lengths) → {i u : ℤ} {r : Tested} {x y : List ℤ} {z : List Float} {v : Tested}
       → i ≡ start → u ≡ type
       → r ≡ bz_triplets_answer i addresses map classes d q lattice u a b c
       → x ≡ triplets_written i addresses map classes d q lattice u a b c

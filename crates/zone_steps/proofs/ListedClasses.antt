@@ -9,11 +9,10 @@ use lib.IntN.{ℤ, negsuc}
 use lib.Ieee.{Float, binary64, of_int}
 use lib.ListN.{length, take, drop, replicate, length-append, length-replicate}
 use lib.Seq.{take_at}
+use Rattle.std.specs.Prelude.{Ok, Err}
 use Rattle.common.specs.Array.{matrices}
 use Rattle.common.specs.declared.Refusal.{Refusal}
-use Rattle.common.specs.declared.Tested.{Tested}
-use Rattle.common.specs.declared.Tested.TheVariants.{Accepted, Refused}
-use Rattle.common.specs.Tested.{after}
+use Rattle.common.specs.Tested.{after, Tested, Accepted}
 use Rattle.common.proofs.Tests.{not-accepted}
 use Rattle.grgrid.proofs.Numbers.{own-few}
 use Rattle.bzgrid.specs.BzGridAddresses.{grid_type_of, padded}
@@ -41,7 +40,7 @@ module _ {A : Type 0} (v : A) (list : List A) (n m : ℕ) {before now : List A} 
   front-padded = written ∙ ap (λ r. list ++ r) (rest ∙ ap (λ k. replicate (m - k) v) (sym front-full))
 
 module _ (g : Grid) (addresses map : List ℤ) where
-  pub list-refused : {t : Tested} {r : Refusal} → t ≡ class_tests g → t ≡ Refused r → Refused r ≡ list_tests g addresses map
+  pub list-refused : {t : Tested} {r : Refusal} → t ≡ class_tests g → t ≡ Err r → Err r ≡ list_tests g addresses map
   unfolding list_tests
   list-refused e f = sym (ap (λ t. after t (choice_tests g addresses map)) (sym e ∙ f))
 
@@ -79,8 +78,8 @@ unfolding triplet_tests
 passed-classes q0 d rotations time n m e = class.input-accepted q0 d rotations n m (go (input_tests q0 d rotations n m) refl e)
   where
     go : (t : Tested) → input_tests q0 d rotations n m ≡ t → after t (room_tests (matrices rotations) time false) ≡ Accepted → input_tests q0 d rotations n m ≡ Accepted
-    go Accepted p e = p
-    go (Refused r) p e = absurd (not-accepted e)
+    go (Ok _) p e = p
+    go (Err r) p e = absurd (not-accepted e)
 
 module _ (g : Grid) {i : ℤ} (ei : i ≡ g.q0) {n : ℕ} (en : n ≡ points_of g) where
   pub class-tests : {t : Tested} → t ≡ triplet_tests i g.d g.rotations g.time_reversal n n → t ≡ class_tests g

@@ -9,20 +9,17 @@ use lib.IntN.{ℤ}
 use lib.Ieee.{Float}
 use lib.ListN.{length, take}
 use borrow.Author.Tests.{le-leb, lt-leb}
+use Rattle.std.specs.Prelude.{Result, Ok, Err}
 use Rattle.common.specs.Limits.{diagonal_fits}
-use Rattle.common.specs.Tested.{require, after}
+use Rattle.common.specs.Tested.{require, after, Tested, Accepted}
 use Rattle.common.specs.declared.Refusal.{Refusal}
 use Rattle.common.specs.declared.Refusal.TheVariants.{WrongLength}
-use Rattle.common.specs.declared.Tested.{Tested}
-use Rattle.common.specs.declared.Tested.TheVariants.{Accepted, Refused}
 use Rattle.common.proofs.Tests.{both-accepted}
 use Rattle.rotation_group.specs.ReciprocalGroup.{reciprocal_tests}
 use Rattle.transform_rotations.specs.TransformRotations.{transform_tests}
 use Rattle.transform_rotations.proofs.Accepted.{input-accepted}
 use Rattle.transform_rotations.proofs.ExactCall.{tests-input}
 use Rattle.bzgrid.specs.BzGridAddresses.{bz_answer, addresses_written, map_written, grg_written}
-use Rattle.zone_steps.specs.declared.basis.Turned.{Turned}
-use Rattle.zone_steps.specs.declared.basis.Turned.TheVariants as turned
 use Rattle.zone_steps.specs.Steps.{Rooms, Grid, Lists, group, transformed, rotation_tests, images_tested, points_of, list_tests, lists_of, image_addresses, image_map, image_grg, image_tests, grid_tests, grid_lists}
 use Rattle.zone_steps.specs.StepsView.{grid, turned_tested, TurnedInto, Listed}
 
@@ -30,7 +27,7 @@ module _ (g : Grid) (shift : List ℤ) (r : Rooms) where
   abbrev rest : Tested
   rest = after (image_tests g shift r) (list_tests g (image_addresses g shift r) (image_map g shift r))
 
-  pub no_room : {n : ℕ} → n ≡ points_of g → r.classes < n → Refused WrongLength ≡ grid_tests g shift r
+  pub no_room : {n : ℕ} → n ≡ points_of g → r.classes < n → Err WrongLength ≡ grid_tests g shift r
   unfolding grid_tests
   no_room e h = sym (ap (λ b. require b WrongLength rest) (lt-leb (points_of g) r.classes (omega arith)))
 
@@ -45,7 +42,7 @@ module _ (g : Grid) (shift : List ℤ) (r : Rooms) where
       unfolding image_tests
       image-tests = et ∙ ap (λ u. images_tested (bz_answer g.d g.q shift g.lattice u r.addresses r.map r.grg)) eu
 
-      pub images-refused : {x : Refusal} → t ≡ Refused x → Refused x ≡ grid_tests g shift r
+      pub images-refused : {x : Refusal} → t ≡ Err x → Err x ≡ grid_tests g shift r
       images-refused f = sym (ap (λ t. after t (list_tests g (image_addresses g shift r) (image_map g shift r))) (sym image-tests ∙ f)) ∙ with-room
 
       module _ (f : t ≡ Accepted) {a b c : List ℤ} (ea : a ≡ addresses_written g.d g.q shift g.lattice u r.addresses r.map r.grg) (eb : b ≡ map_written g.d g.q shift g.lattice u r.addresses r.map r.grg) (ec : c ≡ grg_written g.d g.q shift g.lattice u r.addresses r.map r.grg) where
@@ -76,11 +73,11 @@ module _ (list : List ℤ) (time : Bool) (d : List ℤ) (q : List (List ℤ)) wh
       let l = group list time in
       (input-accepted l d q (length l) (tests-input l d q (length l) (both-accepted (reciprocal_tests list time 432) (transform_tests l d q (length l)) e).1)).grid
 
-  module _ {t : Turned} (et : turned_tested t ≡ rotation_tests list time d q) where
-    pub basis-refused : {x : Refusal} (next : Tested) → t ≡ turned.Refused x → Refused x ≡ after (rotation_tests list time d q) next
+  module _ {t : Result ℕ Refusal} (et : turned_tested t ≡ rotation_tests list time d q) where
+    pub basis-refused : {x : Refusal} (next : Tested) → t ≡ Err x → Err x ≡ after (rotation_tests list time d q) next
     basis-refused next f = sym (ap (λ t. after t next) (sym et ∙ ap turned_tested f))
 
-    module _ {n : ℕ} (f : t ≡ turned.Rotations n) where
+    module _ {n : ℕ} (f : t ≡ Ok n) where
       pub basis-fits : T (diagonal_fits d)
       basis-fits = rotations-fit (sym et ∙ ap turned_tested f)
 

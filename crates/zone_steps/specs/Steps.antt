@@ -1,12 +1,12 @@
 -- The steps of the chain: the rotations in the basis of a grid, its images, classes and triplets. Their tests are those of the calls, one after the other, and their
 -- outputs what the calls leave; an output may be longer than needed, and the rest holds -1.
-use Rattle.std.specs.Prelude.{Bool, true, List, ◌++◌, ℕ, ◌*◌, ◌-◌, leb, ℤ, pos, negsuc, nat_abs, length, get_or, replicate, Float}
+use Rattle.std.specs.Prelude.{Bool, true, List, ◌++◌, ℕ, ◌*◌, ◌-◌, leb, ℤ, pos, negsuc, nat_abs, length, get_or, replicate, Float, Result, Ok, Err}
 use Rattle.std.specs.Float.{binary64}
 use Rattle.std.specs.Float.Ieee.{of_int}
+use Rattle.bzgrid.specs.declared.Lengths.{Lengths}
+use Rattle.common.specs.declared.Refusal.{Refusal}
 use Rattle.common.specs.Array.{sides_of, matrices, flat}
-use Rattle.common.specs.Tested.{require, after}
-use Rattle.common.specs.declared.Tested.{Tested}
-use Rattle.common.specs.declared.Tested.TheVariants.{Accepted, Refused}
+use Rattle.common.specs.Tested.{require, after, Tested, Accepted}
 use Rattle.common.specs.declared.Refusal.TheVariants.{WrongLength}
 use Rattle.grgrid.specs.Grid.{size}
 use Rattle.grgrid.specs.Own.{own_places}
@@ -15,8 +15,6 @@ use Rattle.rotation_group.specs.ReciprocalGroup.{reciprocal_tests}
 use Rattle.transform_rotations.specs.TransformRotations.{transform_tests, transform_written}
 use Rattle.bzgrid.specs.declared.GridType.{GridType}
 use Rattle.bzgrid.specs.declared.GridType.TheVariants.{Sparse, Dense, Unknown}
-use Rattle.bzgrid.specs.declared.BzGridAddresses.{BzGridAddresses}
-use Rattle.bzgrid.specs.declared.BzGridAddresses.TheVariants as image
 use Rattle.bzgrid.specs.BzGridAddresses.{grid_type_of, padded, bz_answer, addresses_written, map_written, grg_written}
 use Rattle.triplet_grid.specs.IrTriplets.{triplet_tests, map_triplets_written, map_qwritten}
 use Rattle.bz_triplets.specs.BzTriplets.{bz_triplet_tests, triplets_written, left_written, left_length_written}
@@ -66,9 +64,9 @@ pub record Lists : Type 0 where
   pub left : List ℤ
   pub lengths : List Float
 
-abbrev pub images_tested : BzGridAddresses → Tested
-images_tested (image.Built l) = Accepted
-images_tested (image.Refused r) = Refused r
+abbrev pub images_tested : Result Lengths Refusal → Tested
+images_tested (Ok l) = Accepted
+images_tested (Err r) = Err r
 
 -- type 2 starts from the first image of q0
 abbrev pub start_of : GridType → List ℤ → ℤ → ℤ

@@ -1,12 +1,10 @@
 -- What the steps of the chain answer and leave, as their contracts say it.
-use Rattle.std.specs.Prelude.{◌≡◌, Bool, List, ◌++◌, ℕ, ◌*◌, ◌≤◌, ℤ, Float, length, take, drop}
-use Rattle.common.specs.declared.Tested.{Tested}
-use Rattle.common.specs.declared.Tested.TheVariants.{Accepted, Refused}
+use Rattle.std.specs.Prelude.{◌≡◌, Bool, List, ◌++◌, ℕ, ◌*◌, ◌≤◌, ℤ, Float, length, take, drop, Result, Ok, Err}
+use Rattle.common.specs.declared.Refusal.{Refusal}
+use Rattle.common.specs.Tested.{Tested, Accepted}
 use Rattle.grgrid.specs.Own.{own_places}
 use Rattle.bzgrid.specs.BzGridAddresses.{grid_type_of}
 use Rattle.bz_triplets.specs.BzTriplets.{bz_triplet_tests, triplets_written, left_written, left_length_written}
-use Rattle.zone_steps.specs.declared.basis.Turned.{Turned}
-use Rattle.zone_steps.specs.declared.basis.Turned.TheVariants as turned
 use Rattle.zone_steps.specs.Steps.{Rooms, Grid, Lists, image_addresses, image_map, image_grg, grid_lists}
 
 -- ---- records from the parts that the code holds
@@ -38,14 +36,14 @@ rooms addresses map grg classes points triplets left lengths = record {
 }
 
 -- ---- the rotations
-abbrev pub turned_tested : Turned → Tested
-turned_tested (turned.Rotations n) = Accepted
-turned_tested (turned.Refused r) = Refused r
+abbrev pub turned_tested : Result ℕ Refusal → Tested
+turned_tested (Ok n) = Accepted
+turned_tested (Err r) = Err r
 
 -- the list of n rotations stands in the front
-abbrev pub TurnedInto : (list out : List ℤ) → Turned → Type 0
-TurnedInto list out (turned.Rotations n) = (n * 9 ≤ 432) × (take (n * 9) out ≡ list)
-TurnedInto list out (turned.Refused r) = Unit
+abbrev pub TurnedInto : (list out : List ℤ) → Result ℕ Refusal → Type 0
+TurnedInto list out (Ok n) = (n * 9 ≤ 432) × (take (n * 9) out ≡ list)
+TurnedInto list out (Err r) = Unit
 
 -- ---- outputs of lengths that agree, with room for the classes and triplets of n points
 pub record Agreed (classes points triplets left lengths : ℕ) : Type 0 where

@@ -4,15 +4,6 @@ ghost use Rattle.zone_steps.specs.Steps.{group, transformed, rotation_tests};
 ghost use Rattle.zone_steps.specs.StepsView.{turned_tested, TurnedInto};
 
 use common::Refusal;
-use recip_rotations::PointGroup;
-use transform_rotations::Transformed;
-
-// How many rotations there are, or why there are none.
-#[derive(Clone, Copy)]
-pub enum Turned {
-    Rotations(usize),
-    Refused(Refusal),
-}
 
 // Nine numbers a rotation, in the front of the output.
 pub fn turn_rotations(
@@ -21,24 +12,24 @@ pub fn turn_rotations(
     d: [i64; 3],
     q: [[i64; 3]; 3],
     out: &mut [i64],
-) -> Turned
+) -> Result<usize, Refusal>
     requires { length out.old ≡ 432 }
     ensures result_value { turned_tested result ≡ rotation_tests rotations.now is_time_reversal d q }
     ensures turned_into { TurnedInto (transformed rotations.now is_time_reversal d q) out.new result }
 {
     let mut group = [0; 432];
     match rotation_group::reciprocal_group(rotations, is_time_reversal, &mut group) {
-        PointGroup::Rotations(n) => {
+        Ok(n) => {
             match transform_rotations::transform_rotations(
                 &group[0..n * 9],
                 d,
                 q,
                 &mut out[0..n * 9],
             ) {
-                Transformed::Written => Turned::Rotations(n),
-                Transformed::Refused(r) => Turned::Refused(r),
+                Ok(()) => Ok(n),
+                Err(r) => Err(r),
             }
         }
-        PointGroup::Refused(r) => Turned::Refused(r),
+        Err(r) => Err(r),
     }
 }

@@ -3,18 +3,16 @@ ghost use Rattle.std.specs.Prelude.{◌≡◌, ◌++◌, ◌*◌, ◌≤◌, T, 
 ghost use Rattle.std.specs.Float.{binary64};
 ghost use Rattle.std.specs.Float.Ieee.{of_int};
 ghost use Rattle.std.specs.Int.Signed.{non_neg};
+ghost use Rattle.common.specs.Tested.{Accepted};
 ghost use Rattle.common.specs.Array.{sides_of};
 ghost use Rattle.grgrid.specs.Grid.{size};
 ghost use Rattle.bzgrid.specs.BzGridAddresses.{bz_answer, addresses_written, map_written, grg_written};
 ghost use Rattle.triplet_grid.specs.IrTriplets.{triplet_tests, map_triplets_written, map_qwritten};
-ghost use Rattle.common.specs.declared.Tested.TheVariants.{Accepted};
 ghost use Rattle.zone_steps.specs.Steps.{images_tested, start_of, list_tests, lists_of};
 ghost use Rattle.zone_steps.specs.StepsView.{grid, lists, Roomy, Chosen};
 
-use bz_triplets::BzTriplets;
-use bzgrid::{BzGridAddresses, GridType};
-use common::Tested;
-use triplet_grid::IrTriplets;
+use bzgrid::GridType;
+use common::Refusal;
 
 pub fn build_images(
     d: [i64; 3],
@@ -25,15 +23,15 @@ pub fn build_images(
     addresses: &mut [i64],
     map: &mut [i64],
     grg: &mut [i64],
-) -> Tested
+) -> Result<(), Refusal>
     ensures value { result ≡ images_tested (bz_answer d q ps lattice bz_grid_type (length addresses.old) (length map.old) (length grg.old)) }
     ensures addresses_after { addresses.new ≡ addresses_written d q ps lattice bz_grid_type (length addresses.old) (length map.old) (length grg.old) }
     ensures map_after { map.new ≡ map_written d q ps lattice bz_grid_type (length addresses.old) (length map.old) (length grg.old) }
     ensures grg_after { grg.new ≡ grg_written d q ps lattice bz_grid_type (length addresses.old) (length map.old) (length grg.old) }
 {
     match bzgrid::bz_grid_addresses(d, q, ps, lattice, bz_grid_type, addresses, map, grg) {
-        BzGridAddresses::Built(_) => Tested::Accepted,
-        BzGridAddresses::Refused(r) => Tested::Refused(r),
+        Ok(_) => Ok(()),
+        Err(r) => Err(r),
     }
 }
 
@@ -47,7 +45,7 @@ fn number_classes(
     n: usize,
     classes: &mut [i64],
     points: &mut [i64],
-) -> Tested
+) -> Result<(), Refusal>
     requires { (n ≤ length classes.old) × (n ≤ length points.old) }
     ensures value { result ≡ triplet_tests q0 d rotations.now is_time_reversal n n }
     ensures classes_after { classes.new ≡ map_triplets_written q0 d rotations.now is_time_reversal swappable n n ++ drop n classes.old }
@@ -62,8 +60,8 @@ fn number_classes(
         &mut classes[0..n],
         &mut points[0..n],
     ) {
-        IrTriplets::Classes(_) => Tested::Accepted,
-        IrTriplets::Refused(r) => Tested::Refused(r),
+        Ok(_) => Ok(()),
+        Err(r) => Err(r),
     }
 }
 
@@ -98,7 +96,7 @@ fn choose_triplets(
     triplets: &mut [i64],
     left: &mut [i64],
     lengths: &mut [f64],
-) -> Tested
+) -> Result<(), Refusal>
     requires { (length classes.now * 3 ≤ length triplets.old) × (length classes.now ≤ length left.old) × (length classes.now ≤ length lengths.old) }
     ensures { Chosen start addresses.now map.now classes.now d q lattice bz_grid_type result triplets.old left.old lengths.old triplets.new left.new lengths.new }
 {
@@ -116,8 +114,8 @@ fn choose_triplets(
         &mut left[0..k],
         &mut lengths[0..k],
     ) {
-        BzTriplets::Written => Tested::Accepted,
-        BzTriplets::Refused(r) => Tested::Refused(r),
+        Ok(()) => Ok(()),
+        Err(r) => Err(r),
     }
 }
 
@@ -160,7 +158,7 @@ pub fn list_classes(
     triplets: &mut [i64],
     left: &mut [i64],
     lengths: &mut [f64],
-) -> Tested
+) -> Result<(), Refusal>
     requires fact_1 { n ≡ size (sides_of d) }
     requires fact_2 { Roomy n (length classes.old) (length points.old) (length triplets.old) (length left.old) (length lengths.old) }
     ensures value { result ≡ list_tests (grid d q rotations.now lattice is_time_reversal swappable bz_grid_type q0) addresses.now map.now }
@@ -173,7 +171,7 @@ pub fn list_classes(
         &mut *left,
         &mut *lengths,
     );
-    if let Tested::Refused(r) = number_classes(
+    if let Err(r) = number_classes(
         q0,
         d,
         rotations,
@@ -183,7 +181,7 @@ pub fn list_classes(
         &mut *classes,
         &mut *points,
     ) {
-        return Tested::Refused(r);
+        return Err(r);
     }
     let start = start_of(bzgrid::grid_type(bz_grid_type), map, q0);
     choose_triplets(

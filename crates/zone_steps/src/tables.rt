@@ -1,14 +1,13 @@
 // The grid of a diagonal matrix: its rotations, images, classes and triplets.
 ghost use Rattle.std.specs.Prelude.{◌≡◌, T, negsuc, length, replicate};
 ghost use Rattle.common.specs.Limits.{diagonal_fits};
-ghost use Rattle.common.specs.declared.Tested.TheVariants.{Accepted};
-ghost use Rattle.common.specs.Tested.{after};
+ghost use Rattle.common.specs.Tested.{after, Accepted};
 ghost use Rattle.zone_steps.specs.Steps.{transformed, rotation_tests, grid_tests};
 ghost use Rattle.zone_steps.specs.StepsView.{grid, rooms, lists, Agreed, Listed};
 
 use crate::basis::Turned;
 use crate::{basis, grid};
-use common::{Refusal, Tested};
+use common::Refusal;
 
 // -1 in every place.
 pub fn wipe_tables(addresses: &mut [i64], map: &mut [i64], grg: &mut [i64])
@@ -40,7 +39,7 @@ fn list_grid(
     triplets: &mut [i64],
     left: &mut [i64],
     lengths: &mut [f64],
-) -> Tested
+) -> Result<(), Refusal>
     requires fact_1 { T (diagonal_fits d) }
     requires fact_2 { Agreed (length classes.old) (length points.old) (length triplets.old) (length left.old) (length lengths.old) }
     ensures value { result ≡ grid_tests (grid d q rotations.now lattice is_time_reversal swappable bz_grid_type q0) ps (rooms (length addresses.old) (length map.old) (length grg.old) (length classes.old) (length points.old) (length triplets.old) (length left.old) (length lengths.old)) }
@@ -48,9 +47,9 @@ fn list_grid(
 {
     let n = grgrid::points(grgrid::grid_of(d));
     if classes.len() < n {
-        return Tested::Refused(Refusal::WrongLength);
+        return Err(Refusal::WrongLength);
     }
-    if let Tested::Refused(r) = grid::build_images(
+    if let Err(r) = grid::build_images(
         d,
         q,
         ps,
@@ -60,7 +59,7 @@ fn list_grid(
         &mut *map,
         &mut *grg,
     ) {
-        return Tested::Refused(r);
+        return Err(r);
     }
     grid::list_classes(
         q0,
@@ -101,14 +100,14 @@ pub fn list_in_basis(
     triplets: &mut [i64],
     left: &mut [i64],
     lengths: &mut [f64],
-) -> Tested
+) -> Result<(), Refusal>
     requires { Agreed (length classes.old) (length points.old) (length triplets.old) (length left.old) (length lengths.old) }
     ensures value { result ≡ after (rotation_tests rotations.now is_time_reversal d q) (grid_tests (grid d q (transformed rotations.now is_time_reversal d q) lattice is_time_reversal swappable bz_grid_type q0) ps (rooms (length addresses.old) (length map.old) (length grg.old) (length classes.old) (length points.old) (length triplets.old) (length left.old) (length lengths.old))) }
     ensures listed { result ≡ Accepted → Listed (grid d q (transformed rotations.now is_time_reversal d q) lattice is_time_reversal swappable bz_grid_type q0) ps (rooms (length addresses.old) (length map.old) (length grg.old) (length classes.old) (length points.old) (length triplets.old) (length left.old) (length lengths.old)) addresses.new map.new grg.new (lists classes.new points.new triplets.new left.new lengths.new) }
 {
     let mut turned = [0; 432];
     match basis::turn_rotations(rotations, is_time_reversal, d, q, &mut turned) {
-        Turned::Rotations(n) => list_grid(
+        Ok(n) => list_grid(
             d,
             q,
             &turned[0..n * 9],
@@ -127,6 +126,6 @@ pub fn list_in_basis(
             left,
             lengths,
         ),
-        Turned::Refused(r) => Tested::Refused(r),
+        Err(r) => Err(r),
     }
 }

@@ -9,8 +9,7 @@ use Rattle.integer.proofs.Test.{holds, and_l}
 use Rattle.common.specs.Array.{sides_of, matrix_of}
 use Rattle.common.specs.FloatMatrix.{float_matrix}
 use Rattle.common.specs.Limits.{diagonal_fits, matrix_within, point_fits}
-use Rattle.common.specs.Tested.{require}
-use Rattle.common.specs.declared.Tested.TheVariants.{Accepted}
+use Rattle.common.specs.Tested.{require, Accepted}
 use Rattle.common.specs.declared.Refusal.TheVariants.{BadGridType}
 use Rattle.common.proofs.Tests.{yes, no}
 use Rattle.grgrid.specs.Grid.{size}

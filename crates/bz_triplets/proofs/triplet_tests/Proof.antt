@@ -8,10 +8,9 @@ use lib.IntN.{ℤ}
 use lib.ListN.{length}
 use mir.Facts.{to_z-of_z}
 use borrow.Author.Tests.{not-true, not-false}
+use Rattle.common.specs.Tested.{Tested, Accepted}
 use Rattle.integer.proofs.Fits.{held}
 use Rattle.common.specs.Array.{vector_of}
-use Rattle.common.specs.declared.Tested.{Tested}
-use Rattle.common.specs.declared.Tested.TheVariants.{Accepted}
 use Rattle.grgrid.specs.Grid.{size}
 use Rattle.grgrid.specs.Sides.{sides, GridFits}
 use Rattle.grgrid.proofs.Accepted.{grid-fits, few-points}
@@ -64,10 +63,10 @@ input-tests-requires c κs = search rules
 enum-known-r : tie.Need-enum_known-r
 enum-known-r c = search rules
 
-returns : tie.Need-returns-in-Refused
+returns : tie.Need-returns-in-Err
 returns c =
     let x = c in
-    as-given x.before.before.before (tests-refused (here x.before.before.before) (sym x.input_tests.ensures ∙ c.in-Refused.is))
+    as-given x.before.before.before (tests-refused (here x.before.before.before) (sym x.input_tests.ensures ∙ c.in-Err.is))
 
 enum_told : tie.Need-enum_told-1
 enum_told c = search rules

@@ -20,7 +20,7 @@ new-requires : tie.Need-new-requires
 new-requires c κs =
     let i = c in
     let a = i.args in
-    let h = input-accepted a.d a.q a.ps a.lattice i.grid_type-t.result (sym i.input_tests.ensures ∙ c.in-Accepted.is) in
+    let h = input-accepted a.d a.q a.ps a.lattice i.grid_type-t.result (sym i.input_tests.ensures ∙ c.in-Ok.is) in
     (h.grid, (h.entries, (h.unit, h.shift)))
 
 build-requires : tie.Need-build-requires
@@ -28,7 +28,7 @@ build-requires c κs =
     let n = c in
     let i = n in
     let a = i.args in
-    (n.new.ensures.0, (input-accepted a.d a.q a.ps a.lattice i.grid_type-t.result (sym i.input_tests.ensures ∙ n.in-Accepted.is)).known)
+    (n.new.ensures.0, (input-accepted a.d a.q a.ps a.lattice i.grid_type-t.result (sym i.input_tests.ensures ∙ n.in-Ok.is)).known)
 
 enum-known-r : tie.Need-enum_known-r
 enum-known-r c = search rules
@@ -36,16 +36,16 @@ enum-known-r c = search rules
 wipe-requires : tie.Need-wipe-requires
 wipe-requires c κs = search rules
 
-same_length : tie.Need-shape_of-addresses-in-Accepted
+same_length : tie.Need-shape_of-addresses-in-Ok
 same_length c = search rules
 
-same-length-2 : tie.Need-shape_of-map-in-Accepted
+same-length-2 : tie.Need-shape_of-map-in-Ok
 same-length-2 c = search rules
 
-same-length-3 : tie.Need-shape_of-grg-in-Accepted
+same-length-3 : tie.Need-shape_of-grg-in-Ok
 same-length-3 c = search rules
 
-returns : tie.Need-returns-in-Accepted
+returns : tie.Need-returns-in-Ok
 returns c =
     let b = c in
     let n = b in
@@ -54,18 +54,18 @@ returns c =
     let k = i.grid_type-t.ensures ∙ ap grid_type_of (to_z-of_z i.ranges.bz_grid_type) in
     let r = b.build.ensures in
     accepted-call a.d a.q a.ps a.lattice a.«bz_grid_type» (length a.addresses.now) (length a.map.now) (length a.grg.now)
-    (sym (ap (input_tests a.d a.q a.ps a.lattice) k) ∙ sym i.input_tests.ensures ∙ n.in-Accepted.is) k n.new.ensures.1 r.0 r.1.0 r.1.1.0 r.1.1.1
+    (sym (ap (input_tests a.d a.q a.ps a.lattice) k) ∙ sym i.input_tests.ensures ∙ n.in-Ok.is) k n.new.ensures.1 r.0 r.1.0 r.1.1.0 r.1.1.1
 
-same-length-4 : tie.Need-shape_of-addresses-in-Refused
+same-length-4 : tie.Need-shape_of-addresses-in-Err
 same-length-4 c = search rules
 
-same-length-5 : tie.Need-shape_of-map-in-Refused
+same-length-5 : tie.Need-shape_of-map-in-Err
 same-length-5 c = search rules
 
-same-length-6 : tie.Need-shape_of-grg-in-Refused
+same-length-6 : tie.Need-shape_of-grg-in-Err
 same-length-6 c = search rules
 
-returns-2 : tie.Need-returns-in-Refused
+returns-2 : tie.Need-returns-in-Err
 returns-2 c =
     let w = c in
     let r = w in
@@ -73,7 +73,7 @@ returns-2 c =
     let a = i.args in
     let k = i.grid_type-t.ensures ∙ ap grid_type_of (to_z-of_z i.ranges.bz_grid_type) in
     refused-call a.d a.q a.ps a.lattice a.«bz_grid_type» (length a.addresses.now) (length a.map.now) (length a.grg.now)
-    (sym (ap (input_tests a.d a.q a.ps a.lattice) k) ∙ sym i.input_tests.ensures ∙ r.in-Refused.is) w.wipe.ensures.0 w.wipe.ensures.1.0 w.wipe.ensures.1.1
+    (sym (ap (input_tests a.d a.q a.ps a.lattice) k) ∙ sym i.input_tests.ensures ∙ r.in-Err.is) w.wipe.ensures.0 w.wipe.ensures.1.0 w.wipe.ensures.1.1
 
 pub bz_grid_addresses_spec : {M : Type 1} → statement M
 bz_grid_addresses_spec =

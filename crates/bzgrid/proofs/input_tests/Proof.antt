@@ -4,8 +4,7 @@ use borrow.Author.Rules.{rules}
 use Rattle.integer.proofs.Test.{holds, and_l, and_r}
 use Rattle.common.proofs.Tests.{yes, no}
 use Rattle.common.specs.declared.Refusal.TheVariants.{SingularReciprocalLattice}
-use Rattle.common.specs.declared.Tested.TheVariants.{Accepted}
-use Rattle.common.specs.Tested.{require}
+use Rattle.common.specs.Tested.{require, Accepted}
 use Rattle.common.specs.Limits.{diagonal_fits, matrix_within, shift_fits}
 use Rattle.common.specs.FloatMatrix.{float_matrix}
 use Rattle.common.specs.Array.{matrix_of}

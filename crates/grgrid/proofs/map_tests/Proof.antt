@@ -3,8 +3,7 @@ use borrow.Author.Rules.{rules}
 use borrow.Author.Tests.{eq-eqb, ne_eqb}
 use Rattle.integer.proofs.Test.{holds}
 use Rattle.common.specs.Array.{sides_of}
-use Rattle.common.specs.Tested.{require}
-use Rattle.common.specs.declared.Tested.TheVariants.{Accepted}
+use Rattle.common.specs.Tested.{require, Accepted}
 use Rattle.common.specs.declared.Refusal.TheVariants.{OutsideLimits}
 use Rattle.common.proofs.Tests.{yes, no}
 use Rattle.grgrid.specs.Grid.{size}

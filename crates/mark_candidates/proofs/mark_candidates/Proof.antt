@@ -4,9 +4,7 @@ use Prim.Native.Nat.{ℕ}
 use lib.IntN.{ℤ}
 use lib.ListN.{length}
 use mir.Facts.{to_z-of_z}
-use Rattle.common.specs.Tested.{output_of}
-use Rattle.common.specs.declared.Tested.{Tested}
-use Rattle.common.specs.declared.Tested.TheVariants.{Accepted}
+use Rattle.common.specs.Tested.{output_of, Tested, Accepted}
 use Rattle.mark_candidates.specs.MarkCandidates.{mark_tests, marks, marked, mark_candidates}
 use Rattle.mark_candidates.specs.CertainMarks.{MarksSay}
 use Rattle.mark_candidates.proofs.AcceptedCall.{marks-say}
@@ -43,7 +41,7 @@ leaves d q ps lowest highest point n {t} {l} e w = (same, says)
     says a = subst (MarksSay d q ps lowest highest point) (sym (ap (λ m. m.marks) same)) (marks-say d q ps lowest highest point n (sym (ap (λ m. m.answer) same) ∙ a))
 
 mark-point-requires : tie.Need-mark_point-requires
-mark-point-requires c κs = sym c.mark_tests.ensures ∙ c.in-Accepted.is
+mark-point-requires c κs = sym c.mark_tests.ensures ∙ c.in-Ok.is
 
 enum-known-e : tie.Need-enum_known-e
 enum-known-e c = search rules
@@ -51,25 +49,25 @@ enum-known-e c = search rules
 fill-requires : tie.Need-fill-requires
 fill-requires c κs = search rules
 
-same_length : tie.Need-shape_of-marks-in-Accepted
+same_length : tie.Need-shape_of-marks-in-Ok
 same_length c = search rules
 
-returns : tie.Need-returns-in-Accepted
+returns : tie.Need-returns-in-Ok
 returns c =
     let t = c.before.before.before in
     let s = t in
     let a = s.args in
-    leaves a.d a.q a.ps a.r.lowest a.r.highest a.point (length a.marks.now) (sym c.in-Accepted.is ∙ tested t.before)
+    leaves a.d a.q a.ps a.r.lowest a.r.highest a.point (length a.marks.now) (sym c.in-Ok.is ∙ tested t.before)
     (c.mark_point.ensures ∙ ap (marks a.d a.q a.ps a.r.lowest a.r.highest) (to_z-of_z s.ranges.point))
 
-same-length-2 : tie.Need-shape_of-marks-in-Refused
+same-length-2 : tie.Need-shape_of-marks-in-Err
 same-length-2 c = search rules
 
-returns-2 : tie.Need-returns-in-Refused
+returns-2 : tie.Need-returns-in-Err
 returns-2 c =
     let t = c.before.before.before in
     let a = t.args in
-    leaves a.d a.q a.ps a.r.lowest a.r.highest a.point (length a.marks.now) (sym c.in-Refused.is ∙ tested t.before) c.fill.ensures
+    leaves a.d a.q a.ps a.r.lowest a.r.highest a.point (length a.marks.now) (sym c.in-Err.is ∙ tested t.before) c.fill.ensures
 
 pub mark_candidates_spec : {M : Type 1} → statement M
 mark_candidates_spec =

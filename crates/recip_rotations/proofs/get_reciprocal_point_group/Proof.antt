@@ -17,24 +17,24 @@ enum-known-r c = search rules
 fill-requires : tie.Need-fill-requires
 fill-requires c κs = search rules
 
-same_length : tie.Need-shape_of-out-in-Rotations
+same_length : tie.Need-shape_of-out-in-Ok
 same_length c = search rules
 
-returns : tie.Need-returns-in-Rotations
+returns : tie.Need-returns-in-Ok
 returns c =
     let a = c.args in
     let g = c.group_of.ensures in
-    (sym c.in-Rotations.is ∙ answered a.rotations.now a.is_time_reversal a.is_transpose (length a.out.now) g, group-written a.rotations.now a.is_time_reversal a.is_transpose (length a.out.now) g c.in-Rotations.is)
+    (sym c.in-Ok.is ∙ answered a.rotations.now a.is_time_reversal a.is_transpose (length a.out.now) g, group-written a.rotations.now a.is_time_reversal a.is_transpose (length a.out.now) g c.in-Ok.is)
 
-same-length-2 : tie.Need-shape_of-out-in-Refused
+same-length-2 : tie.Need-shape_of-out-in-Err
 same-length-2 c = search rules
 
-returns-2 : tie.Need-returns-in-Refused
+returns-2 : tie.Need-returns-in-Err
 returns-2 c =
     let a = c.args in
     let g = c.group_of.ensures in (
-      sym c.in-Refused.is ∙ answered a.rotations.now a.is_time_reversal a.is_transpose (length a.out.now) g,
-      blank-written a.rotations.now a.is_time_reversal a.is_transpose (length a.out.now) g (length c.group_of.new.out) c.in-Refused.is c.fill.ensures (search rules),
+      sym c.in-Err.is ∙ answered a.rotations.now a.is_time_reversal a.is_transpose (length a.out.now) g,
+      blank-written a.rotations.now a.is_time_reversal a.is_transpose (length a.out.now) g (length c.group_of.new.out) c.in-Err.is c.fill.ensures (search rules),
     )
 
 pub get_reciprocal_point_group_spec : {M : Type 1} → statement M

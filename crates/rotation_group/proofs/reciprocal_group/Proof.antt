@@ -20,23 +20,23 @@ enum-known-r c = search rules
 fill-requires : tie.Need-fill-requires
 fill-requires c κs = search rules
 
-same_length : tie.Need-shape_of-out-in-Accepted
+same_length : tie.Need-shape_of-out-in-Ok
 same_length c = search rules
 
-returns : tie.Need-returns-in-Accepted
+returns : tie.Need-returns-in-Ok
 returns c =
     let a = c.args in
-    let e = sym c.given_tests.ensures ∙ c.in-Accepted.is in
+    let e = sym c.given_tests.ensures ∙ c.in-Ok.is in
     let r = c.reciprocal_rotations.ensures in
     (r.0 ∙ group-answer a.rotations.now a.is_time_reversal (length a.out.now) e, r.1 ∙ group-written a.rotations.now a.is_time_reversal (length a.out.now) e)
 
-same-length-2 : tie.Need-shape_of-out-in-Refused
+same-length-2 : tie.Need-shape_of-out-in-Err
 same-length-2 c = search rules
 
-returns-2 : tie.Need-returns-in-Refused
+returns-2 : tie.Need-returns-in-Err
 returns-2 c =
     let a = c.args in
-    let e = sym c.given_tests.ensures ∙ c.in-Refused.is in
+    let e = sym c.given_tests.ensures ∙ c.in-Err.is in
     (refused-answer a.rotations.now a.is_time_reversal (length a.out.now) e, c.fill.ensures ∙ refused-written a.rotations.now a.is_time_reversal (length a.out.now) e)
 
 pub reciprocal_group_spec : {M : Type 1} → statement M

@@ -3,8 +3,7 @@ use mathlib.Core.Bool.{not}
 use lib.ListN.{length}
 use Rattle.common.proofs.Tests.{yes, no}
 use Rattle.common.specs.declared.Refusal.TheVariants.{SingularQ}
-use Rattle.common.specs.declared.Tested.TheVariants.{Accepted}
-use Rattle.common.specs.Tested.{require}
+use Rattle.common.specs.Tested.{require, Accepted}
 use Rattle.transform_rotations.specs.TransformRotations.{input_tests}
 use borrow.Author.Tests.{le-leb, lt-leb, eq-eqb, ne_eqb}
 use borrow.Author.Rules.{rules}

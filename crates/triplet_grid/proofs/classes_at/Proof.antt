@@ -21,11 +21,11 @@ enum-known-count c = search rules
 slice-aggregate-number-classes : tie.Need-slice_bounds-number_classes-end
 slice-aggregate-number-classes c = search rules
 
-told : (c : tie.In-Rotations) → let b = c.before.before in let a = b.args in Told a.rotations.now a.is_time_reversal b.get_reciprocal_point_group.new.out c.in-Rotations.count
+told : (c : tie.In-Ok) → let b = c.before.before in let a = b.args in Told a.rotations.now a.is_time_reversal b.get_reciprocal_point_group.new.out c.in-Ok.count
 told c =
     let b = c in
     let s = b in
-    group-told s.args.rotations.now s.args.is_time_reversal s.requires.1.1.0 s.requires.1.1.1.0 432 refl b.get_reciprocal_point_group.ensures.0 c.in-Rotations.is b.get_reciprocal_point_group.ensures.1
+    group-told s.args.rotations.now s.args.is_time_reversal s.requires.1.1.0 s.requires.1.1.1.0 432 refl b.get_reciprocal_point_group.ensures.0 c.in-Ok.is b.get_reciprocal_point_group.ensures.1
 
 number-classes-requires : tie.Need-number_classes-requires
 number-classes-requires c κs =
@@ -39,17 +39,17 @@ enum-known-r c = search rules
 same_length : tie.Need-shape_of-map_q
 same_length c = search rules
 
-returns : tie.Need-returns-in-Rotations
+returns : tie.Need-returns-in-Ok
 unfolding classes_at
 returns c =
     let a = c.args in
     let t = told c.before.before.before.before.before in
     (t.accepted, λ _. c.number_classes.ensures ∙ ap (λ l. map pos (map_q_of (sides a.g) a.q0 l)) t.read)
 
-returns-2 : tie.Need-returns-in-Refused
+returns-2 : tie.Need-returns-in-Err
 returns-2 c =
     let s = c in
-    (refused s.args.rotations.now s.args.is_time_reversal s.requires.1.1.0 s.requires.1.1.1.0 432 refl c.get_reciprocal_point_group.ensures.0 c.in-Refused.is, λ e. never e)
+    (refused s.args.rotations.now s.args.is_time_reversal s.requires.1.1.0 s.requires.1.1.1.0 432 refl c.get_reciprocal_point_group.ensures.0 c.in-Err.is, λ e. never e)
 
 pub classes_at_spec : {M : Type 1} → statement M
 classes_at_spec =

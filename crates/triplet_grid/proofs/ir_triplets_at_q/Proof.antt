@@ -7,16 +7,15 @@ use lib.ListN.{length, replicate}
 use lib.Signed.{non_neg}
 use mir.Facts.{to_z-of_z}
 use borrow.Author.Rules.{rules}
+use Rattle.std.specs.Prelude.{Ok}
+use Rattle.common.specs.Tested.{Tested, Accepted}
 use Rattle.integer.proofs.Fits.{held, held-is}
 use Rattle.common.specs.Array.{sides_of, matrices}
-use Rattle.common.specs.declared.Tested.{Tested}
-use Rattle.common.specs.declared.Tested.TheVariants.{Accepted}
 use Rattle.grgrid.specs.Grid.{size}
 use Rattle.grgrid.specs.Sides.{sides, GridFits}
 use Rattle.grgrid.specs.ClassMap.{kept}
 use Rattle.grgrid.proofs.Accepted.{grid-fits}
 use Rattle.triplet_grid.specs.IrTriplets.{input_tests, triplet_tests, classes_at, map_triplets_of}
-use Rattle.triplet_grid.specs.declared.IrTriplets.TheVariants.{Classes}
 use Rattle.grgrid.proofs.Numbers.{numbers_of}
 use Rattle.triplet_grid.proofs.Swapping.{classes-numbered}
 use Rattle.triplet_grid.proofs.Outcome.{InputAccepted, input-accepted, outcome, input-refused, then-room}
@@ -46,17 +45,17 @@ enum-known-r c = search rules
 refuse-requires : tie.Need-refuse-requires
 refuse-requires c κs = search rules
 
-same_length : tie.Need-shape_of-map_triplets-in-Refused
+same_length : tie.Need-shape_of-map_triplets-in-Err
 same_length c = search rules
 
-same-length-2 : tie.Need-shape_of-map_q-in-Refused
+same-length-2 : tie.Need-shape_of-map_q-in-Err
 same-length-2 c = search rules
 
-returns : tie.Need-returns-in-Refused
+returns : tie.Need-returns-in-Err
 returns c =
     let a = c.args in
     let f = c.refuse.ensures in
-    let e = sym (tests c.before.before.before.before.before.before) ∙ c.in-Refused.is in
+    let e = sym (tests c.before.before.before.before.before.before) ∙ c.in-Err.is in
     outcome a.q0 a.d a.rotations.now a.is_time_reversal (length a.map_triplets.now) (length a.map_q.now) a.swappable
     (input-refused a.q0 a.d a.rotations.now a.is_time_reversal (length a.map_triplets.now) (length a.map_q.now) e)
     f.0 f.1.0 f.1.1
@@ -91,7 +90,7 @@ classes-at-requires c κs =
     let a = accepted c.before.before in
     (grid c.before, ((point c.before).1, (a.whole, (a.fit, a.classes ∙ ap size (sym c.grid_of-g.ensures)))))
 
-enum-told-2 : tie.Need-enum_told-in-Accepted
+enum-told-2 : tie.Need-enum_told-in-Ok
 enum-told-2 c = search rules
 
 -- the last test
@@ -102,11 +101,11 @@ room c =
     c.classes_at.ensures.0 ∙ then-room a.q0 a.d a.rotations.now a.is_time_reversal (length a.map_triplets.now) (length a.map_q.now) (input b)
 
 -- the class map
-classes : (c : tie.In-Accepted) → let g = c in let a = g.args in
+classes : (c : tie.In-Ok) → let g = c in let a = g.args in
     c.classes_at.new.map_q ≡ map pos (classes_at (nat_abs (held a.q0)) (sides g.grid_of-g.result) (matrices a.rotations.now) a.is_time_reversal)
-classes c = c.classes_at.ensures.1 c.in-Accepted.is
+classes c = c.classes_at.ensures.1 c.in-Ok.is
 
-cast-number-triplets : tie.Need-overflow_cast-q0-in-Accepted
+cast-number-triplets : tie.Need-overflow_cast-q0-in-Ok
 cast-number-triplets c = let g = c.before.before.before.before in let f = grid g in ((point g).0, let p = (point g).1 in search rules)
 
 number-triplets-requires : tie.Need-number_triplets-requires
@@ -117,19 +116,19 @@ number-triplets-requires c κs =
     let h = ap size (sym g.grid_of-g.ensures) in
     (grid g, ((point g).1, (classes-numbered (nat_abs (held a.q0)) (sides g.grid_of-g.result) (matrices a.rotations.now) a.is_time_reversal (classes c.before), (search rules, p.triplets ∙ h))))
 
-enum-known-r-2 : tie.Need-enum_known-r-in-Refused-classes_at
+enum-known-r-2 : tie.Need-enum_known-r-in-Err-classes_at
 enum-known-r-2 c = search rules
 
-refuse-requires-2 : tie.Need-refuse-requires-in-Refused-classes_at
+refuse-requires-2 : tie.Need-refuse-requires-in-Err-classes_at
 refuse-requires-2 c κs = search rules
 
-same-length-3 : tie.Need-shape_of-map_triplets-in-Accepted
+same-length-3 : tie.Need-shape_of-map_triplets-in-Ok
 same-length-3 c = search rules
 
-same-length-4 : tie.Need-shape_of-map_q-in-Accepted
+same-length-4 : tie.Need-shape_of-map_q-in-Ok
 same-length-4 c = search rules
 
-returns-2 : tie.Need-returns-in-Accepted
+returns-2 : tie.Need-returns-in-Ok
 returns-2 c =
     let g = c in
     let a = g.args in
@@ -139,25 +138,25 @@ returns-2 c =
     let l = numbers_of (classes_at (nat_abs a.q0) (sides_of a.d) (matrices a.rotations.now) a.is_time_reversal) m in
     let t = c.number_triplets in
     outcome a.q0 a.d a.rotations.now a.is_time_reversal (length a.map_triplets.now) (length a.map_q.now) a.swappable
-    (sym c.in-Accepted.is ∙ room c.before.before.before.before.before)
-    (ap Classes (held-is _ t.type_inv ∙ t.ensures.1 ∙ (λ i. pos (kept (map_triplets_of a.swappable (d i) (nat_abs (q i)) (l i)) (size (d i))))))
+    (sym c.in-Ok.is ∙ room c.before.before.before.before.before)
+    (ap Ok (held-is _ t.type_inv ∙ t.ensures.1 ∙ (λ i. pos (kept (map_triplets_of a.swappable (d i) (nat_abs (q i)) (l i)) (size (d i))))))
     (t.ensures.0 ∙ (λ i. map pos (map_triplets_of a.swappable (d i) (nat_abs (q i)) (l i))))
     m
 
-same-length-5 : tie.Need-shape_of-map_triplets-in-Refused-classes_at
+same-length-5 : tie.Need-shape_of-map_triplets-in-Err-classes_at
 same-length-5 c = search rules
 
-same-length-6 : tie.Need-shape_of-map_q-in-Refused-classes_at
+same-length-6 : tie.Need-shape_of-map_q-in-Err-classes_at
 same-length-6 c = search rules
 
-returns-3 : tie.Need-returns-in-Refused-classes_at
+returns-3 : tie.Need-returns-in-Err-classes_at
 returns-3 c =
     let b = c.before.before.before.before.before in
     let a = b.args in
-    let f = c.refuse-in-Refused-classes_at.ensures in
+    let f = c.refuse-in-Err-classes_at.ensures in
     let e : length b.classes_at.new.map_q ≡ length a.map_q.now = search rules in
     outcome a.q0 a.d a.rotations.now a.is_time_reversal (length a.map_triplets.now) (length a.map_q.now) a.swappable
-    (sym c.in-Refused-classes_at.is ∙ room b.before.before)
+    (sym c.in-Err-classes_at.is ∙ room b.before.before)
     f.0 f.1.0 (f.1.1 ∙ ap (λ n. replicate n (negsuc 0)) e)
 
 pub ir_triplets_at_q_spec : {M : Type 1} → statement M

@@ -11,8 +11,7 @@ use borrow.Author.Tests.{eq-eqb, ne_eqb, not-true, not-false}
 use Rattle.integer.proofs.Test.{holds}
 use Rattle.common.specs.Array.{sides_of}
 use Rattle.common.specs.Limits.{whole_matrices, diagonal_fits, point_fits, rotations_fit}
-use Rattle.common.specs.Tested.{require}
-use Rattle.common.specs.declared.Tested.TheVariants.{Accepted}
+use Rattle.common.specs.Tested.{require, Accepted}
 use Rattle.common.specs.declared.Refusal.TheVariants.{OutsideLimits}
 use Rattle.common.proofs.Tests.{yes, no}
 use Rattle.grgrid.specs.Grid.{size}

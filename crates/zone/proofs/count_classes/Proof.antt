@@ -2,8 +2,8 @@ use mathlib.Core.Path.{◌∙◌, ap}
 use lib.IntN.{pos}
 use mir.Syntax.{w64}
 use mir.Facts.{to_z_pos}
-use Rattle.common.specs.declared.Tested.TheVariants.{Accepted}
 use borrow.Author.Rules.{rules}
+use Rattle.common.specs.Tested.{Accepted}
 use Rattle.zone.proofs.count_classes.Statement.{statement}
 use Rattle.zone.proofs.count_classes.Tie as tie
 

@@ -46,31 +46,31 @@ wipe-tables-requires c κs = search rules
 wipe-lists-requires : tie.Need-wipe_lists-requires
 wipe-lists-requires c κs = search rules
 
-same_length : tie.Need-shape_of-addresses-in-Refused
+same_length : tie.Need-shape_of-addresses-in-Err
 same_length c = search rules
 
-same-length-2 : tie.Need-shape_of-map-in-Refused
+same-length-2 : tie.Need-shape_of-map-in-Err
 same-length-2 c = search rules
 
-same-length-3 : tie.Need-shape_of-grg-in-Refused
+same-length-3 : tie.Need-shape_of-grg-in-Err
 same-length-3 c = search rules
 
-same-length-4 : tie.Need-shape_of-classes-in-Refused
+same-length-4 : tie.Need-shape_of-classes-in-Err
 same-length-4 c = search rules
 
-same-length-5 : tie.Need-shape_of-points-in-Refused
+same-length-5 : tie.Need-shape_of-points-in-Err
 same-length-5 c = search rules
 
-same-length-6 : tie.Need-shape_of-triplets-in-Refused
+same-length-6 : tie.Need-shape_of-triplets-in-Err
 same-length-6 c = search rules
 
-same-length-7 : tie.Need-shape_of-left-in-Refused
+same-length-7 : tie.Need-shape_of-left-in-Err
 same-length-7 c = search rules
 
-same-length-8 : tie.Need-shape_of-lengths-in-Refused
+same-length-8 : tie.Need-shape_of-lengths-in-Err
 same-length-8 c = search rules
 
-returns : tie.Need-returns-in-Refused
+returns : tie.Need-returns-in-Err
 returns c =
     let wl = c in
     let wt = wl in
@@ -83,9 +83,9 @@ returns c =
     let t = wt.wipe_tables.ensures in
     let w = wl.wipe_lists.ensures in
     let q =
-    left-refused (job_at s) (rooms_at s) e told.in-Refused.is (blank (negsuc 0) t.0 y.addresses-1.given) (blank (negsuc 0) t.1.0 y.map-1.given) (blank (negsuc 0) t.1.1 y.grg-1.given)
+    left-refused (job_at s) (rooms_at s) e told.in-Err.is (blank (negsuc 0) t.0 y.addresses-1.given) (blank (negsuc 0) t.1.0 y.map-1.given) (blank (negsuc 0) t.1.1 y.grg-1.given)
     (λ i. lists (blank (negsuc 0) w.0 y.classes-1.given i) (blank (negsuc 0) w.1.0 x.points-1.given i) (blank (negsuc 0) w.1.1.0 x.triplets-1.given i) (blank (negsuc 0) w.1.1.1.0 x.left-1.given i) (blank (of_int binary64 (negsuc 0)) w.1.1.1.1 x.lengths-1.given i)) in
-    (e, (q.0, (q.1.0, (q.1.1.0, (q.1.1.1, λ h. absurd (not-accepted (sym told.in-Refused.is ∙ h)))))))
+    (e, (q.0, (q.1.0, (q.1.1.0, (q.1.1.1, λ h. absurd (not-accepted (sym told.in-Err.is ∙ h)))))))
 
 enum-told-2 : tie.Need-enum_told-in_default
 enum-told-2 c = search rules

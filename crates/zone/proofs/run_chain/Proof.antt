@@ -34,14 +34,14 @@ snf3x3-requires c κs = search rules
 enum-known-t : tie.Need-enum_known-t
 enum-known-t c = search rules
 
-refused-requires-2 : tie.Need-refused-requires-in-Refused
+refused-requires-2 : tie.Need-refused-requires-in-Err
 refused-requires-2 c κs = search rules
 
-returns-2 : tie.Need-returns-in-Refused
+returns-2 : tie.Need-returns-in-Err
 returns-2 c =
     let s = c.before.before.before.before.before.before.before.before in
     let agree = yes c.rooms_agree.ensures c.if-not-rooms_agree.false-raw in
-    (diagonal-refused (job_at s) (rooms_at s) agree c.snf3x3-s.ensures.0 c.in-Refused.is c.refused-in-Refused.ensures, λ e. absurd (not-accepted (sym (ap (λ f. f.tested) c.refused-in-Refused.ensures) ∙ e)))
+    (diagonal-refused (job_at s) (rooms_at s) agree c.snf3x3-s.ensures.0 c.in-Err.is c.refused-in-Err.ensures, λ e. absurd (not-accepted (sym (ap (λ f. f.tested) c.refused-in-Err.ensures) ∙ e)))
 
 enum_told : tie.Need-enum_told-1
 enum_told c = search rules
@@ -55,7 +55,7 @@ list-in-basis-requires c κs =
     let agree = yes c.rooms_agree.ensures c.if-not-rooms_agree.false-raw in
     rooms-agreed (rooms_at s) agree
 
-enum-told-2 : tie.Need-enum_told-in-Accepted
+enum-told-2 : tie.Need-enum_told-in-Ok
 enum-told-2 c = search rules
 
 count-classes-requires : tie.Need-count_classes-requires
@@ -68,34 +68,34 @@ count-classes-requires c κs =
 enum-known-r : tie.Need-enum_known-r
 enum-known-r c = search rules
 
-refused-requires-3 : tie.Need-refused-requires-in-Refused-list_in_basis
+refused-requires-3 : tie.Need-refused-requires-in-Err-list_in_basis
 refused-requires-3 c κs = search rules
 
-same_length : tie.Need-shape_of-addresses-in-Accepted
+same_length : tie.Need-shape_of-addresses-in-Ok
 same_length c = search rules
 
-same-length-2 : tie.Need-shape_of-map-in-Accepted
+same-length-2 : tie.Need-shape_of-map-in-Ok
 same-length-2 c = search rules
 
-same-length-3 : tie.Need-shape_of-grg-in-Accepted
+same-length-3 : tie.Need-shape_of-grg-in-Ok
 same-length-3 c = search rules
 
-same-length-4 : tie.Need-shape_of-classes-in-Accepted
+same-length-4 : tie.Need-shape_of-classes-in-Ok
 same-length-4 c = search rules
 
-same-length-5 : tie.Need-shape_of-points-in-Accepted
+same-length-5 : tie.Need-shape_of-points-in-Ok
 same-length-5 c = search rules
 
-same-length-6 : tie.Need-shape_of-triplets-in-Accepted
+same-length-6 : tie.Need-shape_of-triplets-in-Ok
 same-length-6 c = search rules
 
-same-length-7 : tie.Need-shape_of-left-in-Accepted
+same-length-7 : tie.Need-shape_of-left-in-Ok
 same-length-7 c = search rules
 
-same-length-8 : tie.Need-shape_of-lengths-in-Accepted
+same-length-8 : tie.Need-shape_of-lengths-in-Ok
 same-length-8 c = search rules
 
-returns-3 : tie.Need-returns-in-Accepted
+returns-3 : tie.Need-returns-in-Ok
 returns-3 c =
     let s = c.before.before.before.before.before.before.before.before.before.before.before.before.before.before.before.before.before.before.before.before.before.before.before.before.before.before.before.before in
     let agree = yes c.rooms_agree.ensures c.if-not-rooms_agree.false-raw in
@@ -104,35 +104,35 @@ returns-3 c =
     let q = c.nested.ensures in
     let eu = to_z-of_z s.ranges.bz_grid_type in
     let ei = to_z-of_z s.ranges.q0 in (
-      chain-finished (job_at s) (rooms_at s) agree es c.in_default.is q eu ei l.0 c.in-Accepted.is (l.1 c.in-Accepted.is) c.count_classes.ensures,
-      λ _. chain-listed (job_at s) (rooms_at s) agree es c.in_default.is q eu ei l.0 c.in-Accepted.is (l.1 c.in-Accepted.is),
+      chain-finished (job_at s) (rooms_at s) agree es c.in_default.is q eu ei l.0 c.in-Ok.is (l.1 c.in-Ok.is) c.count_classes.ensures,
+      λ _. chain-listed (job_at s) (rooms_at s) agree es c.in_default.is q eu ei l.0 c.in-Ok.is (l.1 c.in-Ok.is),
     )
 
-same-length-9 : tie.Need-shape_of-addresses-in-Refused-list_in_basis
+same-length-9 : tie.Need-shape_of-addresses-in-Err-list_in_basis
 same-length-9 c = search rules
 
-same-length-10 : tie.Need-shape_of-map-in-Refused-list_in_basis
+same-length-10 : tie.Need-shape_of-map-in-Err-list_in_basis
 same-length-10 c = search rules
 
-same-length-11 : tie.Need-shape_of-grg-in-Refused-list_in_basis
+same-length-11 : tie.Need-shape_of-grg-in-Err-list_in_basis
 same-length-11 c = search rules
 
-same-length-12 : tie.Need-shape_of-classes-in-Refused-list_in_basis
+same-length-12 : tie.Need-shape_of-classes-in-Err-list_in_basis
 same-length-12 c = search rules
 
-same-length-13 : tie.Need-shape_of-points-in-Refused-list_in_basis
+same-length-13 : tie.Need-shape_of-points-in-Err-list_in_basis
 same-length-13 c = search rules
 
-same-length-14 : tie.Need-shape_of-triplets-in-Refused-list_in_basis
+same-length-14 : tie.Need-shape_of-triplets-in-Err-list_in_basis
 same-length-14 c = search rules
 
-same-length-15 : tie.Need-shape_of-left-in-Refused-list_in_basis
+same-length-15 : tie.Need-shape_of-left-in-Err-list_in_basis
 same-length-15 c = search rules
 
-same-length-16 : tie.Need-shape_of-lengths-in-Refused-list_in_basis
+same-length-16 : tie.Need-shape_of-lengths-in-Err-list_in_basis
 same-length-16 c = search rules
 
-returns-4 : tie.Need-returns-in-Refused-list_in_basis
+returns-4 : tie.Need-returns-in-Err-list_in_basis
 returns-4 c =
     let s = c.before.before.before.before.before.before.before.before.before.before.before.before.before.before.before.before.before.before.before.before.before.before.before.before.before.before.before.before in
     let agree = yes c.rooms_agree.ensures c.if-not-rooms_agree.false-raw in
@@ -141,7 +141,7 @@ returns-4 c =
     let q = c.nested.ensures in
     let eu = to_z-of_z s.ranges.bz_grid_type in
     let ei = to_z-of_z s.ranges.q0 in
-    (grid-refused (job_at s) (rooms_at s) agree es c.in_default.is q eu ei l.0 c.in-Refused-list_in_basis.is c.refused-in-Refused-list_in_basis.ensures, λ e. absurd (not-accepted (sym (ap (λ f. f.tested) c.refused-in-Refused-list_in_basis.ensures) ∙ e)))
+    (grid-refused (job_at s) (rooms_at s) agree es c.in_default.is q eu ei l.0 c.in-Err-list_in_basis.is c.refused-in-Err-list_in_basis.ensures, λ e. absurd (not-accepted (sym (ap (λ f. f.tested) c.refused-in-Err-list_in_basis.ensures) ∙ e)))
 
 pub run_chain_spec : {M : Type 1} → statement M
 run_chain_spec =

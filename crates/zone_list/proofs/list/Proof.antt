@@ -29,41 +29,41 @@ wipe-tables-requires c κs = search rules
 wipe-lists-requires : tie.Need-wipe_lists-requires
 wipe-lists-requires c κs = search rules
 
-same_length : tie.Need-shape_of-addresses-in-Refused
+same_length : tie.Need-shape_of-addresses-in-Err
 same_length c = search rules
 
-same-length-2 : tie.Need-shape_of-map-in-Refused
+same-length-2 : tie.Need-shape_of-map-in-Err
 same-length-2 c = search rules
 
-same-length-3 : tie.Need-shape_of-grg-in-Refused
+same-length-3 : tie.Need-shape_of-grg-in-Err
 same-length-3 c = search rules
 
-same-length-4 : tie.Need-shape_of-classes-in-Refused
+same-length-4 : tie.Need-shape_of-classes-in-Err
 same-length-4 c = search rules
 
-same-length-5 : tie.Need-shape_of-points-in-Refused
+same-length-5 : tie.Need-shape_of-points-in-Err
 same-length-5 c = search rules
 
-same-length-6 : tie.Need-shape_of-triplets-in-Refused
+same-length-6 : tie.Need-shape_of-triplets-in-Err
 same-length-6 c = search rules
 
-same-length-7 : tie.Need-shape_of-left-in-Refused
+same-length-7 : tie.Need-shape_of-left-in-Err
 same-length-7 c = search rules
 
-same-length-8 : tie.Need-shape_of-lengths-in-Refused
+same-length-8 : tie.Need-shape_of-lengths-in-Err
 same-length-8 c = search rules
 
-same-length-9 : tie.Need-shape_of-text-in-Refused
+same-length-9 : tie.Need-shape_of-text-in-Err
 same-length-9 c = search rules
 
-returns : tie.Need-returns-in-Refused
+returns : tie.Need-returns-in-Err
 returns c =
     let s = c.before.before.before.before.before.before.before.before.before.before.before.before.before.before.before.before.before.before.before.before.before.before.before.before.before.before.before.before.before.before.before.before.before.before.before.before.before.before.before.before.before.before.before.before.before in
     let r = c.run_job-f.ensures in
     let p = c.print_finished-a.ensures in
     let b = s.args.job.now in
     let n = length s.args.text.now in
-    let a = sym c.in-Refused.is ∙ p.0 in
+    let a = sym c.in-Err.is ∙ p.0 in
     let t = c.wipe_tables.ensures in
     let w = c.wipe_lists.ensures in
     let k = wiped-lists b (rooms_at s) r.0 r.1 n a

@@ -14,13 +14,13 @@ enum-known-t c = search rules
 clear-requires : tie.Need-clear-requires
 clear-requires c κs = search rules
 
-same_length : tie.Need-shape_of-text-in-Refused
+same_length : tie.Need-shape_of-text-in-Err
 same_length c = search rules
 
-returns : tie.Need-returns-in-Refused
+returns : tie.Need-returns-in-Err
 returns c =
     let s = c in
-    print-refused s.args.f s.args.classes.now s.args.triplets.now (length s.args.text.now) c.in-Refused.is c.clear.ensures
+    print-refused s.args.f s.args.classes.now s.args.triplets.now (length s.args.text.now) c.in-Err.is c.clear.ensures
 
 enum_told : tie.Need-enum_told-1
 enum_told c = search rules
@@ -71,30 +71,30 @@ print-listing-requires c κs = search rules
 enum-known-b : tie.Need-enum_known-b
 enum-known-b c = search rules
 
-enum-told-2 : tie.Need-enum_told-in-NoRoom
+enum-told-2 : tie.Need-enum_told-in-None
 enum-told-2 c = search rules
 
-same-length-2 : tie.Need-shape_of-text-in-Bytes
+same-length-2 : tie.Need-shape_of-text-in-Some
 same-length-2 c = search rules
 
-returns-2 : tie.Need-returns-in-Bytes
+returns-2 : tie.Need-returns-in-Some
 returns-2 c =
     let s = c in
     let p = c.print_listing.ensures in
     let h = first-places s.args.classes.now (c.points-n.ensures ∙ ap size c.grid_of.ensures) in
     let r = print-accepted s.args.f s.args.classes.now s.args.triplets.now (length s.args.text.now) c.in_default.is (held-count (s.requires c.in_default.is)) p.0 p.1 (search rules) in
-    (sym (ap listing_of c.in-Bytes.is) ∙ r.0, r.1)
+    (sym (ap listing_of c.in-Some.is) ∙ r.0, r.1)
 
-same-length-3 : tie.Need-shape_of-text-in-NoRoom
+same-length-3 : tie.Need-shape_of-text-in-None
 same-length-3 c = search rules
 
-returns-3 : tie.Need-returns-in-NoRoom
+returns-3 : tie.Need-returns-in-None
 returns-3 c =
     let s = c in
     let p = c.print_listing.ensures in
     let h = first-places s.args.classes.now (c.points-n.ensures ∙ ap size c.grid_of.ensures) in
     let r = print-accepted s.args.f s.args.classes.now s.args.triplets.now (length s.args.text.now) c.in_default.is (held-count (s.requires c.in_default.is)) p.0 p.1 (search rules) in
-    (sym (ap listing_of c.in-NoRoom.is) ∙ r.0, r.1)
+    (sym (ap listing_of c.in-None.is) ∙ r.0, r.1)
 
 pub print_finished_spec : {M : Type 1} → statement M
 print_finished_spec =

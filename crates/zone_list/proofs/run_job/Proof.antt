@@ -24,10 +24,10 @@ enum-known-t c = search rules
 refused-requires : tie.Need-refused-requires
 refused-requires c κs = search rules
 
-returns : tie.Need-returns-in-Refused
+returns : tie.Need-returns-in-Err
 returns c =
     let s = c.before.before.before.before.before.before.before in
-    (job-refused s.args.bytes.now (rooms_at s) c.read_job-j.ensures.0 c.in-Refused.is c.refused.ensures, λ e. absurd (not-accepted (sym (ap (λ f. f.tested) c.refused.ensures) ∙ e)))
+    (job-refused s.args.bytes.now (rooms_at s) c.read_job-j.ensures.0 c.in-Err.is c.refused.ensures, λ e. absurd (not-accepted (sym (ap (λ f. f.tested) c.refused.ensures) ∙ e)))
 
 enum_told : tie.Need-enum_told-1
 enum_told c = search rules

@@ -51,22 +51,22 @@ enum-known-r c = search rules
 print-refused-requires : tie.Need-print_refused-requires
 print-refused-requires c κs = search rules
 
-returns : tie.Need-returns-in-Bytes
+returns : tie.Need-returns-in-Some
 returns c =
     let d = c.before in
     let e = d.list.ensures in
     let b = (start d).args.bytes.now in
     listing-printed b (e.1.0 ∙ sized d (list_addresses b)) (e.1.1.0 ∙ sized d (list_map b)) (e.1.1.1.0 ∙ sized d (list_grg b)) (e.1.1.1.1.0 ∙ sized d (list_lists b))
-    (sym c.in-Bytes.is ∙ e.0 ∙ sized d (list_answer b)) (e.1.1.1.1.1 ∙ sized d (list_text b))
+    (sym c.in-Some.is ∙ e.0 ∙ sized d (list_answer b)) (e.1.1.1.1.1 ∙ sized d (list_text b))
 
-returns-2 : tie.Need-returns-in-Refused
+returns-2 : tie.Need-returns-in-Err
 returns-2 c =
     let d = c.before.before.before in
     let e = d.list.ensures in
     let b = (start d).args.bytes.now in
     let p = c.print_refused.ensures in
     line-printed b (e.1.0 ∙ sized d (list_addresses b)) (e.1.1.0 ∙ sized d (list_map b)) (e.1.1.1.0 ∙ sized d (list_grg b)) (e.1.1.1.1.0 ∙ sized d (list_lists b))
-    (sym c.in-Refused.is ∙ e.0 ∙ sized d (list_answer b)) (let k = p.0 in omega arith) p.1
+    (sym c.in-Err.is ∙ e.0 ∙ sized d (list_answer b)) (let k = p.0 in omega arith) p.1
 
 pub print_bytes_spec : {M : Type 1} → statement M
 print_bytes_spec =

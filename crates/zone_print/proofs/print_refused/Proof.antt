@@ -3,7 +3,7 @@ use Prim.Native.Nat.{ℕ}
 use native.Mathlib.Omega.{arith}
 use lib.ListN.{length}
 use borrow.Author.Rules.{rules}
-use Rattle.job.specs.declared.listing.Printed.TheVariants.{Bytes, NoRoom}
+use Rattle.std.specs.Prelude.{Some, None}
 use Rattle.zone_print.proofs.JobText.{refusal-printed}
 use Rattle.zone_print.proofs.print_refused.Statement.{statement}
 use Rattle.zone_print.proofs.print_refused.Tie as tie
@@ -17,10 +17,10 @@ enum-known-n c = search rules
 enum_told : tie.Need-enum_told-1
 enum_told c = search rules
 
-not-printed : {n : ℕ} → NoRoom ≡ Bytes n → ⊥
+not-printed : {n : ℕ} → None ≡ Some n → ⊥
 not-printed e = let z : ◌≡◌ {A = ℕ} 0 1 = cc in omega arith
 
-same_bytes : {m n : ℕ} → Bytes m ≡ Bytes n → m ≡ n
+same_bytes : {m n : ℕ} → Some m ≡ Some n → m ≡ n
 same_bytes e = cc
 
 -- the array's length
@@ -37,7 +37,7 @@ returns-2 : tie.Need-returns
 returns-2 c =
     let d = c.before in
     let p = rw (room d) at d.print_refusal.ensures.0 in
-    (same_bytes (sym c.in-Bytes.is ∙ refusal-printed _ p), rw (room d) at d.print_refusal.ensures.1)
+    (same_bytes (sym c.in-Some.is ∙ refusal-printed _ p), rw (room d) at d.print_refusal.ensures.1)
 
 pub print_refused_spec : {M : Type 1} → statement M
 print_refused_spec =

@@ -14,11 +14,11 @@ enum-known-t c = search rules
 answer-requires : tie.Need-answer-requires
 answer-requires c κs = search rules
 
-returns : tie.Need-returns-in-Accepted
-returns c = sym (ap answer_of c.in-Accepted.is)
+returns : tie.Need-returns-in-Ok
+returns c = sym (ap answer_of c.in-Ok.is)
 
-returns-2 : tie.Need-returns-in-Refused
-returns-2 c = held-is c.answer.result c.answer.type_inv ∙ c.answer.ensures ∙ sym (ap answer_of c.in-Refused.is)
+returns-2 : tie.Need-returns-in-Err
+returns-2 c = held-is c.answer.result c.answer.type_inv ∙ c.answer.ensures ∙ sym (ap answer_of c.in-Err.is)
 
 pub outcome_number_spec : {M : Type 1} → statement M
 outcome_number_spec = tie.close (tie.spec enum_told enum-known-t answer-requires returns returns-2)

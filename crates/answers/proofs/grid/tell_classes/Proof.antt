@@ -15,7 +15,7 @@ enum-known-answer c = search rules
 slice-set-from-n : tie.Need-bounds-told-0
 slice-set-from-n c = search rules
 
-enum-known-answer-2 : tie.Need-enum_known-answer-in-Refused-1
+enum-known-answer-2 : tie.Need-enum_known-answer-in-Err-1
 enum-known-answer-2 c = search rules
 
 slice-set-of-told : tie.Need-slice_set_of-told
@@ -24,21 +24,21 @@ slice-set-of-told c = search rules
 answer-requires : tie.Need-answer-requires
 answer-requires c κs = search rules
 
-same_length : tie.Need-shape_of-told-in-Classes
+same_length : tie.Need-shape_of-told-in-Ok
 same_length c = search rules
 
-returns : tie.Need-returns-in-Classes
+returns : tie.Need-returns-in-Ok
 returns c =
     let s = c in
-    (sym (ap classes_number c.in-Classes.is), stored s.args.told.now s.requires _ ∙ ap (λ z. z ∷ []) (to_z-of_z {w = w64} {z = c.in-Classes.n} (search rules)) ∙ sym (ap classes_told c.in-Classes.is))
+    (sym (ap classes_number c.in-Ok.is), stored s.args.told.now s.requires _ ∙ ap (λ z. z ∷ []) (to_z-of_z {w = w64} {z = c.in-Ok.n} (search rules)) ∙ sym (ap classes_told c.in-Ok.is))
 
-same-length-2 : tie.Need-shape_of-told-in-Refused
+same-length-2 : tie.Need-shape_of-told-in-Err
 same-length-2 c = search rules
 
-returns-2 : tie.Need-returns-in-Refused
+returns-2 : tie.Need-returns-in-Err
 returns-2 c =
     let s = c in
-    (held-is c.answer.result c.answer.type_inv ∙ c.answer.ensures ∙ sym (ap classes_number c.in-Refused.is), stored s.args.told.now s.requires _ ∙ sym (ap classes_told c.in-Refused.is))
+    (held-is c.answer.result c.answer.type_inv ∙ c.answer.ensures ∙ sym (ap classes_number c.in-Err.is), stored s.args.told.now s.requires _ ∙ sym (ap classes_told c.in-Err.is))
 
 pub tell_classes_spec : {M : Type 1} → statement M
 tell_classes_spec =

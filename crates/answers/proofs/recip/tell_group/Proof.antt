@@ -32,35 +32,35 @@ enum-known-answer : tie.Need-enum_known-answer
 enum-known-answer c = search rules
 
 cast-told : tie.Need-overflow_cast-told
-cast-told c = count_fits c.in-Rotations.is c.requires
+cast-told c = count_fits c.in-Ok.is c.requires
 
 slice-set-from-told : tie.Need-bounds-told-0
 slice-set-from-told c = search rules
 
-enum-known-answer-2 : tie.Need-enum_known-answer-in-Refused-1
+enum-known-answer-2 : tie.Need-enum_known-answer-in-Err-1
 enum-known-answer-2 c = search rules
 
 slice-set-of-told : tie.Need-slice_set_of-told
 slice-set-of-told c = search rules
 
-answer-requires-2 : tie.Need-answer-requires-in-Refused
+answer-requires-2 : tie.Need-answer-requires-in-Err
 answer-requires-2 c κs = search rules
 
-same-length-3 : tie.Need-shape_of-told-in-Rotations
+same-length-3 : tie.Need-shape_of-told-in-Ok
 same-length-3 c = search rules
 
-returns-2 : tie.Need-returns-in-Rotations
+returns-2 : tie.Need-returns-in-Ok
 returns-2 c =
     let a = c.args in
-    count-told a.answer a.out.now (length a.out.now) a.told.now c.if-told-ne1.false c.in-Rotations.is (to_z_pos w64 (count_fits c.in-Rotations.is c.requires).sfits)
+    count-told a.answer a.out.now (length a.out.now) a.told.now c.if-told-ne1.false c.in-Ok.is (to_z_pos w64 (count_fits c.in-Ok.is c.requires).sfits)
 
-same-length-4 : tie.Need-shape_of-told-in-Refused
+same-length-4 : tie.Need-shape_of-told-in-Err
 same-length-4 c = search rules
 
-returns-3 : tie.Need-returns-in-Refused
+returns-3 : tie.Need-returns-in-Err
 returns-3 c =
     let a = c.args in
-    refusal-told a.answer a.out.now (length a.out.now) a.told.now c.if-told-ne1.false c.in-Refused.is (held-is c.answer-in-Refused.result c.answer-in-Refused.type_inv ∙ c.answer-in-Refused.ensures) refl
+    refusal-told a.answer a.out.now (length a.out.now) a.told.now c.if-told-ne1.false c.in-Err.is (held-is c.answer-in-Err.result c.answer-in-Err.type_inv ∙ c.answer-in-Err.ensures) refl
 
 pub tell_group_spec : {M : Type 1} → statement M
 tell_group_spec =

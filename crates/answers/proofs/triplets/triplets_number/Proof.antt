@@ -14,11 +14,11 @@ enum-known-answer c = search rules
 answer-requires : tie.Need-answer-requires
 answer-requires c κs = search rules
 
-returns : tie.Need-returns-in-Written
-returns c = sym (ap triplets_number c.in-Written.is)
+returns : tie.Need-returns-in-Ok
+returns c = sym (ap triplets_number c.in-Ok.is)
 
-returns-2 : tie.Need-returns-in-Refused
-returns-2 c = held-is c.answer.result c.answer.type_inv ∙ c.answer.ensures ∙ sym (ap triplets_number c.in-Refused.is)
+returns-2 : tie.Need-returns-in-Err
+returns-2 c = held-is c.answer.result c.answer.type_inv ∙ c.answer.ensures ∙ sym (ap triplets_number c.in-Err.is)
 
 pub triplets_number_spec : {M : Type 1} → statement M
 triplets_number_spec =

@@ -26,10 +26,10 @@ enum-known-r c = search rules
 fill-requires : tie.Need-fill-requires
 fill-requires c κs = search rules
 
-same_length : tie.Need-shape_of-out-in-Accepted
+same_length : tie.Need-shape_of-out-in-Ok
 same_length c = search rules
 
-returns : tie.Need-returns-in-Accepted
+returns : tie.Need-returns-in-Ok
 returns c =
     let t = c in
     let s = t in
@@ -37,13 +37,13 @@ returns c =
     (layout t.before.before.before.before)
     t.neighbour_tests.ensures.0
     t.neighbour_tests.new.out
-    c.in-Accepted.is
-    (t.neighbour_tests.ensures.1 c.in-Accepted.is)
+    c.in-Ok.is
+    (t.neighbour_tests.ensures.1 c.in-Ok.is)
 
-same-length-2 : tie.Need-shape_of-out-in-Refused
+same-length-2 : tie.Need-shape_of-out-in-Err
 same-length-2 c = search rules
 
-returns-2 : tie.Need-returns-in-Refused
+returns-2 : tie.Need-returns-in-Err
 returns-2 c =
     let r = c in
     let t = r in
@@ -55,8 +55,8 @@ returns-2 c =
     (layout t.before.before.before.before.before.before.before)
     t.neighbour_tests.ensures.0
     c.fill.new.out
-    r.in-Refused.r
-    r.in-Refused.is
+    r.in-Err.r
+    r.in-Err.is
     (f ∙ ap (λ n. replicate n (negsuc 0)) n)
 
 pub neighboring_grid_points_many_spec : {M : Type 1} → statement M

@@ -1,7 +1,7 @@
 use mathlib.Core.Path.{◌≡◌, refl, sym, ◌∙◌, ap}
 use lib.ListN.{length}
+use Rattle.common.specs.Tested.{Accepted}
 use Rattle.common.specs.Array.{sides_of}
-use Rattle.common.specs.declared.Tested.TheVariants.{Accepted}
 use Rattle.common.proofs.Tests.{not-accepted}
 use Rattle.bztable.specs.Reading.{inside}
 use Rattle.bztable.specs.Neighbours.{all_neighbours, input_tests}
@@ -11,8 +11,8 @@ use borrow.Author.Rules.{rules}
 use Rattle.bztable.proofs.neighbours.neighbour_tests.Statement.{statement}
 use Rattle.bztable.proofs.neighbours.neighbour_tests.Tie as tie
 
-accepted : (c : tie.In-Accepted) → let s = c in input_tests (length s.args.points.now) s.args.offsets.now s.args.addresses.now s.args.d s.args.t (length s.args.out.now) ≡ Accepted
-accepted c = sym c.input_tests.ensures ∙ c.in-Accepted.is
+accepted : (c : tie.In-Ok) → let s = c in input_tests (length s.args.points.now) s.args.offsets.now s.args.addresses.now s.args.d s.args.t (length s.args.out.now) ≡ Accepted
+accepted c = sym c.input_tests.ensures ∙ c.in-Ok.is
 
 walked : (c : tie.After-fill_rows) →
     let s = c.before.before.before.before.before.before in
@@ -69,10 +69,10 @@ returns-3 c =
     let s = x in
     (tests-outside s.args.points.now s.args.offsets.now s.args.addresses.now s.args.map.now s.args.d s.args.t (length s.args.out.now) (accepted x.before.before.before.before) f.fill_rows.new.out x.if-out-eq0.false f.fill_rows.result (walked f) c.if-fill_rows.false, λ h. absurd (not-accepted h))
 
-returns-4 : tie.Need-returns-in-Refused
+returns-4 : tie.Need-returns-in-Err
 returns-4 c =
     let s = c in
-    (tests-refused s.args.points.now s.args.offsets.now s.args.addresses.now s.args.map.now s.args.d s.args.t (length s.args.out.now) (sym c.input_tests.ensures) c.in-Refused.r c.in-Refused.is, λ h. absurd (not-accepted h))
+    (tests-refused s.args.points.now s.args.offsets.now s.args.addresses.now s.args.map.now s.args.d s.args.t (length s.args.out.now) (sym c.input_tests.ensures) c.in-Err.r c.in-Err.is, λ h. absurd (not-accepted h))
 
 pub neighbour_tests_spec : {M : Type 1} → statement M
 neighbour_tests_spec =

@@ -6,7 +6,7 @@ use lib.IntN.{pos}
 use mir.Syntax.{w64}
 use mir.Facts.{to_z_pos}
 use borrow.Author.Rules.{rules}
-use Rattle.common.specs.declared.Tested.TheVariants.{Accepted}
+use Rattle.common.specs.Tested.{Accepted}
 use Rattle.job.specs.Job.{signed_words, floats, accepted}
 use Rattle.job.proofs.Sections.{sections}
 use Rattle.job.proofs.job.accept.Statement.{statement}

@@ -23,7 +23,7 @@ returns c =
 
 returns-2 : tie.Need-returns
 returns-2 c =
-    let e = sym c.in-Bytes.is in
+    let e = sym c.in-Some.is in
     (e, ap (finished c.args.out.now) e)
 
 pub finish_spec : {M : Type 1} → statement M

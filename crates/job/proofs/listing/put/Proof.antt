@@ -22,10 +22,10 @@ same_length : tie.Need-shape_of-out-then-n-out
 same_length c = search rules
 
 returns-2 : tie.Need-returns-then-n-out
-returns-2 c = put_in _ _ c.in-Bytes.is c.if-n-out.true
+returns-2 c = put_in _ _ c.in-Some.is c.if-n-out.true
 
 returns-3 : tie.Need-returns
-returns-3 c = put-out _ _ c.in-Bytes.is c.if-n-out.false
+returns-3 c = put-out _ _ c.in-Some.is c.if-n-out.false
 
 pub put_spec : {M : Type 1} → statement M
 put_spec =

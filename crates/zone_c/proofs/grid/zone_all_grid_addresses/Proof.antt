@@ -33,27 +33,27 @@ enum_told c = search rules
 enum-known-r : tie.Need-enum_known-r
 enum-known-r c = search rules
 
-answer-requires-2 : tie.Need-answer-requires-in-Refused
+answer-requires-2 : tie.Need-answer-requires-in-Err
 answer-requires-2 c κs = search rules
 
-same-length-2 : tie.Need-shape_of-out-in-Written
+same-length-2 : tie.Need-shape_of-out-in-Ok
 same-length-2 c = search rules
 
-returns-2 : tie.Need-returns-in-Written
+returns-2 : tie.Need-returns-in-Ok
 returns-2 c =
     let s = c in
     let a = c.all_grid_addresses.ensures in
-    addresses-passed s.args.d.now (length s.args.out.now) c.if-d-ne3.false c.row_at.ensures a.0 a.1 (sym (ap addresses_number c.in-Written.is))
+    addresses-passed s.args.d.now (length s.args.out.now) c.if-d-ne3.false c.row_at.ensures a.0 a.1 (sym (ap addresses_number c.in-Ok.is))
 
-same-length-3 : tie.Need-shape_of-out-in-Refused
+same-length-3 : tie.Need-shape_of-out-in-Err
 same-length-3 c = search rules
 
-returns-3 : tie.Need-returns-in-Refused
+returns-3 : tie.Need-returns-in-Err
 returns-3 c =
     let s = c in
     let a = c.all_grid_addresses.ensures in
     addresses-passed s.args.d.now (length s.args.out.now) c.if-d-ne3.false c.row_at.ensures a.0 a.1
-    (held-is c.answer-in-Refused.result c.answer-in-Refused.type_inv ∙ c.answer-in-Refused.ensures ∙ sym (ap addresses_number c.in-Refused.is))
+    (held-is c.answer-in-Err.result c.answer-in-Err.type_inv ∙ c.answer-in-Err.ensures ∙ sym (ap addresses_number c.in-Err.is))
 
 pub zone_all_grid_addresses_spec : {M : Type 1} → statement M
 zone_all_grid_addresses_spec =

@@ -49,32 +49,32 @@ enum_told c = search rules
 enum-known-r : tie.Need-enum_known-r
 enum-known-r c = search rules
 
-answer-requires-2 : tie.Need-answer-requires-in-Refused
+answer-requires-2 : tie.Need-answer-requires-in-Err
 answer-requires-2 c κs = search rules
 
-same-length-2 : tie.Need-shape_of-marks-in-Accepted
+same-length-2 : tie.Need-shape_of-marks-in-Ok
 same-length-2 c = search rules
 
-returns-2 : tie.Need-returns-in-Accepted
+returns-2 : tie.Need-returns-in-Ok
 returns-2 c =
     let s = c in
     let a = c.mark_candidates.ensures in
     let r = c.ranges_at.ensures in
     marks-passed s.args.d.now s.args.q.now s.args.ps.now s.args.lowest.now s.args.highest.now s.args.point (length s.args.marks.now) (yes c.mark_lengths.ensures c.if-not-mark_lengths.false-raw)
     c.row_at.ensures c.matrix_at.ensures c.row_at-2.ensures r.0 r.1 (to_z-of_z s.ranges.point) a.0 a.1
-    (sym (ap answer_of c.in-Accepted.is))
+    (sym (ap answer_of c.in-Ok.is))
 
-same-length-3 : tie.Need-shape_of-marks-in-Refused
+same-length-3 : tie.Need-shape_of-marks-in-Err
 same-length-3 c = search rules
 
-returns-3 : tie.Need-returns-in-Refused
+returns-3 : tie.Need-returns-in-Err
 returns-3 c =
     let s = c in
     let a = c.mark_candidates.ensures in
     let r = c.ranges_at.ensures in
     marks-passed s.args.d.now s.args.q.now s.args.ps.now s.args.lowest.now s.args.highest.now s.args.point (length s.args.marks.now) (yes c.mark_lengths.ensures c.if-not-mark_lengths.false-raw)
     c.row_at.ensures c.matrix_at.ensures c.row_at-2.ensures r.0 r.1 (to_z-of_z s.ranges.point) a.0 a.1
-    (held-is c.answer-in-Refused.result c.answer-in-Refused.type_inv ∙ c.answer-in-Refused.ensures ∙ sym (ap answer_of c.in-Refused.is))
+    (held-is c.answer-in-Err.result c.answer-in-Err.type_inv ∙ c.answer-in-Err.ensures ∙ sym (ap answer_of c.in-Err.is))
 
 pub zone_mark_candidates_spec : {M : Type 1} → statement M
 zone_mark_candidates_spec =

@@ -45,28 +45,28 @@ enum_told c = search rules
 enum-known-r : tie.Need-enum_known-r
 enum-known-r c = search rules
 
-answer-requires-2 : tie.Need-answer-requires-in-Refused
+answer-requires-2 : tie.Need-answer-requires-in-Err
 answer-requires-2 c κs = search rules
 
-same-length-2 : tie.Need-shape_of-out-in-Written
+same-length-2 : tie.Need-shape_of-out-in-Ok
 same-length-2 c = search rules
 
-returns-2 : tie.Need-returns-in-Written
+returns-2 : tie.Need-returns-in-Ok
 returns-2 c =
     let s = c in
     let a = c.transform_rotations.ensures in
     transform-passed s.args.rotations.now s.args.d.now s.args.q.now (length s.args.out.now) (yes c.transform_lengths.ensures c.if-not-transform_lengths.false-raw)
-    c.row_at.ensures c.matrix_at.ensures a.0 a.1 (sym (ap transformed_number c.in-Written.is))
+    c.row_at.ensures c.matrix_at.ensures a.0 a.1 (sym (ap transformed_number c.in-Ok.is))
 
-same-length-3 : tie.Need-shape_of-out-in-Refused
+same-length-3 : tie.Need-shape_of-out-in-Err
 same-length-3 c = search rules
 
-returns-3 : tie.Need-returns-in-Refused
+returns-3 : tie.Need-returns-in-Err
 returns-3 c =
     let s = c in
     let a = c.transform_rotations.ensures in
     transform-passed s.args.rotations.now s.args.d.now s.args.q.now (length s.args.out.now) (yes c.transform_lengths.ensures c.if-not-transform_lengths.false-raw)
-    c.row_at.ensures c.matrix_at.ensures a.0 a.1 (held-is c.answer-in-Refused.result c.answer-in-Refused.type_inv ∙ c.answer-in-Refused.ensures ∙ sym (ap transformed_number c.in-Refused.is))
+    c.row_at.ensures c.matrix_at.ensures a.0 a.1 (held-is c.answer-in-Err.result c.answer-in-Err.type_inv ∙ c.answer-in-Err.ensures ∙ sym (ap transformed_number c.in-Err.is))
 
 pub zone_transform_rotations_spec : {M : Type 1} → statement M
 zone_transform_rotations_spec =

@@ -18,7 +18,7 @@ enum-known-n c = search rules
 mul-transform-rotations : tie.Need-overflow_mul-n
 mul-transform-rotations c =
     let s = c in
-    let h = few-rotations s.args.rotations.now s.args.is_time_reversal c.reciprocal_group.ensures.0 c.in-Rotations.is in
+    let h = few-rotations s.args.rotations.now s.args.is_time_reversal c.reciprocal_group.ensures.0 c.in-Ok.is in
     search rules
 
 sub-transform-rotations : tie.Need-slice_bounds-transform_rotations-count
@@ -30,25 +30,25 @@ part-transform-rotations-start c = search rules
 part-transform-rotations-end : tie.Need-slice_bounds-transform_rotations-end
 part-transform-rotations-end c =
     let s = c in
-    let h = few-rotations s.args.rotations.now s.args.is_time_reversal c.reciprocal_group.ensures.0 c.in-Rotations.is in
+    let h = few-rotations s.args.rotations.now s.args.is_time_reversal c.reciprocal_group.ensures.0 c.in-Ok.is in
     search rules
 
-mul-transform-rotations-2 : tie.Need-overflow_mul-n-in-Rotations
+mul-transform-rotations-2 : tie.Need-overflow_mul-n-in-Ok
 mul-transform-rotations-2 c =
     let s = c in
-    let h = few-rotations s.args.rotations.now s.args.is_time_reversal c.reciprocal_group.ensures.0 c.in-Rotations.is in
+    let h = few-rotations s.args.rotations.now s.args.is_time_reversal c.reciprocal_group.ensures.0 c.in-Ok.is in
     search rules
 
-sub-transform-rotations-2 : tie.Need-slice_bounds-transform_rotations-count-in-Rotations
+sub-transform-rotations-2 : tie.Need-slice_bounds-transform_rotations-count-in-Ok
 sub-transform-rotations-2 c = search rules
 
-part-transform-rotations-start-2 : tie.Need-slice_bounds-transform_rotations-start-in-Rotations
+part-transform-rotations-start-2 : tie.Need-slice_bounds-transform_rotations-start-in-Ok
 part-transform-rotations-start-2 c = search rules
 
-part-transform-rotations-end-2 : tie.Need-slice_bounds-transform_rotations-end-in-Rotations
+part-transform-rotations-end-2 : tie.Need-slice_bounds-transform_rotations-end-in-Ok
 part-transform-rotations-end-2 c =
     let s = c in
-    let h = few-rotations s.args.rotations.now s.args.is_time_reversal c.reciprocal_group.ensures.0 c.in-Rotations.is in
+    let h = few-rotations s.args.rotations.now s.args.is_time_reversal c.reciprocal_group.ensures.0 c.in-Ok.is in
     search rules
 
 transform-rotations-requires : tie.Need-transform_rotations-requires
@@ -60,36 +60,36 @@ enum_told c = search rules
 enum-known-r : tie.Need-enum_known-r
 enum-known-r c = search rules
 
-enum-known-r-2 : tie.Need-enum_known-r-in-Refused-reciprocal_group
+enum-known-r-2 : tie.Need-enum_known-r-in-Err-reciprocal_group
 enum-known-r-2 c = search rules
 
-same_length : tie.Need-shape_of-out-in-Written
+same_length : tie.Need-shape_of-out-in-Ok
 same_length c = search rules
 
-returns : tie.Need-returns-in-Written
+returns : tie.Need-returns-in-Ok
 returns c =
     let s = c in
     let g = c.reciprocal_group.ensures in
     let t = c.transform_rotations in
-    let m : length t.new.out ≡ length (take (c.in-Rotations.n * 9 - 0) s.args.out.now) = search rules in (
-      sym (ap transform_tested c.in-Written.is) ∙ turned-tested s.args.rotations.now s.args.is_time_reversal g.0 c.in-Rotations.is s.args.d s.args.q s.args.out.now s.requires g.1 t.ensures.0,
-      (few-rotations s.args.rotations.now s.args.is_time_reversal g.0 c.in-Rotations.is, turned-list s.args.rotations.now s.args.is_time_reversal g.0 c.in-Rotations.is s.args.d s.args.q s.args.out.now s.requires g.1 t.ensures.1 m _),
+    let m : length t.new.out ≡ length (take (c.in-Ok.n * 9 - 0) s.args.out.now) = search rules in (
+      sym (ap transform_tested c.in-Ok.is) ∙ turned-tested s.args.rotations.now s.args.is_time_reversal g.0 c.in-Ok.is s.args.d s.args.q s.args.out.now s.requires g.1 t.ensures.0,
+      (few-rotations s.args.rotations.now s.args.is_time_reversal g.0 c.in-Ok.is, turned-list s.args.rotations.now s.args.is_time_reversal g.0 c.in-Ok.is s.args.d s.args.q s.args.out.now s.requires g.1 t.ensures.1 m _),
     )
 
-same-length-2 : tie.Need-shape_of-out-in-Refused-transform_rotations
+same-length-2 : tie.Need-shape_of-out-in-Err-transform_rotations
 same-length-2 c = search rules
 
-returns-2 : tie.Need-returns-in-Refused-transform_rotations
+returns-2 : tie.Need-returns-in-Err-transform_rotations
 returns-2 c =
     let s = c in
     let g = c.reciprocal_group.ensures in
     let t = c.transform_rotations in
-    (sym (ap transform_tested c.in-Refused-transform_rotations.is) ∙ turned-tested s.args.rotations.now s.args.is_time_reversal g.0 c.in-Rotations.is s.args.d s.args.q s.args.out.now s.requires g.1 t.ensures.0, tt)
+    (sym (ap transform_tested c.in-Err-transform_rotations.is) ∙ turned-tested s.args.rotations.now s.args.is_time_reversal g.0 c.in-Ok.is s.args.d s.args.q s.args.out.now s.requires g.1 t.ensures.0, tt)
 
-returns-3 : tie.Need-returns-in-Refused
+returns-3 : tie.Need-returns-in-Err
 returns-3 c =
     let s = c in
-    (turned-refused s.args.rotations.now s.args.is_time_reversal s.args.d s.args.q c.reciprocal_group.ensures.0 c.in-Refused.is, tt)
+    (turned-refused s.args.rotations.now s.args.is_time_reversal s.args.d s.args.q c.reciprocal_group.ensures.0 c.in-Err.is, tt)
 
 pub turn_rotations_spec : {M : Type 1} → statement M
 turn_rotations_spec =

@@ -16,37 +16,37 @@ enum_told c = search rules
 enum-known-r : tie.Need-enum_known-r
 enum-known-r c = search rules
 
-same_length : tie.Need-shape_of-addresses-in-Built
+same_length : tie.Need-shape_of-addresses-in-Ok
 same_length c = search rules
 
-same-length-2 : tie.Need-shape_of-map-in-Built
+same-length-2 : tie.Need-shape_of-map-in-Ok
 same-length-2 c = search rules
 
-same-length-3 : tie.Need-shape_of-grg-in-Built
+same-length-3 : tie.Need-shape_of-grg-in-Ok
 same-length-3 c = search rules
 
-returns : tie.Need-returns-in-Built
+returns : tie.Need-returns-in-Ok
 returns c =
     let s = c in
     let r = c.bz_grid_addresses.ensures in
     images-built s.args.d s.args.q s.args.ps s.args.lattice s.args.bz_grid_type (length s.args.addresses.now) (length s.args.map.now) (length s.args.grg.now)
-    (to_z-of_z s.ranges.bz_grid_type) r.0 r.1.0 r.1.1.0 r.1.1.1 (sym (ap images_tested c.in-Built.is))
+    (to_z-of_z s.ranges.bz_grid_type) r.0 r.1.0 r.1.1.0 r.1.1.1 (sym (ap images_tested c.in-Ok.is))
 
-same-length-4 : tie.Need-shape_of-addresses-in-Refused
+same-length-4 : tie.Need-shape_of-addresses-in-Err
 same-length-4 c = search rules
 
-same-length-5 : tie.Need-shape_of-map-in-Refused
+same-length-5 : tie.Need-shape_of-map-in-Err
 same-length-5 c = search rules
 
-same-length-6 : tie.Need-shape_of-grg-in-Refused
+same-length-6 : tie.Need-shape_of-grg-in-Err
 same-length-6 c = search rules
 
-returns-2 : tie.Need-returns-in-Refused
+returns-2 : tie.Need-returns-in-Err
 returns-2 c =
     let s = c in
     let r = c.bz_grid_addresses.ensures in
     images-built s.args.d s.args.q s.args.ps s.args.lattice s.args.bz_grid_type (length s.args.addresses.now) (length s.args.map.now) (length s.args.grg.now)
-    (to_z-of_z s.ranges.bz_grid_type) r.0 r.1.0 r.1.1.0 r.1.1.1 (sym (ap images_tested c.in-Refused.is))
+    (to_z-of_z s.ranges.bz_grid_type) r.0 r.1.0 r.1.1.0 r.1.1.1 (sym (ap images_tested c.in-Err.is))
 
 pub build_images_spec : {M : Type 1} → statement M
 build_images_spec =

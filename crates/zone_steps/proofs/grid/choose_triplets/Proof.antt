@@ -47,39 +47,39 @@ enum_told c = search rules
 enum-known-r : tie.Need-enum_known-r
 enum-known-r c = search rules
 
-same_length : tie.Need-shape_of-triplets-in-Written
+same_length : tie.Need-shape_of-triplets-in-Ok
 same_length c = search rules
 
-same-length-2 : tie.Need-shape_of-left-in-Written
+same-length-2 : tie.Need-shape_of-left-in-Ok
 same-length-2 c = search rules
 
-same-length-3 : tie.Need-shape_of-lengths-in-Written
+same-length-3 : tie.Need-shape_of-lengths-in-Ok
 same-length-3 c = search rules
 
-returns : tie.Need-returns-in-Written
+returns : tie.Need-returns-in-Ok
 returns c =
     let s = c in
     let o = c.own_places-k in
     let r = c.bz_triplets_at_q.ensures in
     triplets-chosen s.args.start s.args.addresses.now s.args.map.now s.args.classes.now s.args.d s.args.q s.args.lattice s.args.bz_grid_type s.args.triplets.now s.args.left.now s.args.lengths.now o.result
-    o.ensures.0 o.ensures.1 s.requires (to_z-of_z s.ranges.start) (to_z-of_z s.ranges.bz_grid_type) r.0 r.1.0 r.1.1.0 r.1.1.1 (sym (ap triplet_tested c.in-Written.is))
+    o.ensures.0 o.ensures.1 s.requires (to_z-of_z s.ranges.start) (to_z-of_z s.ranges.bz_grid_type) r.0 r.1.0 r.1.1.0 r.1.1.1 (sym (ap triplet_tested c.in-Ok.is))
 
-same-length-4 : tie.Need-shape_of-triplets-in-Refused
+same-length-4 : tie.Need-shape_of-triplets-in-Err
 same-length-4 c = search rules
 
-same-length-5 : tie.Need-shape_of-left-in-Refused
+same-length-5 : tie.Need-shape_of-left-in-Err
 same-length-5 c = search rules
 
-same-length-6 : tie.Need-shape_of-lengths-in-Refused
+same-length-6 : tie.Need-shape_of-lengths-in-Err
 same-length-6 c = search rules
 
-returns-2 : tie.Need-returns-in-Refused
+returns-2 : tie.Need-returns-in-Err
 returns-2 c =
     let s = c in
     let o = c.own_places-k in
     let r = c.bz_triplets_at_q.ensures in
     triplets-chosen s.args.start s.args.addresses.now s.args.map.now s.args.classes.now s.args.d s.args.q s.args.lattice s.args.bz_grid_type s.args.triplets.now s.args.left.now s.args.lengths.now o.result
-    o.ensures.0 o.ensures.1 s.requires (to_z-of_z s.ranges.start) (to_z-of_z s.ranges.bz_grid_type) r.0 r.1.0 r.1.1.0 r.1.1.1 (sym (ap triplet_tested c.in-Refused.is))
+    o.ensures.0 o.ensures.1 s.requires (to_z-of_z s.ranges.start) (to_z-of_z s.ranges.bz_grid_type) r.0 r.1.0 r.1.1.0 r.1.1.1 (sym (ap triplet_tested c.in-Err.is))
 
 pub choose_triplets_spec : {M : Type 1} → statement M
 choose_triplets_spec =

@@ -27,25 +27,25 @@ number-classes-requires c κs = search rules
 enum-known-r : tie.Need-enum_known-r
 enum-known-r c = search rules
 
-same_length : tie.Need-shape_of-classes-in-Refused
+same_length : tie.Need-shape_of-classes-in-Err
 same_length c = search rules
 
-same-length-2 : tie.Need-shape_of-points-in-Refused
+same-length-2 : tie.Need-shape_of-points-in-Err
 same-length-2 c = search rules
 
-same-length-3 : tie.Need-shape_of-triplets-in-Refused
+same-length-3 : tie.Need-shape_of-triplets-in-Err
 same-length-3 c = search rules
 
-same-length-4 : tie.Need-shape_of-left-in-Refused
+same-length-4 : tie.Need-shape_of-left-in-Err
 same-length-4 c = search rules
 
-same-length-5 : tie.Need-shape_of-lengths-in-Refused
+same-length-5 : tie.Need-shape_of-lengths-in-Err
 same-length-5 c = search rules
 
-returns : tie.Need-returns-in-Refused
+returns : tie.Need-returns-in-Err
 returns c =
     let s = c.before.before.before.before.before.before.before.before.before.before.before.before.before.before.before.before.before.before.before in
-    (list-refused (grid_at s) s.args.addresses.now s.args.map.now (class-tests (grid_at s) (to_z-of_z s.ranges.q0) s.requires.0 c.number_classes.ensures.0) c.in-Refused.is, λ e. absurd (not-accepted e))
+    (list-refused (grid_at s) s.args.addresses.now s.args.map.now (class-tests (grid_at s) (to_z-of_z s.ranges.q0) s.requires.0 c.number_classes.ensures.0) c.in-Err.is, λ e. absurd (not-accepted e))
 
 enum_told : tie.Need-enum_told-1
 enum_told c = search rules

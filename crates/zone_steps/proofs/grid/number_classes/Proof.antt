@@ -32,31 +32,31 @@ enum_told c = search rules
 enum-known-r : tie.Need-enum_known-r
 enum-known-r c = search rules
 
-same_length : tie.Need-shape_of-classes-in-Classes
+same_length : tie.Need-shape_of-classes-in-Ok
 same_length c = search rules
 
-same-length-2 : tie.Need-shape_of-points-in-Classes
+same-length-2 : tie.Need-shape_of-points-in-Ok
 same-length-2 c = search rules
 
-returns : tie.Need-returns-in-Classes
+returns : tie.Need-returns-in-Ok
 returns c =
     let s = c in
     let r = c.ir_triplets_at_q.ensures in
     classes-numbered s.args.q0 s.args.d s.args.rotations.now s.args.is_time_reversal s.args.swappable s.args.n s.args.classes.now s.args.points.now s.requires.0 s.requires.1
-    (to_z-of_z s.ranges.q0) r.0 r.1.0 r.1.1 (sym (ap class_tested c.in-Classes.is))
+    (to_z-of_z s.ranges.q0) r.0 r.1.0 r.1.1 (sym (ap class_tested c.in-Ok.is))
 
-same-length-3 : tie.Need-shape_of-classes-in-Refused
+same-length-3 : tie.Need-shape_of-classes-in-Err
 same-length-3 c = search rules
 
-same-length-4 : tie.Need-shape_of-points-in-Refused
+same-length-4 : tie.Need-shape_of-points-in-Err
 same-length-4 c = search rules
 
-returns-2 : tie.Need-returns-in-Refused
+returns-2 : tie.Need-returns-in-Err
 returns-2 c =
     let s = c in
     let r = c.ir_triplets_at_q.ensures in
     classes-numbered s.args.q0 s.args.d s.args.rotations.now s.args.is_time_reversal s.args.swappable s.args.n s.args.classes.now s.args.points.now s.requires.0 s.requires.1
-    (to_z-of_z s.ranges.q0) r.0 r.1.0 r.1.1 (sym (ap class_tested c.in-Refused.is))
+    (to_z-of_z s.ranges.q0) r.0 r.1.0 r.1.1 (sym (ap class_tested c.in-Err.is))
 
 pub number_classes_spec : {M : Type 1} → statement M
 number_classes_spec =

@@ -43,19 +43,19 @@ build-images-requires c κs = search rules
 enum-known-r : tie.Need-enum_known-r
 enum-known-r c = search rules
 
-same_length : tie.Need-shape_of-addresses-in-Refused
+same_length : tie.Need-shape_of-addresses-in-Err
 same_length c = search rules
 
-same-length-2 : tie.Need-shape_of-map-in-Refused
+same-length-2 : tie.Need-shape_of-map-in-Err
 same-length-2 c = search rules
 
-same-length-3 : tie.Need-shape_of-grg-in-Refused
+same-length-3 : tie.Need-shape_of-grg-in-Err
 same-length-3 c = search rules
 
-returns-2 : tie.Need-returns-in-Refused
+returns-2 : tie.Need-returns-in-Err
 returns-2 c =
     let s = c.before.before.before.before.before.before.before.before.before.before.before.before in
-    (images-refused (grid_at s) s.args.ps (rooms_at s) (c.points-n.ensures ∙ ap size c.grid_of.ensures) (let z = c.if-classes-n.false in omega arith) (to_z-of_z s.ranges.bz_grid_type) c.build_images.ensures.0 c.in-Refused.is, λ e. absurd (not-accepted e))
+    (images-refused (grid_at s) s.args.ps (rooms_at s) (c.points-n.ensures ∙ ap size c.grid_of.ensures) (let z = c.if-classes-n.false in omega arith) (to_z-of_z s.ranges.bz_grid_type) c.build_images.ensures.0 c.in-Err.is, λ e. absurd (not-accepted e))
 
 enum_told : tie.Need-enum_told-1
 enum_told c = search rules

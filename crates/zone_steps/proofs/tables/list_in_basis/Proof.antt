@@ -24,7 +24,7 @@ mul-list-grid : tie.Need-overflow_mul-n
 mul-list-grid c =
     let s = c in
     let t = c.turn_rotations in
-    let h = basis-few s.args.rotations.now s.args.is_time_reversal s.args.d s.args.q t.ensures.0 c.in-Rotations.is t.new.out t.ensures.1 in
+    let h = basis-few s.args.rotations.now s.args.is_time_reversal s.args.d s.args.q t.ensures.0 c.in-Ok.is t.new.out t.ensures.1 in
     search rules
 
 sub-list-grid : tie.Need-slice_bounds-list_grid-count
@@ -37,13 +37,13 @@ part-list-grid-end : tie.Need-slice_bounds-list_grid-end
 part-list-grid-end c =
     let s = c in
     let t = c.turn_rotations in
-    let h = basis-few s.args.rotations.now s.args.is_time_reversal s.args.d s.args.q t.ensures.0 c.in-Rotations.is t.new.out t.ensures.1 in
+    let h = basis-few s.args.rotations.now s.args.is_time_reversal s.args.d s.args.q t.ensures.0 c.in-Ok.is t.new.out t.ensures.1 in
     search rules
 
 list-grid-requires : tie.Need-list_grid-requires
 list-grid-requires c κs =
     let s = c in
-    (basis-fits s.args.rotations.now s.args.is_time_reversal s.args.d s.args.q c.turn_rotations.ensures.0 c.in-Rotations.is, s.requires)
+    (basis-fits s.args.rotations.now s.args.is_time_reversal s.args.d s.args.q c.turn_rotations.ensures.0 c.in-Ok.is, s.requires)
 
 enum-known-r : tie.Need-enum_known-r
 enum-known-r c = search rules
@@ -72,21 +72,21 @@ same-length-7 c = search rules
 same-length-8 : tie.Need-shape_of-lengths
 same-length-8 c = search rules
 
-returns : tie.Need-returns-in-Rotations
+returns : tie.Need-returns-in-Ok
 returns c =
     let s = c.before.before.before.before.before.before.before.before.before.before.before.before.before.before.before.before.before.before.before.before.before.before.before.before in
     let t = c.turn_rotations in
     let l = c.list_grid.ensures in
     let eu = to_z-of_z s.ranges.bz_grid_type in
     let ei = to_z-of_z s.ranges.q0 in (
-      basis-tested s.args.rotations.now s.args.is_time_reversal s.args.d s.args.q t.ensures.0 c.in-Rotations.is t.new.out t.ensures.1 s.args.lattice s.args.swappable s.args.ps (rooms_at s) eu ei l.0,
-      λ k. basis-listed s.args.rotations.now s.args.is_time_reversal s.args.d s.args.q t.ensures.0 c.in-Rotations.is t.new.out t.ensures.1 s.args.lattice s.args.swappable s.args.ps (rooms_at s) eu ei (l.1 k),
+      basis-tested s.args.rotations.now s.args.is_time_reversal s.args.d s.args.q t.ensures.0 c.in-Ok.is t.new.out t.ensures.1 s.args.lattice s.args.swappable s.args.ps (rooms_at s) eu ei l.0,
+      λ k. basis-listed s.args.rotations.now s.args.is_time_reversal s.args.d s.args.q t.ensures.0 c.in-Ok.is t.new.out t.ensures.1 s.args.lattice s.args.swappable s.args.ps (rooms_at s) eu ei (l.1 k),
     )
 
-returns-2 : tie.Need-returns-in-Refused
+returns-2 : tie.Need-returns-in-Err
 returns-2 c =
     let s = c in
-    (basis-refused s.args.rotations.now s.args.is_time_reversal s.args.d s.args.q c.turn_rotations.ensures.0 _ c.in-Refused.is, λ e. absurd (not-accepted e))
+    (basis-refused s.args.rotations.now s.args.is_time_reversal s.args.d s.args.q c.turn_rotations.ensures.0 _ c.in-Err.is, λ e. absurd (not-accepted e))
 
 pub list_in_basis_spec : {M : Type 1} → statement M
 list_in_basis_spec =

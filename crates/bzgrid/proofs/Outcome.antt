@@ -79,24 +79,11 @@ pub mesh-fits : (l : List ℤ) → T (diagonal_fits l) → {d : Vec ℕ} → d �
 mesh-fits l fits e = subst MeshFits (sym e) (mesh-of l fits)
 
 -- ---- the answer, and the outputs of lengths x, y and z
-module _ {l k : Lengths} (e : l ≡ k) (x y z : ℕ) where
-  answer-of : {h : Bool} → has_room l x y z ≡ h → pick h (Ok k) (Err WrongLength) ≡ judged k x y z
-  answer-of r = ap (λ h. pick h (Ok k) (Err WrongLength)) (sym r ∙ ap (λ l. has_room l x y z) e)
-
-  pub too_short : has_room l x y z ≡ false → Err WrongLength ≡ judged k x y z
-  too_short r = answer-of r
-
-  pub long-enough : has_room l x y z ≡ true → Ok l ≡ judged k x y z
-  long-enough r = ap Ok e ∙ answer-of r
-
 pub room_for : (sp : Bool) (n m x y z : ℕ) → T (has_room (lengths_for sp n m) x y z) → (3 * m ≤ x) × (if_sparse sp (8 * n) + (n + 1) ≤ y) × (m ≤ z)
 room_for sp n m x y z r =
     let b = if_sparse sp (8 * n) + (n + 1) in
     let q = and_r (leb (3 * m) x) (leb b y && leb m z) r in
     (leb→le (3 * m) x (and_l (leb (3 * m) x) (leb b y && leb m z) r), leb→le b y (and_l (leb b y) (leb m z) q), leb→le m z (and_r (leb b y) (leb m z) q))
-
-pub mesh-enough : (sp : Bool) (d : Vec ℕ) (y : ℕ) → if_sparse sp (8 * size d) + (size d + 1) ≤ y → {e : Vec ℕ} → e ≡ doubled d → if_sparse sp (size e) ≤ y
-mesh-enough sp d y h q = rw (q, size-doubled d) (omega (arith, h))
 
 built-room : (l : Lengths) (x y z : ℕ) → T (is_built (judged l x y z)) → T (has_room l x y z)
 built-room l x y z = by (has_room l x y z)

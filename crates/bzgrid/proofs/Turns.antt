@@ -58,9 +58,6 @@ pub record Reached (sparse : Bool) (g : ℕ → List Image) (n base : ℕ) (a₀
   pub map : m ≡ counted (before sparse g) base m₀ i
 
 module _ {sparse : Bool} {g : ℕ → List Image} {n base : ℕ} {a₀ m₀ b₀ : List ℤ} where
-  pub begin : {k : ℕ} → k ≡ if_sparse sparse n → Reached sparse g n base a₀ m₀ b₀ a₀ m₀ b₀ k 0
-  begin e = record { found = tt; addresses = refl; grg = refl; place = omega (arith, e); map = refl }
-
   module _ {a m b : List ℤ} {k i : ℕ} (r : Reached sparse g n base a₀ m₀ b₀ a m b k i) {from : ℕ} (ef : from ≡ if_sparse sparse n) where
     pub low : i ≤ n → (from ≤ k) × (i ≤ k)
     low l = (omega (arith, r.place, ef), first sparse l r.place)
@@ -110,8 +107,3 @@ module _ {sparse : Bool} {g : ℕ → List Image} {n base : ℕ} {a₀ m₀ b₀
         ap Some s.place ∙ ap (λ f. pick f (Some (if_sparse sparse n + before sparse g n)) None) (sym (is_true (all_found g n) s.found)),
         λ all. record { addresses = s.addresses; grg = s.grg; map = count-put s ef p },
       )
-
--- the walk's start by other names
-pub written_from : {sparse : Bool} {g : ℕ → List Image} {n b c : ℕ} {a₀ m₀ b₀ a₁ m₁ b₁ a m d : List ℤ} → b ≡ c → a₀ ≡ a₁ → m₀ ≡ m₁ → b₀ ≡ b₁
-    → WrittenTo sparse g n b a₀ m₀ b₀ a m d → WrittenTo sparse g n c a₁ m₁ b₁ a m d
-written_from {sparse} {g} {n} {a = a} {m} {d} p q r s w = coe 0 1 (i. WrittenTo sparse g n (p i) (q i) (r i) (s i) a m d) w

@@ -1,19 +1,15 @@
 -- Walks over rows of candidates: a turn, the end, and the sizes of a candidate.
 use mathlib.Core.Path.{◌≡◌, sym, ◌∙◌, ap, subst}
-use mathlib.Core.Bool.{Bool, true, false}
 use mathlib.Core.List.{List, [], ◌∷◌, ◌++◌, foldl, foldl-append}
 use Prim.Native.Nat.{ℕ, zero, suc, ◌+◌, ◌<◌, ◌≤◌, zero-le}
 use native.Mathlib.Nat.{le_antisymm}
 use native.Mathlib.Numerals.{add-one}
 use lib.IntN.{ℤ, pos, nat_abs}
 use lib.ListN.{get_or}
-use lib.Ieee.{Float, binary64, sub, lt}
 use lib.Signed.{mag}
 use Rattle.integer.proofs.Fits.{held, held-is}
-use Rattle.integer.specs.Checked.{pick}
-use Rattle.common.specs.Matrix.{Vec, origin}
-use Rattle.common.specs.Array.{items, Sized}
-use Rattle.bzsearch.specs.Search.{Search, rows, outside, chosen, distance, lower}
+use Rattle.common.specs.Array.{Sized}
+use Rattle.bzsearch.specs.Search.{rows}
 
 pub joined : {A S : Type 0} (f : S → A → S) (a : S) (l m : List A) {b e : S} → b ≡ foldl f a l → e ≡ foldl f b m → e ≡ foldl f a (l ++ m)
 joined f a l m p q = q ∙ ap (λ x. foldl f x m) p ∙ sym (foldl-append f a l m)
@@ -27,17 +23,6 @@ module _ {A S : Type 0} (f : S → A → S) (g : ℕ → List A) (k : ℕ) (a : 
   pub finished : {b : S} {n : ℕ} → b ≡ foldl f a (rows g k) → k ≤ n → n ≤ k → b ≡ foldl f a (rows g n)
   finished p l h = p ∙ ap (λ n. foldl f a (rows g n)) (le_antisymm l h)
 
--- ---- one candidate
-module _ {rest : Bool} (m : Vec ℤ) where
-  pub not_chosen : rest ≡ true → outside m ≡ false → [] ≡ chosen rest m
-  not_chosen p q = rw (p, q)
-
-  pub first-chosen : rest ≡ false → m ∷ [] ≡ chosen rest m
-  first-chosen p = rw p
-
-  pub rest-chosen : rest ≡ true → outside m ≡ true → m ∷ [] ≡ chosen rest m
-  rest-chosen p q = rw (p, q)
-
 -- ---- the sizes of a vector
 pub three-sized : {k : ℕ} {x y z : ℤ} → nat_abs x ≤ k → nat_abs y ≤ k → nat_abs z ≤ k → Sized k (x ∷ y ∷ z ∷ [])
 three-sized {k} {x} {y} {z} p q r = record { each = at }
@@ -48,13 +33,6 @@ three-sized {k} {x} {y} {z} p q r = record { each = at }
     at (suc (suc zero)) = r
     at (suc (suc (suc n))) = zero-le
 
-pub origin-sized : Sized 16 (items origin)
-origin-sized = three-sized zero-le zero-le zero-le
-
 -- as the code holds a number
 pub held-small : {n : ℕ} (z : ℤ) → mag z < 0x8000000000000000 → nat_abs z ≤ n → nat_abs (held z) ≤ n
 held-small {n} z g = subst (λ (w : ℤ). nat_abs w ≤ n) (sym (held-is z g))
-
--- ---- the outcome of its test decides what the least becomes
-pub lowered : (s : Search) (s0 : Vec Float) (least : Float) (m : Vec ℤ) {b : Bool} {x : Float} → x ≡ distance s s0 m → lt x (sub binary64 least s.tolerance) ≡ b → pick b x least ≡ lower s s0 least m
-lowered s s0 least m {b} {x} e f = ap (λ b. pick b x least) (sym f) ∙ ap (λ x. pick (lt x (sub binary64 least s.tolerance)) x least) e

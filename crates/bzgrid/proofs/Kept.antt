@@ -1,7 +1,7 @@
 -- The walk over the candidates of a point that keeps some is a walk over the point's images.
 use mathlib.Core.Path.{◌≡◌, refl, sym, ◌∙◌, ap, ap₂}
 use mathlib.Core.Bool.{Bool, true, false}
-use mathlib.Core.List.{List, [], ◌∷◌, ◌++◌, map, foldl}
+use mathlib.Core.List.{List, [], ◌∷◌, map, foldl}
 use Prim.Native.Nat.{ℕ}
 use lib.IntN.{ℤ}
 use lib.Ieee.{Float, lt}
@@ -9,12 +9,12 @@ use Rattle.integer.specs.Checked.{pick}
 use Rattle.common.specs.Matrix.{Vec}
 use Rattle.common.specs.Array.{vector_of}
 use Rattle.grgrid.specs.Grid.{address}
-use Rattle.bzsearch.specs.Search.{Search, Split, Span, Numbers, split_reduced, distance, search_range, range_fits, first_box, whole_box, box, near, candidates, bound, set_bz_address, kept_by, images_from, images_of, images}
+use Rattle.bzsearch.specs.Search.{Search, Split, Span, split_reduced, distance, search_range, range_fits, candidates, bound, set_bz_address, kept_by, images_from, images_of, images}
 use Rattle.bzgrid.specs.Table.{image_of, images_at}
 use Rattle.bzgrid.specs.Writing.{Tables, store, stored, keep, kept}
 use Rattle.bzsearch.specs.SearchView.{search_of, point_split}
-use Rattle.bzsearch.specs.declared.search.BzSearch.{BzSearch}
-use Rattle.bzsearch.specs.declared.search.Point.{Point}
+use Rattle.bzsearch.specs.declared.types.BzSearch.{BzSearch}
+use Rattle.bzsearch.specs.declared.types.Point.{Point}
 
 -- ---- the walk that keeps images
 abbrev pub keeping : BzSearch → Point → Float → Tables → Vec ℤ → Tables
@@ -33,10 +33,6 @@ module _ {A : Type 0} (i : ℕ) (q : A → Bool) (h : A → Vec ℤ) where
   kept-stored t (m ∷ ms) =
       both (q m) (λ u. foldl tried u ms) (λ l. stored t (map (image_of i) l)) {u = h m ∷ kept_by q h ms} {v = kept_by q h ms}
       (kept-stored (store t (image_of i (h m))) ms) (kept-stored t ms)
-
-pub boxes-candidates : (r : Vec Span) {x y : Vec Numbers} {n : Bool} → x ≡ first_box r → y ≡ whole_box r → n ≡ near r → box false x ++ pick n [] (box true y) ≡ candidates r
-unfolding candidates
-boxes-candidates r p q e = λ j. box false (p j) ++ pick (e j) [] (box true (q j))
 
 -- of point i, with address a and coordinates p, whose range is r
 module _ (s : Search) (i : ℕ) {a : Vec ℤ} {p : Split} {r : Vec Span} (ea : a ≡ address s.d i) (ep : p ≡ split_reduced s (address s.d i)) (er : r ≡ search_range s p.s0) where

@@ -17,14 +17,14 @@ use Rattle.bzgrid.specs.Table.{Image, first, others, dense, sparse, address_list
 use Rattle.bzgrid.specs.BzGridAddresses.{all_found, padded}
 use Rattle.bzgrid.specs.Writing.{put_at, Tables, tables, store, stored, restart, written, if_sparse}
 use Rattle.bzgrid.specs.Walked.{later, before, after, blank}
-use Rattle.bzgrid.proofs.Runs.{at_stored, Some, cells, length-cells, cells-append, run, apart, drop-same, split-same}
+use Rattle.bzgrid.proofs.Runs.{at_stored, Found, cells, length-cells, cells-append, run, apart, drop-same, split-same}
 
-at-point : (sparse : Bool) (i : ℕ) (t : Tables) (xs : List Image) → Some xs → (stored (restart sparse i t) xs).at ≡ t.at + length (pick sparse (drop 1 xs) xs)
+at-point : (sparse : Bool) (i : ℕ) (t : Tables) (xs : List Image) → Found xs → (stored (restart sparse i t) xs).at ≡ t.at + length (pick sparse (drop 1 xs) xs)
 at-point false i t xs some = at_stored xs (restart false i t) refl
 at-point true i t [] some = absurd some
 at-point true i t (x ∷ ys) some = at_stored ys (store (restart true i t) x) refl
 
-one-first : (xs : List Image) → Some xs → length (take 1 xs) ≡ 1
+one-first : (xs : List Image) → Found xs → length (take 1 xs) ≡ 1
 one-first [] some = absurd some
 one-first (x ∷ xs) some = refl
 
@@ -33,7 +33,7 @@ module _ (g : ℕ → List Image) where
     pub below : T (all_found g i)
     below = and_l (all_found g i) (not (eqb (length (g i)) 0)) all
 
-    pub here : Some (g i)
+    pub here : Found (g i)
     here = and_r (all_found g i) (not (eqb (length (g i)) 0)) all
 
   -- ---- the place after the first i points

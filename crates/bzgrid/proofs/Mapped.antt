@@ -1,6 +1,6 @@
 -- The map of a table: the counts that the walk leaves, and the doubled mesh before them.
 use mathlib.Core.Path.{◌≡◌, refl, sym, ◌∙◌, ap, ap₂}
-use mathlib.Core.Bool.{Bool, true, false, false≢true}
+use mathlib.Core.Bool.{Bool, true, false}
 use mathlib.Core.List.{List, [], ◌∷◌, ◌++◌, append_assoc, append-nil}
 use Prim.Native.Nat.{ℕ, zero, suc, ◌+◌, ◌*◌, ◌-◌, ◌≤◌}
 use native.Mathlib.Numerals.{add-one}
@@ -67,18 +67,6 @@ placed-flat d (x ∷ xs) l r k map e =
 pub length-placed : (d : Vec ℕ) (xs : List Image) (k : ℕ) (map : List ℤ) → length (placed d k xs map) ≡ length map
 length-placed d [] k map = refl
 length-placed d (x ∷ xs) k map = length-placed d xs (suc k) (set map (index (doubled d) x.address) (pos k)) ∙ length-set map (index (doubled d) x.address) (pos k)
-
--- the mesh before the rest of the map
-pub mesh-room : (s : Bool) (n m : ℕ) → s ≡ true → if_sparse s n ≤ m → n ≤ m
-mesh-room true n m e h = h
-mesh-room false n m e h = absurd (false≢true e)
-
-pub mesh-added : {s : Bool} (d : Vec ℕ) (l : List ℤ) (m : ℕ) (map : List ℤ) {x : List ℤ} {e : ℕ} → s ≡ true → e ≡ size d → x ≡ placed_flat d l m (replicate (size d) (pos (size d)))
-    → x ++ drop (e - 0) map ≡ with_mesh s d l m map
-mesh-added d l m map {e = e} t p q = ap₂ (λ y k. y ++ drop k map) q (whole e ∙ p) ∙ ap (λ s. with_mesh s d l m map) (sym t)
-  where
-    whole : (e : ℕ) → e - 0 ≡ e
-    whole e = omega arith
 
 pub size-doubled : (d : Vec ℕ) → size (doubled d) ≡ 8 * size d
 size-doubled d = omega arith

@@ -22,8 +22,7 @@ use Rattle.grgrid.proofs.Accepted.{side-small, few-points, grid-fits}
 use Rattle.bzgrid.specs.declared.GridType.{GridType}
 use Rattle.bzgrid.specs.declared.GridType.TheVariants.{Sparse, Dense, Unknown}
 use Rattle.bzgrid.specs.declared.Lengths.{Lengths}
-use Rattle.bzgrid.specs.declared.tables.Walk.{Walk}
-use Rattle.bzgrid.specs.declared.tables.Walk.TheVariants.{Images, Missing}
+use Rattle.std.specs.Prelude.{Option, Some, None}
 use Rattle.bzsearch.specs.Search.{Search}
 use Rattle.bzgrid.specs.Table.{Image, images_at, dense_map, sparse_map, doubled, address_list, point_list}
 use Rattle.bzgrid.specs.BzGridAddresses.{is_known, is_sparse, table_of, map_of, map_length, all_found, lengths_of, has_room, answer_for, padded, build_tests, build_answer, build_addresses, build_map, build_grg}
@@ -33,11 +32,11 @@ use Rattle.bzgrid.proofs.Layouts.{table, length-table, addresses-laid, points-la
 use Rattle.bzgrid.proofs.Mapped.{size-doubled, mapped}
 
 -- ---- what the walk answers
-told-images : (f : Bool) (k : ℕ) {m : ℕ} → Images m ≡ pick f (Images k) Missing → (f ≡ true) × (m ≡ k)
+told-images : (f : Bool) (k : ℕ) {m : ℕ} → Some m ≡ pick f (Some k) None → (f ≡ true) × (m ≡ k)
 told-images true k e = (refl, cc)
 told-images false k e = let z : ◌≡◌ {A = Bool} false true = cc in absurd (false≢true z)
 
-told-missing : (f : Bool) (k : ℕ) → Missing ≡ pick f (Images k) Missing → f ≡ false
+told-missing : (f : Bool) (k : ℕ) → None ≡ pick f (Some k) None → f ≡ false
 told-missing true k e = let z : ◌≡◌ {A = Bool} false true = cc in absurd (false≢true z)
 told-missing false k e = refl
 
@@ -80,24 +79,11 @@ pub mesh-fits : (l : List ℤ) → T (diagonal_fits l) → {d : Vec ℕ} → d �
 mesh-fits l fits e = subst MeshFits (sym e) (mesh-of l fits)
 
 -- ---- the answer, and the outputs of lengths x, y and z
-module _ {l k : Lengths} (e : l ≡ k) (x y z : ℕ) where
-  answer-of : {h : Bool} → has_room l x y z ≡ h → pick h (Ok k) (Err WrongLength) ≡ judged k x y z
-  answer-of r = ap (λ h. pick h (Ok k) (Err WrongLength)) (sym r ∙ ap (λ l. has_room l x y z) e)
-
-  pub too_short : has_room l x y z ≡ false → Err WrongLength ≡ judged k x y z
-  too_short r = answer-of r
-
-  pub long-enough : has_room l x y z ≡ true → Ok l ≡ judged k x y z
-  long-enough r = ap Ok e ∙ answer-of r
-
 pub room_for : (sp : Bool) (n m x y z : ℕ) → T (has_room (lengths_for sp n m) x y z) → (3 * m ≤ x) × (if_sparse sp (8 * n) + (n + 1) ≤ y) × (m ≤ z)
 room_for sp n m x y z r =
     let b = if_sparse sp (8 * n) + (n + 1) in
     let q = and_r (leb (3 * m) x) (leb b y && leb m z) r in
     (leb→le (3 * m) x (and_l (leb (3 * m) x) (leb b y && leb m z) r), leb→le b y (and_l (leb b y) (leb m z) q), leb→le m z (and_r (leb b y) (leb m z) q))
-
-pub mesh-enough : (sp : Bool) (d : Vec ℕ) (y : ℕ) → if_sparse sp (8 * size d) + (size d + 1) ≤ y → {e : Vec ℕ} → e ≡ doubled d → if_sparse sp (size e) ≤ y
-mesh-enough sp d y h q = rw (q, size-doubled d) (omega (arith, h))
 
 built-room : (l : Lengths) (x y z : ℕ) → T (is_built (judged l x y z)) → T (has_room l x y z)
 built-room l x y z = by (has_room l x y z)
@@ -118,14 +104,14 @@ module _ (t : GridType) (s : Search) (x y z : ℕ) where
 
   -- the code's names: whether the table is sparse, and the number of points
   module _ {sp : Bool} {k : ℕ} (es : sp ≡ is_sparse t) (ek : k ≡ n) where
-    told : {w : Walk} → w ≡ walk_of sp g k → w ≡ walk_of (is_sparse t) g n
+    told : {w : Option ℕ} → w ≡ walk_of sp g k → w ≡ walk_of (is_sparse t) g n
     told e = e ∙ ap₂ (λ b j. walk_of b g j) es ek
 
-    pub failed : Missing ≡ walk_of sp g k → Err SearchFailed ≡ build_answer t s x y z
+    pub failed : None ≡ walk_of sp g k → Err SearchFailed ≡ build_answer t s x y z
     unfolding build_answer build_tests
     failed e = sym (ap (λ f. answer_for (tests f (has_room (lengths_of t s.d g) x y z)) (lengths_of t s.d g)) (told-missing (all_found g n) _ (told e)))
 
-    module _ (known : T (is_known t)) {m : ℕ} (e : Images m ≡ walk_of sp g k) where
+    module _ (known : T (is_known t)) {m : ℕ} (e : Some m ≡ walk_of sp g k) where
       found : all_found g n ≡ true
       found = (told-images (all_found g n) _ (told e)).0
 

@@ -5,7 +5,9 @@ use mathlib.Core.List.{List, [], ◌∷◌, ◌++◌, append_assoc, append-nil}
 use Prim.Native.Nat.{ℕ, zero, suc, ◌+◌, ◌*◌, ◌-◌, ◌≤◌, ◌<◌}
 use native.Mathlib.Omega.{arith}
 use borrow.Author.Tests.{le-leb, lt-leb}
+use borrow.Rule.Slice.PartMut.{put_mid, Post-is}
 use lib.Dec.{T, eqb}
+use Rattle.common.specs.Array.{items, vector_of}
 use lib.IntN.{ℤ}
 use lib.ListN.{length, take, drop, replicate, length-append, length-drop, replicate-append-replicate}
 use lib.Seq.{sets, sets-eq, take_at, drop-append-add, drop-append-le, drop-drop}
@@ -20,6 +22,20 @@ module _ (w k : ℕ) (l v : List ℤ) where
   pub put-out : length l < w * k + w → put_at w l k v ≡ l
   unfolding put_at
   put-out h = rw (lt-leb (w * k + w) (length l) h)
+
+-- the same where the run is copied
+pub pasted : (k : ℕ) (l v : List ℤ) → length v ≡ 3 → 3 * k + 3 ≤ length l → put_mid (3 * k) (3 * k + 3 - 3 * k) l v ≡ put_at 3 l k v
+pasted k l v e h =
+    ap (λ r. take (3 * k) l ++ (v ++ r)) (Post-is (3 * k) (3 * k + 3) l (omega arith) ∙ ap (λ n. drop n l) {x = 3 * k + 3} {y = 3 * k + length v} (omega (arith, e)))
+    ∙ sym (append_assoc (take (3 * k) l) v (drop (3 * k + length v) l))
+    ∙ sym (put_in 3 k l v h ∙ sets-eq v l (3 * k) (omega (arith, e)))
+
+pub three-items : (l : List ℤ) → length l ≡ 3 → items (vector_of l) ≡ l
+three-items [] e = absurd (omega (arith, e))
+three-items (x ∷ []) e = absurd (omega (arith, e))
+three-items (x ∷ (y ∷ [])) e = absurd (omega (arith, e))
+three-items (x ∷ (y ∷ (z ∷ []))) e = refl
+three-items (x ∷ (y ∷ (z ∷ (u ∷ l)))) e = absurd (omega (arith, e))
 
 -- the run after p
 pub put-after : (w k : ℕ) (p v r : List ℤ) → length p ≡ w * k → length v ≡ w → w ≤ length r → put_at w (p ++ r) k v ≡ p ++ v ++ drop w r
@@ -52,8 +68,8 @@ at_stored [] t n = omega arith
 at_stored (x ∷ xs) t n = at_stored xs (store t x) refl ∙ omega arith
 
 -- there are some
-abbrev pub Some : List Image → Type 0
-Some xs = T (not (eqb (length xs) 0))
+abbrev pub Found : List Image → Type 0
+Found xs = T (not (eqb (length xs) 0))
 
 -- ---- one output of a walk, in which each image writes the w places that f shows
 module _ (f : Image → List ℤ) where
@@ -88,7 +104,7 @@ module _ (w : ℕ) (f : Image → List ℤ) (each : (x : Image) → length (f x)
             sum = omega arith
 
     -- the first image at a place of its own
-    pub apart : (xs : List Image) (t : Tables) (p q s r : List ℤ) → Some xs → out t ≡ p ++ (q ++ (s ++ r)) → length p ≡ w * t.at → w ≤ length q
+    pub apart : (xs : List Image) (t : Tables) (p q s r : List ℤ) → Found xs → out t ≡ p ++ (q ++ (s ++ r)) → length p ≡ w * t.at → w ≤ length q
         → length p + length q + length s ≡ w * t.next → w * length (drop 1 xs) ≤ length r
         → out (stored t xs) ≡ (p ++ cells f (take 1 xs)) ++ (drop w q ++ ((s ++ cells f (drop 1 xs)) ++ drop (w * length (drop 1 xs)) r))
     apart [] t p q s r some e h m l k = absurd some

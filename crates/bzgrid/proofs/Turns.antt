@@ -12,17 +12,17 @@ use lib.IntN.{ℤ, pos}
 use lib.ListN.{length, length-append}
 use Rattle.integer.specs.Checked.{pick}
 use Rattle.integer.proofs.Test.{and_in, is_true, is_false, fails}
-use Rattle.bzgrid.specs.declared.tables.Walk.TheVariants.{Images, Missing}
+use Rattle.std.specs.Prelude.{Some, None}
 use Rattle.bzsearch.specs.Search.{rows}
 use Rattle.bzgrid.specs.Table.{Image}
 use Rattle.bzgrid.specs.BzGridAddresses.{all_found}
 use Rattle.bzgrid.specs.Writing.{put_at, Tables, tables, stored, restart, if_sparse, counted}
 use Rattle.bzgrid.specs.Walked.{before, after, walk_of, WrittenTo}
-use Rattle.bzgrid.proofs.Runs.{next-stored, Some}
+use Rattle.bzgrid.proofs.Runs.{next-stored, Found}
 use Rattle.bzgrid.proofs.Layouts.{below, here, at-written}
 
 -- images were stored if the place has moved
-moved : (xs : List Image) (t : Tables) → ((stored t xs).next ≡ t.next → ⊥) → Some xs
+moved : (xs : List Image) (t : Tables) → ((stored t xs).next ≡ t.next → ⊥) → Found xs
 moved [] t h = h refl
 moved (x ∷ xs) t h = fails (eqb-suc-zero (length xs))
 
@@ -32,10 +32,10 @@ restarted true u i k p q e f h = λ j. tables (p j) (q j) (f j) ((h ∙ e) j)
 restarted false u i k p q e f h = λ j. tables (p j) (q j) ((f ∙ e) j) ((h ∙ ap (λ m. m + 1) e) j)
 
 -- each point below n has an image
-found_at : (g : ℕ → List Image) (n i : ℕ) → i < n → T (all_found g n) → Some (g i)
+found_at : (g : ℕ → List Image) (n i : ℕ) → i < n → T (all_found g n) → Found (g i)
 found_at g zero i h all = absurd (not-suc-le-zero h)
 found_at g (suc n) i h all =
-    ⊎_elim (λ e. subst (λ j. Some (g j)) (sym e) (here g n all))
+    ⊎_elim (λ e. subst (λ j. Found (g j)) (sym e) (here g n all))
     (λ l. found_at g n i l (below g n all))
     (eq-or-lt_of_le (le_of_suc-le-suc h))
 
@@ -45,7 +45,7 @@ as_many g zero all = omega arith
 as_many g (suc i) all =
     omega (arith, length-append (rows g i) (g i), as_many g i (below g i all), one (g i) (here g i all))
   where
-    one : (xs : List Image) → Some xs → 1 ≤ length xs
+    one : (xs : List Image) → Found xs → 1 ≤ length xs
     one [] some = absurd some
     one (x ∷ xs) some = omega arith
 
@@ -58,9 +58,6 @@ pub record Reached (sparse : Bool) (g : ℕ → List Image) (n base : ℕ) (a₀
   pub map : m ≡ counted (before sparse g) base m₀ i
 
 module _ {sparse : Bool} {g : ℕ → List Image} {n base : ℕ} {a₀ m₀ b₀ : List ℤ} where
-  pub begin : {k : ℕ} → k ≡ if_sparse sparse n → Reached sparse g n base a₀ m₀ b₀ a₀ m₀ b₀ k 0
-  begin e = record { found = tt; addresses = refl; grg = refl; place = omega (arith, e); map = refl }
-
   module _ {a m b : List ℤ} {k i : ℕ} (r : Reached sparse g n base a₀ m₀ b₀ a m b k i) {from : ℕ} (ef : from ≡ if_sparse sparse n) where
     pub low : i ≤ n → (from ≤ k) × (i ≤ k)
     low l = (omega (arith, r.place, ef), first sparse l r.place)
@@ -92,26 +89,21 @@ module _ {sparse : Bool} {g : ℕ → List Image} {n base : ℕ} {a₀ m₀ b₀
           next = e ∙ ap (λ t. stored t (g i)) (restarted sparse (after sparse g n a₀ b₀ i) i k r.addresses r.grg (r.place ∙ sym (at-written g sparse (tables a₀ b₀ (if_sparse sparse n) 0) i r.found)) ex ey)
 
       -- no image was stored
-      pub missing : i < n → y' ≡ y → {P : Type 0} → (Missing ≡ walk_of sparse g n) × (T (all_found g n) → P)
+      pub missing : i < n → y' ≡ y → {P : Type 0} → (None ≡ walk_of sparse g n) × (T (all_found g n) → P)
       missing l h =
-          (ap (λ f. pick f (Images (if_sparse sparse n + before sparse g n)) Missing) (sym (is_false (all_found g n) (not_T (all_found g n) lacks))), λ all. absurd (lacks all))
+          (ap (λ f. pick f (Some (if_sparse sparse n + before sparse g n)) None) (sym (is_false (all_found g n) (not_T (all_found g n) lacks))), λ all. absurd (lacks all))
         where
           lacks : T (all_found g n) → ⊥
           lacks all = none (g i) (found_at g n i l all) (sym (next-stored (g i) (tables a b x y)) ∙ sym (ap (λ (t : Tables). t.next) e) ∙ h)
             where
-              none : (xs : List Image) → Some xs → y + length xs ≡ y → ⊥
+              none : (xs : List Image) → Found xs → y + length xs ≡ y → ⊥
               none [] some q = some
               none (z ∷ xs) some q = omega arith
 
   pub ended : {a m b : List ℤ} {k i : ℕ} → Reached sparse g n base a₀ m₀ b₀ a m b k i → i ≡ n → {from : ℕ} → from ≡ if_sparse sparse n → {m' : List ℤ} → m' ≡ put_at 1 m (base + n) (pos (k - from) ∷ [])
-      → (Images k ≡ walk_of sparse g n) × (T (all_found g n) → WrittenTo sparse g n base a₀ m₀ b₀ a m' b)
+      → (Some k ≡ walk_of sparse g n) × (T (all_found g n) → WrittenTo sparse g n base a₀ m₀ b₀ a m' b)
   ended {a} {m} {b} {k} r q ef p =
       let s = subst (Reached sparse g n base a₀ m₀ b₀ a m b k) q r in (
-        ap Images s.place ∙ ap (λ f. pick f (Images (if_sparse sparse n + before sparse g n)) Missing) (sym (is_true (all_found g n) s.found)),
+        ap Some s.place ∙ ap (λ f. pick f (Some (if_sparse sparse n + before sparse g n)) None) (sym (is_true (all_found g n) s.found)),
         λ all. record { addresses = s.addresses; grg = s.grg; map = count-put s ef p },
       )
-
--- the walk's start by other names
-pub written_from : {sparse : Bool} {g : ℕ → List Image} {n b c : ℕ} {a₀ m₀ b₀ a₁ m₁ b₁ a m d : List ℤ} → b ≡ c → a₀ ≡ a₁ → m₀ ≡ m₁ → b₀ ≡ b₁
-    → WrittenTo sparse g n b a₀ m₀ b₀ a m d → WrittenTo sparse g n c a₁ m₁ b₁ a m d
-written_from {sparse} {g} {n} {a = a} {m} {d} p q r s w = coe 0 1 (i. WrittenTo sparse g n (p i) (q i) (r i) (s i) a m d) w

@@ -1,5 +1,5 @@
 -- The two layouts of an image table, from the list of images of each point, and how either is read.
-use Rattle.std.specs.Prelude.{List, [], ◌∷◌, ◌++◌, map, ℕ, suc, ◌+◌, ◌*◌, ◌-◌, ℤ, pos, length, set, replicate, take, drop}
+use Rattle.std.specs.Prelude.{List, [], ◌∷◌, ◌++◌, map, ℕ, suc, ◌+◌, ◌*◌, ℤ, pos, length, set, replicate, take, drop}
 use Rattle.common.specs.Matrix.{Vec, map_vec}
 use Rattle.common.specs.Array.{items}
 use Rattle.grgrid.specs.Grid.{size, index}

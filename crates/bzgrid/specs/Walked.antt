@@ -1,9 +1,7 @@
 -- What a walk over all points leaves.
-use Rattle.std.specs.Prelude.{◌≡◌, Bool, true, false, List, ℕ, suc, ◌+◌, ◌*◌, ◌≤◌, ℤ, negsuc, length, replicate, Result, Ok, Err}
+use Rattle.std.specs.Prelude.{◌≡◌, Bool, true, false, List, ℕ, suc, ◌+◌, ◌*◌, ◌≤◌, ℤ, negsuc, length, replicate, Result, Ok, Err, Option, Some, None}
 use Rattle.common.specs.declared.Refusal.{Refusal}
 use Rattle.integer.specs.Checked.{pick}
-use Rattle.bzgrid.specs.declared.tables.Walk.{Walk}
-use Rattle.bzgrid.specs.declared.tables.Walk.TheVariants.{Images, Missing}
 use Rattle.common.specs.declared.Refusal.TheVariants.{WrongLength}
 use Rattle.common.specs.Matrix.{Vec}
 use Rattle.grgrid.specs.Grid.{size}
@@ -23,12 +21,13 @@ later sparse g i = pick sparse (others g i) (g i)
 abbrev pub before : Bool → (ℕ → List Image) → ℕ → ℕ
 before sparse g i = length (rows (later sparse g) i)
 
-abbrev pub walk_of : Bool → (ℕ → List Image) → ℕ → Walk
-walk_of sparse g n = pick (all_found g n) (Images (if_sparse sparse n + before sparse g n)) Missing
+-- how many images there are, or that a point has none
+abbrev pub walk_of : Bool → (ℕ → List Image) → ℕ → Option ℕ
+walk_of sparse g n = pick (all_found g n) (Some (if_sparse sparse n + before sparse g n)) None
 
-abbrev pub images_in : Walk → ℕ
-images_in (Images m) = m
-images_in Missing = 0
+abbrev pub images_in : Option ℕ → ℕ
+images_in (Some m) = m
+images_in None = 0
 
 -- outputs a and b after the first i points
 abbrev pub after : Bool → (ℕ → List Image) → ℕ → List ℤ → List ℤ → ℕ → Tables

@@ -9,13 +9,12 @@ ghost use Rattle.grgrid.specs.Sides.{sides, GridFits};
 ghost use Rattle.bzgrid.specs.Table.{images_at, doubled};
 ghost use Rattle.bzgrid.specs.Writing.{if_sparse, placed_flat, with_mesh};
 ghost use Rattle.bzgrid.specs.Walked.{walk_of, images_in, blank, WrittenTo, lengths_for, judged, is_built, Filled, MeshFits};
-ghost use Rattle.bzsearch.specs.SearchView.{search_of, Ready};
+ghost use Rattle.bzsearch.specs.SearchView.{search_of};
 ghost use Rattle.bzgrid.specs.BzGridAddresses.{grid_type_of, is_known, is_sparse, all_found, within_limits, input_tests, has_room, build_answer, build_addresses, build_map, build_grg, bz_answer, addresses_written, map_written, grg_written};
 
 use bzsearch::BzSearch;
 use common::Refusal;
 use grgrid::Grid;
-use tables::Walk;
 
 // The layout of an image table: type 1 is sparse, type 2 dense.
 #[derive(Clone, Copy)]
@@ -48,14 +47,10 @@ pub fn grid_type(t: i64) -> GridType
 fn within_limits(d: [i64; 3], q: [[i64; 3]; 3], ps: [i64; 3], lattice: [[f64; 3]; 3]) -> bool
     ensures { result ≡ within_limits d q ps lattice }
 {
-    if !common::diagonal_fits(d) {
-        return false;
-    }
-    common::all_three(
-        common::matrix_within(q, 1000),
-        common::shift_fits(ps),
-        bzsearch::lattice_fits(lattice),
-    )
+    common::diagonal_fits(d)
+        && common::matrix_within(q, 1000)
+        && common::shift_fits(ps)
+        && bzsearch::lattice_fits(lattice)
 }
 
 fn input_tests(
@@ -108,15 +103,15 @@ fn wipe(addresses: &mut [i64], map: &mut [i64], grg: &mut [i64])
     ensures map_after { map.new ≡ replicate (length map.old) (negsuc 0) }
     ensures grg_after { grg.new ≡ replicate (length grg.old) (negsuc 0) }
 {
-    common::fill(addresses, -1);
-    common::fill(map, -1);
-    common::fill(grg, -1);
+    addresses.fill(-1);
+    map.fill(-1);
+    grg.fill(-1);
 }
 
 fn has_room(l: Lengths, a: usize, b: usize, c: usize) -> bool
     ensures { result ≡ has_room l a b c }
 {
-    common::all_three(l.addresses <= a, l.map <= b, l.grg <= c)
+    l.addresses <= a && l.map <= b && l.grg <= c
 }
 
 // Of m images of n points.
@@ -152,7 +147,7 @@ fn fill_mesh(addresses: &[i64], m: usize, g: Grid, map: &mut [i64])
     ensures { map.new ≡ placed_flat (sides g) addresses.now m (replicate (size (sides g)) (pos (size (sides g)))) }
 {
     let empty = map.len() as i64;
-    common::fill(&mut *map, empty);
+    map.fill(empty);
     tables::place_images(addresses, m, g, map);
 }
 
@@ -200,9 +195,8 @@ fn walk_points(
     addresses: &mut [i64],
     map: &mut [i64],
     grg: &mut [i64],
-) -> Walk
-    requires fact_1 { Ready s }
-    requires fact_2 { n ≡ size (search_of s).d }
+) -> Option<usize>
+    requires { n ≡ size (search_of s).d }
     ensures value { result ≡ walk_of sparse (images_at (search_of s)) n }
     ensures result_bound { images_in result < 1099511627776 }
     ensures written_to { T (all_found (images_at (search_of s)) n) → WrittenTo sparse (images_at (search_of s)) n (if_sparse sparse (8 * n)) (blank (length addresses.old)) (blank (length map.old)) (blank (length grg.old)) addresses.new map.new grg.new }
@@ -220,8 +214,7 @@ fn fill_tables(
     map: &mut [i64],
     grg: &mut [i64],
 ) -> Result<Lengths, Refusal>
-    requires fact_1 { Ready s }
-    requires fact_2 { T (is_known t) }
+    requires { T (is_known t) }
     ensures value { result ≡ build_answer t (search_of s) (length addresses.old) (length map.old) (length grg.old) }
     ensures filled { T (is_built result) → Filled t (search_of s) (length addresses.old) (length map.old) (length grg.old) addresses.new map.new grg.new }
 {
@@ -236,8 +229,8 @@ fn fill_tables(
         &mut *map,
         grg,
     ) {
-        Walk::Missing => Err(Refusal::SearchFailed),
-        Walk::Images(m) => finish(sparse, g, m, addresses, map, grg.len()),
+        None => Err(Refusal::SearchFailed),
+        Some(m) => finish(sparse, g, m, addresses, map, grg.len()),
     }
 }
 
@@ -249,8 +242,7 @@ fn build(
     map: &mut [i64],
     grg: &mut [i64],
 ) -> Result<Lengths, Refusal>
-    requires fact_1 { Ready s }
-    requires fact_2 { T (is_known t) }
+    requires { T (is_known t) }
     ensures value { result ≡ build_answer t (search_of s) (length addresses.old) (length map.old) (length grg.old) }
     ensures addresses_after { addresses.new ≡ build_addresses t (search_of s) (length addresses.old) (length map.old) (length grg.old) }
     ensures map_after { map.new ≡ build_map t (search_of s) (length addresses.old) (length map.old) (length grg.old) }

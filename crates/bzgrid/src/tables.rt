@@ -1,19 +1,17 @@
 // Image tables: a walk over the points that writes the images of each, for both layouts.
-ghost use Rattle.std.specs.Prelude.{◌≡◌, true, false, [], ◌∷◌, ◌++◌, ◌+◌, ◌*◌, ◌-◌, ◌<◌, ◌≤◌, T, pos, length};
+ghost use Rattle.std.specs.Prelude.{◌≡◌, [], ◌∷◌, ◌+◌, ◌*◌, ◌<◌, ◌≤◌, T, pos, length, Option};
 ghost use Rattle.integer.specs.Checked.{pick};
-ghost use Rattle.common.specs.Matrix.{X, Y};
-ghost use Rattle.common.specs.Array.{along, vector_of, items, Sized};
+ghost use Rattle.common.specs.Array.{vector_of, items, Sized};
 ghost use Rattle.grgrid.specs.Grid.{size};
 ghost use Rattle.grgrid.specs.Sides.{sides, GridFits};
-ghost use Rattle.bzsearch.specs.Search.{chosen, line_at, plane_at, box, rows};
-ghost use Rattle.bzgrid.specs.Table.{image_of, images_at, doubled};
+ghost use Rattle.bzsearch.specs.Search.{chosen, box};
+ghost use Rattle.bzgrid.specs.Table.{image_of, images_at};
 ghost use Rattle.bzgrid.specs.BzGridAddresses.{all_found};
 ghost use Rattle.bzgrid.specs.Writing.{put_at, tables, store, stored, keep, kept, if_sparse, placed_flat};
 ghost use Rattle.bzgrid.specs.Walked.{walk_of, images_in, WrittenTo};
-ghost use Rattle.bzsearch.specs.SearchView.{search_of, numbers_view, Room, first_view, whole_view, BoxesRoom, point_split, PointFits, Ready};
+ghost use Rattle.bzsearch.specs.SearchView.{search_of, axes_view, point_split};
 
-use bzsearch::candidates::{Boxes, Numbers};
-use bzsearch::{BzSearch, Point, candidates};
+use bzsearch::{Axes, BzSearch, Point, candidates};
 use grgrid::Grid;
 
 // The place of the next image, and that of the one after it.
@@ -21,13 +19,7 @@ use grgrid::Grid;
 pub struct Cursor {
     pub at: usize,
     pub next: usize,
-}
-
-// How many images there are, or that a point has none.
-#[derive(Clone, Copy)]
-pub enum Walk {
-    Images(usize),
-    Missing,
+    ghost ordered: { at ≤ next },
 }
 
 // The at-th three places of out, where there is room.
@@ -37,9 +29,7 @@ fn put_address(out: &mut [i64], at: usize, a: [i64; 3])
 {
     let i = 3 * at;
     if i + 3 <= out.len() {
-        out[i] = a[0];
-        out[i + 1] = a[1];
-        out[i + 2] = a[2];
+        out[i..i + 3].copy_from_slice(&a);
     }
 }
 
@@ -57,13 +47,15 @@ fn put_count(out: &mut [i64], at: usize, n: usize)
 // Where the first image of point i goes, if k is the place after all images so far that stand at no point's own place.
 fn start(sparse: bool, i: usize, k: usize) -> Cursor
     requires { (i ≤ k) × (k < 1099511627776) }
-    ensures at_value { (result.at ≡ pick sparse i k) × (result.next ≡ pick sparse k (k + 1)) }
-    ensures at_le_next { (result.at ≤ result.next) × (result.next ≤ k + 1) }
+    ensures at_value { result.at ≡ pick sparse i k }
+    ensures next_value { result.next ≡ pick sparse k (k + 1) }
+    ensures upper_bound { result.next ≤ k + 1 }
 {
     if sparse {
-        return Cursor { at: i, next: k };
+        Cursor { at: i, next: k }
+    } else {
+        Cursor { at: k, next: k + 1 }
     }
-    Cursor { at: k, next: k + 1 }
 }
 
 // n in a sparse table, else 0.
@@ -71,14 +63,11 @@ pub fn if_sparse(sparse: bool, n: usize) -> usize
     ensures value { result ≡ if_sparse sparse n }
     ensures upper_bound { result ≤ n }
 {
-    if sparse {
-        return n;
-    }
-    0
+    if sparse { n } else { 0 }
 }
 
 fn store(i: usize, a: [i64; 3], addresses: &mut [i64], grg: &mut [i64], c: Cursor) -> Cursor
-    requires { (i < 65536) × (c.at ≤ c.next) × (c.next < 1099511627776) }
+    requires { (i < 65536) × (c.next < 1099511627776) }
     ensures { tables addresses.new grg.new result.at result.next ≡ store (tables addresses.old grg.old c.at c.next) (image_of i (vector_of a)) }
 {
     put_address(addresses, c.at, a);
@@ -99,23 +88,14 @@ fn keep(
     grg: &mut [i64],
     c: Cursor,
 ) -> Cursor
-    requires fact_1 { (Ready bz) × (PointFits p) }
-    requires fact_2 { Sized 16 m }
-    requires fact_3 { (c.at ≤ c.next) × (c.next + 1 ≤ 1099511627776) }
+    requires fact_1 { Sized 16 m }
+    requires fact_2 { c.next < 1099511627776 }
     ensures next_after { tables addresses.new grg.new result.at result.next ≡ keep (search_of bz) p.index (vector_of p.address) (point_split p) bound (tables addresses.old grg.old c.at c.next) (vector_of m) }
-    ensures at_le_next { (result.at ≤ result.next) × (c.next ≤ result.next) × (result.next ≤ c.next + 1) }
+    ensures at_le_next { (c.next ≤ result.next) × (result.next ≤ c.next + 1) }
 {
-    let s0 = p.s0;
-    if bz.distance(s0, m) < bound {
-        let address = p.address;
-        let nint = p.nint;
-        return store(
-            p.index,
-            bz.set_bz_address(m, address, nint),
-            addresses,
-            grg,
-            c,
-        );
+    if bz.distance(p.s0, m) < bound {
+        let a = bz.set_bz_address(m, p.address, p.nint);
+        return store(p.index, a, addresses, grg, c);
     }
     c
 }
@@ -130,201 +110,68 @@ fn keep_one(
     grg: &mut [i64],
     c: Cursor,
 ) -> Cursor
-    requires fact_1 { (Ready bz) × (PointFits p) }
-    requires fact_2 { Sized 16 m }
-    requires fact_3 { (c.at ≤ c.next) × (c.next + 1 ≤ 1099511627776) }
+    requires fact_1 { Sized 16 m }
+    requires fact_2 { c.next < 1099511627776 }
     ensures next_after { tables addresses.new grg.new result.at result.next ≡ kept (search_of bz) p.index (vector_of p.address) (point_split p) bound (tables addresses.old grg.old c.at c.next) (chosen rest (vector_of m)) }
-    ensures at_le_next { (result.at ≤ result.next) × (c.next ≤ result.next) × (result.next ≤ c.next + 1) }
+    ensures at_le_next { (c.next ≤ result.next) × (result.next ≤ c.next + 1) }
 {
-    if rest {
-        if !candidates::is_outside(m) {
-            return c;
-        }
+    if rest && !candidates::is_outside(m) {
+        return c;
     }
     keep(bz, p, m, bound, addresses, grg, c)
-}
-
-fn keep_line(
-    bz: BzSearch,
-    p: Point,
-    m: [i64; 3],
-    z: Numbers,
-    rest: bool,
-    bound: f64,
-    addresses: &mut [i64],
-    grg: &mut [i64],
-    c: Cursor,
-) -> Cursor
-    requires fact_1 { (Ready bz) × (PointFits p) }
-    requires fact_2 { Sized 16 m }
-    requires fact_3 { Room (numbers_view z) }
-    requires fact_4 { (c.at ≤ c.next) × (c.next + 33 ≤ 1099511627776) }
-    ensures next_after { tables addresses.new grg.new result.at result.next ≡ kept (search_of bz) p.index (vector_of p.address) (point_split p) bound (tables addresses.old grg.old c.at c.next) (rows (line_at rest (numbers_view z) (along m X) (along m Y)) z.n) }
-    ensures at_le_next { (result.at ≤ result.next) × (c.next ≤ result.next) × (result.next ≤ c.next + 33) }
-{
-    let n = z.n;
-    let mut t = c;
-    let mut k = 0;
-    while k < n {
-        t = keep_one(
-            bz,
-            p,
-            z.along_z(m, k),
-            rest,
-            bound,
-            &mut *addresses,
-            &mut *grg,
-            t,
-        );
-        k += 1;
-    }
-    t
-}
-
-fn keep_plane(
-    bz: BzSearch,
-    p: Point,
-    m: [i64; 3],
-    y: Numbers,
-    z: Numbers,
-    rest: bool,
-    bound: f64,
-    addresses: &mut [i64],
-    grg: &mut [i64],
-    c: Cursor,
-) -> Cursor
-    requires fact_1 { (Ready bz) × (PointFits p) }
-    requires fact_2 { Sized 16 m }
-    requires fact_3 { (Room (numbers_view y)) × (Room (numbers_view z)) }
-    requires fact_4 { (c.at ≤ c.next) × (c.next + 1089 ≤ 1099511627776) }
-    ensures next_after { tables addresses.new grg.new result.at result.next ≡ kept (search_of bz) p.index (vector_of p.address) (point_split p) bound (tables addresses.old grg.old c.at c.next) (rows (plane_at rest (numbers_view y) (numbers_view z) (along m X)) y.n) }
-    ensures at_le_next { (result.at ≤ result.next) × (c.next ≤ result.next) × (result.next ≤ c.next + 1089) }
-{
-    let n = y.n;
-    let mut t = c;
-    let mut k = 0;
-    while k < n {
-        t = keep_line(
-            bz,
-            p,
-            y.along_y(m, k),
-            z,
-            rest,
-            bound,
-            &mut *addresses,
-            &mut *grg,
-            t,
-        );
-        k += 1;
-    }
-    t
 }
 
 fn keep_box(
     bz: BzSearch,
     p: Point,
-    x: Numbers,
-    y: Numbers,
-    z: Numbers,
+    b: Axes,
     rest: bool,
     bound: f64,
     addresses: &mut [i64],
     grg: &mut [i64],
     c: Cursor,
 ) -> Cursor
-    requires fact_1 { (Ready bz) × (PointFits p) }
-    requires fact_2 { (Room (numbers_view x)) × (Room (numbers_view y)) × (Room (numbers_view z)) }
-    requires fact_3 { (c.at ≤ c.next) × (c.next + 35937 ≤ 1099511627776) }
-    ensures next_after { tables addresses.new grg.new result.at result.next ≡ kept (search_of bz) p.index (vector_of p.address) (point_split p) bound (tables addresses.old grg.old c.at c.next) (box rest (record { x = numbers_view x; y = numbers_view y; z = numbers_view z })) }
-    ensures at_le_next { (result.at ≤ result.next) × (c.next ≤ result.next) × (result.next ≤ c.next + 35937) }
+    requires { c.next + 35937 ≤ 1099511627776 }
+    ensures next_after { tables addresses.new grg.new result.at result.next ≡ kept (search_of bz) p.index (vector_of p.address) (point_split p) bound (tables addresses.old grg.old c.at c.next) (box rest (axes_view b)) }
+    ensures at_le_next { (c.next ≤ result.next) × (result.next ≤ c.next + 35937) }
 {
-    let n = x.n;
     let mut t = c;
-    let mut k = 0;
-    while k < n {
-        t = keep_plane(
-            bz,
-            p,
-            x.along_x(k),
-            y,
-            z,
-            rest,
-            bound,
-            &mut *addresses,
-            &mut *grg,
-            t,
-        );
-        k += 1;
+    for i in 0..b.x.n {
+        let x = b.x.at(i);
+        for j in 0..b.y.n {
+            let y = b.y.at(j);
+            for k in 0..b.z.n {
+                let m = [x, y, b.z.at(k)];
+                t = keep_one(bz, p, m, rest, bound, &mut *addresses, &mut *grg, t);
+            }
+        }
     }
     t
 }
 
-fn keep_rest(
-    bz: BzSearch,
-    p: Point,
-    b: Boxes,
-    bound: f64,
-    addresses: &mut [i64],
-    grg: &mut [i64],
-    c: Cursor,
-) -> Cursor
-    requires fact_1 { (Ready bz) × (PointFits p) }
-    requires fact_2 { BoxesRoom b }
-    requires fact_3 { (c.at ≤ c.next) × (c.next + 35937 ≤ 1099511627776) }
-    ensures next_after { tables addresses.new grg.new result.at result.next ≡ kept (search_of bz) p.index (vector_of p.address) (point_split p) bound (tables addresses.old grg.old c.at c.next) (pick b.near [] (box true (whole_view b))) }
-    ensures at_le_next { (result.at ≤ result.next) × (c.next ≤ result.next) × (result.next ≤ c.next + 35937) }
-{
-    if b.near {
-        return c;
-    }
-    let u = b.u;
-    let v = b.v;
-    let w = b.w;
-    keep_box(bz, p, u, v, w, true, bound, addresses, grg, c)
-}
-
-fn keep_all(
-    bz: BzSearch,
-    p: Point,
-    b: Boxes,
-    bound: f64,
-    addresses: &mut [i64],
-    grg: &mut [i64],
-    c: Cursor,
-) -> Cursor
-    requires fact_1 { (Ready bz) × (PointFits p) }
-    requires fact_2 { BoxesRoom b }
-    requires fact_3 { (c.at ≤ c.next) × (c.next + 71874 ≤ 1099511627776) }
-    ensures next_after { tables addresses.new grg.new result.at result.next ≡ kept (search_of bz) p.index (vector_of p.address) (point_split p) bound (tables addresses.old grg.old c.at c.next) (box false (first_view b) ++ pick b.near [] (box true (whole_view b))) }
-    ensures at_le_next { (result.at ≤ result.next) × (c.next ≤ result.next) × (result.next ≤ c.next + 71874) }
-{
-    let x = b.x;
-    let y = b.y;
-    let z = b.z;
-    let t = keep_box(bz, p, x, y, z, false, bound, &mut *addresses, &mut *grg, c);
-    keep_rest(bz, p, b, bound, addresses, grg, t)
-}
-
 // The images of point i, in the order of the candidates. There are none where the range of the search leaves -16..16.
 fn write_point(bz: BzSearch, i: usize, addresses: &mut [i64], grg: &mut [i64], c: Cursor) -> Cursor
-    requires fact_1 { Ready bz }
-    requires fact_2 { i < size (search_of bz).d }
-    requires fact_3 { (c.at ≤ c.next) × (c.next + 71874 ≤ 1099511627776) }
+    requires fact_1 { i < size (search_of bz).d }
+    requires fact_2 { c.next + 71874 ≤ 1099511627776 }
     ensures next_after { tables addresses.new grg.new result.at result.next ≡ stored (tables addresses.old grg.old c.at c.next) (images_at (search_of bz) i) }
-    ensures at_le_next { (result.at ≤ result.next) × (c.next ≤ result.next) × (result.next ≤ c.next + 71874) }
+    ensures at_le_next { (c.next ≤ result.next) × (result.next ≤ c.next + 71874) }
 {
     let p = bz.point(i);
-    let s0 = p.s0;
-    let r = bz.search_range(s0);
+    let r = bz.search_range(p.s0);
     if !candidates::range_fits(r) {
         return c;
     }
     let b = candidates::boxes_of(r);
-    keep_all(bz, p, b, bz.bound(s0, b), addresses, grg, c)
+    let bound = bz.bound(p.s0, b);
+    let t = keep_box(bz, p, b.first, false, bound, &mut *addresses, &mut *grg, c);
+    match b.rest {
+        None => t,
+        Some(whole) => keep_box(bz, p, whole, true, bound, addresses, grg, t),
+    }
 }
 
 // All points below n. The number of images before each goes into the map from place `base` on, and at last the number of all. Where a point has no image
-// the walk ends, and the outputs say nothing.
+// the walk ends with None, and the outputs say nothing.
 pub fn write_table(
     bz: BzSearch,
     sparse: bool,
@@ -333,29 +180,26 @@ pub fn write_table(
     addresses: &mut [i64],
     map: &mut [i64],
     grg: &mut [i64],
-) -> Walk
-    requires fact_1 { Ready bz }
-    requires fact_2 { n ≡ size (search_of bz).d }
-    requires fact_3 { base ≤ 524288 }
+) -> Option<usize>
+    requires fact_1 { n ≡ size (search_of bz).d }
+    requires fact_2 { base ≤ 524288 }
     ensures value { result ≡ walk_of sparse (images_at (search_of bz)) n }
     ensures result_bound { images_in result < 1099511627776 }
     ensures written_to { T (all_found (images_at (search_of bz)) n) → WrittenTo sparse (images_at (search_of bz)) n base addresses.old map.old grg.old addresses.new map.new grg.new }
 {
     let from = if_sparse(sparse, n);
     let mut k = from;
-    let mut i = 0;
-    while i < n {
+    for i in 0..n {
         put_count(&mut *map, base + i, k - from);
         let c = start(sparse, i, k);
         let t = write_point(bz, i, &mut *addresses, &mut *grg, c);
         if t.next == c.next {
-            return Walk::Missing;
+            return None;
         }
         k = t.at;
-        i += 1;
     }
     put_count(map, base + n, k - from);
-    Walk::Images(k)
+    Some(k)
 }
 
 // Each of the first m addresses at its place on the doubled mesh; the last one wins.
@@ -366,11 +210,8 @@ pub fn place_images(addresses: &[i64], m: usize, g: Grid, map: &mut [i64])
     requires fact_4 { m < 1099511627776 }
     ensures { map.new ≡ placed_flat (sides g) addresses.now m map.old }
 {
-    let mut left = m;
-    while 0 < left {
-        let k = m - left;
+    for k in 0..m {
         let at = grgrid::grid_index_from_address(common::row_at(addresses, 3 * k), g);
         map[at] = k as i64;
-        left -= 1;
     }
 }

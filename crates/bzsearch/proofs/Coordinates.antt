@@ -1,4 +1,5 @@
 -- The size of reduced coordinates: a grid coordinate is at most 1, and so their nearest whole numbers are at most 4096.
+use mathlib.Core.List.{List}
 use mathlib.Core.Path.{◌≡◌, sym, ap, subst}
 use Prim.Native.Nat.{ℕ, ◌+◌, ◌*◌, ◌^◌, ◌≤◌, ◌<◌, zero-le}
 use native.Mathlib.Nat.{le_of_lt, le_trans, lt_of_lt_of_le, mul-pos, mul-le-mul_right}
@@ -18,7 +19,7 @@ use Rattle.float.proofs.Bounds.{rounds-bounded, bounded-up, whole-bounded, add-b
 use Rattle.float.proofs.Cast.{nint-bounded}
 use Rattle.float.specs.Rounding.{nint_of}
 use Rattle.common.specs.Matrix.{Axis, X, Y, Z, Vec, side, vector, entry, map_mat, dot}
-use Rattle.common.specs.Array.{number, along, items, Sized}
+use Rattle.common.specs.Array.{number, along, vector_of, items, Sized}
 use Rattle.common.specs.FloatMatrix.{floats}
 use Rattle.common.proofs.Matrix.{side-vector, entry-matrix}
 use Rattle.grgrid.specs.Grid.{size, digits, address, double}
@@ -27,9 +28,8 @@ use Rattle.grgrid.proofs.Folding.{digits-within}
 use Rattle.grgrid.proofs.Accepted.{side-small, few-points, grid-fits}
 use Rattle.grgrid.proofs.Sizes.{sized-items}
 use Rattle.bzsearch.specs.Search.{Search, grid_coordinate, reduced, split_reduced}
-use Rattle.bzsearch.specs.declared.search.BzSearch.{BzSearch}
-use Rattle.bzsearch.specs.declared.search.Point.{Point}
-use Rattle.bzsearch.specs.SearchView.{search_of, Ready, point_split, PointFits}
+use Rattle.bzsearch.specs.declared.types.BzSearch.{BzSearch}
+use Rattle.bzsearch.specs.SearchView.{search_of}
 use Rattle.bzsearch.proofs.Sizes.{row_sized}
 
 -- a quotient of at most 1: x is (u - w) of u + w ≤ d, and y is d
@@ -104,15 +104,15 @@ pub address_below : (d : Vec ℕ) → GridFits d → (p : ℕ) → p < size d �
 unfolding address
 address_below d f p h k = rw (side-vector (λ k. pos (side (digits d p) k)) k) ((digits-within d (record { positive = f.positive }) p h).inside k)
 
-module _ (b : BzSearch) (r : Ready b) (p : ℕ) (h : p < size (search_of b).d) where
+module _ (b : BzSearch) (p : ℕ) (h : p < size (search_of b).d) where
   abbrev d : Vec ℕ
   d = (search_of b).d
 
   below : (k : Axis) → nat_abs (side (address d p) k) < side d k
-  below = address_below d (grid-fits b.d_diag r.grid) p h
+  below = address_below d (grid-fits b.d_diag b.diagonal) p h
 
   small : (k : Axis) → side d k ≤ 256
-  small = side-small b.d_diag r.grid
+  small = side-small b.d_diag b.diagonal
 
   pub point-address : Sized 256 (items (address d p))
   point-address = sized-items (address d p) (at X) (at Y) (at Z)
@@ -123,12 +123,11 @@ module _ (b : BzSearch) (r : Ready b) (p : ℕ) (h : p < size (search_of b).d) w
   point-nint : (j : Axis) → nat_abs (side (split_reduced (search_of b) (address d p)).nint j) ≤ 4096
   point-nint =
       nint-sized (search_of b) (address d p)
-      (λ k. coordinate-bounded (search_of b) (address d p) k (below k) (small k) (rw (side-vector (along b.ps) k) (r.shift.each (number k))))
-      (λ j k. rw (entry-matrix (λ j k. get_or b.q (0 * 9 + number j * 3 + number k) (pos 0)) j k) (r.entries.each (0 * 9 + number j * 3 + number k)))
+      (λ k. coordinate-bounded (search_of b) (address d p) k (below k) (small k) (rw (side-vector (along b.ps) k) (b.ps_sized.each (number k))))
+      (λ j k. rw (entry-matrix (λ j k. get_or b.q (0 * 9 + number j * 3 + number k) (pos 0)) j k) (b.q_sized.each (0 * 9 + number j * 3 + number k)))
 
-  pub point-fits : (q : Point) → q.index ≡ p → q.address ≡ items (address d p) → point_split q ≡ split_reduced (search_of b) (address d p) → length q.nint ≡ 3 → PointFits q
-  point-fits q e f g l = record {
-    address = rw f point-address;
-    nint = row_sized q.nint l (λ k. subst (λ s. nat_abs (side s.nint k) ≤ 4096) (sym g) (point-nint k));
-    index = rw e (lt_of_lt_of_le h (few-points b.d_diag r.grid));
-  }
+  pub point-nint-sized : (l : List ℤ) → length l ≡ 3 → vector_of l ≡ (split_reduced (search_of b) (address d p)).nint → Sized 4096 l
+  point-nint-sized l e g = row_sized l e (λ k. subst (λ (v : Vec ℤ). nat_abs (side v k) ≤ 4096) (sym g) (point-nint k))
+
+  pub point-index : p < 65536
+  point-index = lt_of_lt_of_le h (few-points b.d_diag b.diagonal)

@@ -42,9 +42,6 @@ module _ (d : List ℤ) (t : T (diagonal_fits d)) where
   side-whole Y = side-above (along d Y) (side-1 d t)
   side-whole Z = side-above (along d Z) (side-2 d t)
 
-pub sized-up : {j k : ℕ} {l : List ℤ} → j ≤ k → Sized j l → Sized k l
-sized-up h f = record { each = λ n. le_trans (f.each n) h }
-
 -- an array of three
 pub row_sized : {n : ℕ} (l : List ℤ) → length l ≡ 3 → ((k : Axis) → nat_abs (side (vector_of l) k) ≤ n) → Sized n l
 row_sized {n} l e h = record { each = at }

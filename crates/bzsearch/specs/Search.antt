@@ -1,5 +1,5 @@
 -- The images of a grid point: of the candidates in the Rust's range those under the least squared length found plus the tolerance. All fold to the point.
-use Rattle.std.specs.Prelude.{Bool, true, false, ◌&&◌, ◌||◌, ℕ, zero, suc, ◌+◌, ◌-◌, ltb, eqb, ℤ, pos, negsuc, nat_abs, ◌+ℤ◌, ◌*ℤ◌, ◌-ℤ◌, Float}
+use Rattle.std.specs.Prelude.{Bool, true, false, ◌&&◌, ◌||◌, ℕ, zero, suc, ◌+◌, ◌-◌, ltb, eqb, ℤ, pos, negsuc, ◌<◌, ◌≤◌, nat_abs, neg_ℤ, ◌+ℤ◌, ◌*ℤ◌, ◌-ℤ◌, Float}
 use mathlib.Core.List.{List, [], ◌∷◌, ◌++◌, foldl}
 use Rattle.std.specs.Int.Signed.{le_z, lt_z}
 use Rattle.std.specs.Float.{binary64}
@@ -75,6 +75,9 @@ unfoldable pub search_range : Search → Vec Float → Vec Span
 unfolding distance
 search_range s s0 = vector (λ k. span (side s0 k) (add binary64 (mul binary64 (radius s s0) (side s.dual k)) search_margin))
 
+abbrev pub within : ℤ → Span → Bool
+within most r = le_z (neg_ℤ most) r.lo && le_z r.hi most
+
 -- within -16..16
 abbrev pub span_fits : Span → Bool
 span_fits r = le_z (negsuc 15) r.lo && le_z r.hi (pos 16)
@@ -92,6 +95,11 @@ pub record Numbers : Type 0 where
 
 abbrev pub number_at : Numbers → ℕ → ℤ
 number_at x k = pick (ltb k x.low) (x.a +ℤ pos k) (x.b +ℤ pos (k - x.low))
+
+-- at most 33 numbers, each within -16..16
+pub record Room (x : Numbers) : Type 0 where
+  pub each : (k : ℕ) → k < x.n → nat_abs (number_at x k) ≤ 16
+  pub few : x.n ≤ 33
 
 abbrev pub max_z : ℤ → ℤ → ℤ
 max_z a b = pick (lt_z a b) b a

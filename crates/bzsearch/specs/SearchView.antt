@@ -1,18 +1,18 @@
 -- What the code's records stand for, and the sizes that it relies on.
-use Rattle.std.specs.Prelude.{List, ℕ, ◌+◌, ◌*◌, ◌≤◌, ◌<◌, T, ℤ, nat_abs, ◌*ℤ◌, get_or, Float}
+use Rattle.std.specs.Prelude.{List, [], ◌++◌, ℕ, ◌+◌, ◌*◌, ℤ, ◌*ℤ◌, get_or, Float, Option, Some, None, true, false}
 use Rattle.std.specs.Float.{nan}
 use Rattle.common.specs.Matrix.{next, Vec, Mat, vector, matrix, cross, dot, integers}
-use Rattle.common.specs.Array.{number, along, vector_of, sides_of, items, matrix_at, Sized}
+use Rattle.common.specs.Array.{number, along, vector_of, sides_of, items, matrix_at}
 use Rattle.common.specs.FloatMatrix.{floats, float_vector}
-use Rattle.common.specs.Limits.{diagonal_fits}
-use Rattle.bzsearch.specs.declared.search.BzSearch.{BzSearch}
-use Rattle.bzsearch.specs.declared.search.Split as code-split
-use Rattle.bzsearch.specs.declared.search.Span as code-span
-use Rattle.bzsearch.specs.declared.search.Range.{Range}
-use Rattle.bzsearch.specs.declared.candidates.Numbers as code-numbers
-use Rattle.bzsearch.specs.declared.candidates.Boxes.{Boxes}
-use Rattle.bzsearch.specs.declared.search.Point.{Point}
-use Rattle.bzsearch.specs.Search.{Search, Split, Span, Numbers, number_at}
+use Rattle.bzsearch.specs.declared.types.BzSearch.{BzSearch}
+use Rattle.bzsearch.specs.declared.types.Split as code-split
+use Rattle.bzsearch.specs.declared.types.Span as code-span
+use Rattle.bzsearch.specs.declared.types.Range.{Range}
+use Rattle.bzsearch.specs.declared.types.Numbers as code-numbers
+use Rattle.bzsearch.specs.declared.types.Axes.{Axes}
+use Rattle.bzsearch.specs.declared.types.Boxes.{Boxes}
+use Rattle.bzsearch.specs.declared.types.Point.{Point}
+use Rattle.bzsearch.specs.Search.{Search, Split, Span, Numbers, box}
 
 -- nine numbers by rows
 abbrev pub float_nine : List Float → Mat Float
@@ -29,13 +29,6 @@ search_of b = record {
   dual = float_vector b.dual_lengths;
 }
 
--- the limits of what a search was made from
-pub record Ready (b : BzSearch) : Type 0 where
-  pub grid : T (diagonal_fits b.d_diag)
-  pub shift : Sized 1 b.ps
-  pub entries : Sized 1000 b.q
-  pub inverse : Sized 2000000 b.q_inv
-
 abbrev pub split_view : code-split.Split → Split
 split_view p = record { s0 = float_vector p.s0; nint = vector_of p.nint }
 
@@ -49,33 +42,19 @@ range_view r = record { x = span_view r.x; y = span_view r.y; z = span_view r.z 
 abbrev pub numbers_view : code-numbers.Numbers → Numbers
 numbers_view x = record { a = x.a; low = x.low; b = x.b; n = x.n }
 
--- at most 33 numbers, each within -16..16
-pub record Room (x : Numbers) : Type 0 where
-  pub each : (k : ℕ) → k < x.n → nat_abs (number_at x k) ≤ 16
-  pub few : x.n ≤ 33
+abbrev pub axes_view : Axes → Vec Numbers
+axes_view b = record { x = numbers_view b.x; y = numbers_view b.y; z = numbers_view b.z }
 
-abbrev pub first_view : Boxes → Vec Numbers
-first_view b = record { x = numbers_view b.x; y = numbers_view b.y; z = numbers_view b.z }
+abbrev pub rest_of : Option Axes → List (Vec ℤ)
+rest_of None = []
+rest_of (Some b) = box true (axes_view b)
 
-abbrev pub whole_view : Boxes → Vec Numbers
-whole_view b = record { x = numbers_view b.u; y = numbers_view b.v; z = numbers_view b.w }
-
-pub record BoxesRoom (b : Boxes) : Type 0 where
-  pub x : Room (numbers_view b.x)
-  pub y : Room (numbers_view b.y)
-  pub z : Room (numbers_view b.z)
-  pub u : Room (numbers_view b.u)
-  pub v : Room (numbers_view b.v)
-  pub w : Room (numbers_view b.w)
+abbrev pub candidates_of : Boxes → List (Vec ℤ)
+candidates_of b = box false (axes_view b.first) ++ rest_of b.rest
 
 -- ---- a point
 abbrev pub point_split : Point → Split
 point_split p = record { s0 = float_vector p.s0; nint = vector_of p.nint }
-
-pub record PointFits (p : Point) : Type 0 where
-  pub address : Sized 256 p.address
-  pub nint : Sized 4096 p.nint
-  pub index : p.index < 65536
 
 -- ---- parts of the code's formulas
 -- a row of the inverse, from the two columns after its number

@@ -1,35 +1,13 @@
 // The candidates of a search, box by box, in the order of the Rust's `for_each_candidate`.
-ghost use Rattle.std.specs.Prelude.{◌≡◌, true, false, ◌&&◌, ◌||◌, [], ◌++◌, ◌<◌, ◌≤◌, T, pos, negsuc};
+ghost use Rattle.std.specs.Prelude.{◌≡◌, ◌&&◌, ◌||◌, ◌≤◌, ◌<◌, T, pos, negsuc, nat_abs, neg_ℤ};
 ghost use Rattle.std.specs.Int.Signed.{le_z};
-ghost use Rattle.integer.specs.Checked.{pick};
-ghost use Rattle.common.specs.Matrix.{X, Y};
-ghost use Rattle.common.specs.Array.{along, vector_of, items, Sized};
+ghost use Rattle.common.specs.Matrix.{side, all_axes};
+ghost use Rattle.common.specs.Array.{vector_of, Sized};
 ghost use Rattle.common.specs.FloatMatrix.{float_vector};
-ghost use Rattle.bzsearch.specs.Search.{number_at, count, upwards, from_zero, below_zero, fft_order, clipped, span_fits, range_fits, near, far, outside, chosen, line_at, plane_at, box, rows, first_box, whole_box, candidates, lower, least_of, bound};
-ghost use Rattle.bzsearch.specs.SearchView.{search_of, span_view, range_view, numbers_view, Room, first_view, whole_view, BoxesRoom};
+ghost use Rattle.bzsearch.specs.Search.{number_at, count, upwards, from_zero, below_zero, fft_order, first_box, whole_box, candidates, clipped, span_fits, within, range_fits, near, far, outside, chosen, box, lower, least_of, bound, Room};
+ghost use Rattle.bzsearch.specs.SearchView.{search_of, span_view, range_view, numbers_view, axes_view, candidates_of};
 
-use crate::search::{BzSearch, Range, Span};
-
-// Numbers along an axis: `low` of them from a, then from b on, n in all.
-#[derive(Clone, Copy)]
-pub struct Numbers {
-    pub a: i64,
-    pub low: usize,
-    pub b: i64,
-    pub n: usize,
-}
-
-// x, y, z of the first box, which is clipped, and u, v, w of the whole box; `near` if there is no rest.
-#[derive(Clone, Copy)]
-pub struct Boxes {
-    pub x: Numbers,
-    pub y: Numbers,
-    pub z: Numbers,
-    pub u: Numbers,
-    pub v: Numbers,
-    pub w: Numbers,
-    pub near: bool,
-}
+use crate::types::{Axes, Boxes, BzSearch, Numbers, Range, Span};
 
 fn count(lo: i64, hi: i64) -> usize
     requires fact_1 { T (le_z (negsuc 15) lo) }
@@ -46,8 +24,7 @@ fn count(lo: i64, hi: i64) -> usize
 // From lo to hi.
 fn upwards(s: Span) -> Numbers
     requires { T (span_fits (span_view s)) }
-    ensures result_value { numbers_view result ≡ upwards (span_view s) }
-    ensures room { Room (numbers_view result) }
+    ensures { numbers_view result ≡ upwards (span_view s) }
 {
     let n = count(s.lo, s.hi);
     Numbers {
@@ -61,42 +38,35 @@ fn upwards(s: Span) -> Numbers
 fn clipped(s: Span) -> Span
     ensures { span_view result ≡ clipped (span_view s) }
 {
-    let mut t = s;
-    if s.lo < -BzSearch::SEARCH_FIRST {
-        t.lo = -BzSearch::SEARCH_FIRST;
+    Span {
+        lo: s.lo.max(-BzSearch::SEARCH_FIRST),
+        hi: s.hi.min(BzSearch::SEARCH_FIRST),
     }
-    if BzSearch::SEARCH_FIRST < s.hi {
-        t.hi = BzSearch::SEARCH_FIRST;
-    }
-    t
 }
 
 // The numbers from 0 on, and those below 0.
 fn from_zero(s: Span) -> Span
     ensures { span_view result ≡ from_zero (span_view s) }
 {
-    let mut t = s;
-    if s.lo < 0 {
-        t.lo = 0;
+    Span {
+        lo: s.lo.max(0),
+        hi: s.hi,
     }
-    t
 }
 
 fn below_zero(s: Span) -> Span
     ensures { span_view result ≡ below_zero (span_view s) }
 {
-    let mut t = s;
-    if -1 < s.hi {
-        t.hi = -1;
+    Span {
+        lo: s.lo,
+        hi: s.hi.min(-1),
     }
-    t
 }
 
 // In the order of the frequencies of an FFT: the non-negative ones upwards, and then the negative ones upwards, e.g., 0, 1, 2, -2, -1.
 fn fft_order(s: Span) -> Numbers
     requires { T (span_fits (span_view s)) }
-    ensures result_value { numbers_view result ≡ fft_order (span_view s) }
-    ensures room { Room (numbers_view result) }
+    ensures { numbers_view result ≡ fft_order (span_view s) }
 {
     let p = from_zero(s);
     let q = below_zero(s);
@@ -109,92 +79,80 @@ fn fft_order(s: Span) -> Numbers
     }
 }
 
-fn span_fits(s: Span) -> bool
-    ensures { result ≡ span_fits (span_view s) }
+fn span_within(s: Span, most: i64) -> bool
+    requires { nat_abs most ≤ 16 }
+    ensures { result ≡ within most (span_view s) }
 {
-    -16 <= s.lo && s.hi <= 16
+    -most <= s.lo && s.hi <= most
+}
+
+// Within -most..most along each axis.
+fn is_within(r: Range, most: i64) -> bool
+    requires { nat_abs most ≤ 16 }
+    ensures { result ≡ all_axes (λ k. within most (side (range_view r) k)) }
+{
+    span_within(r.x, most) && span_within(r.y, most) && span_within(r.z, most)
 }
 
 pub fn range_fits(r: Range) -> bool
     ensures { result ≡ range_fits (range_view r) }
 {
-    let x = r.x;
-    let y = r.y;
-    let z = r.z;
-    common::all_three(span_fits(x), span_fits(y), span_fits(z))
+    is_within(r, 16)
 }
 
-fn span_near(s: Span) -> bool
-    ensures { result ≡ le_z (negsuc 1) s.lo && le_z s.hi (pos 2) }
-{
-    -BzSearch::SEARCH_FIRST <= s.lo && s.hi <= BzSearch::SEARCH_FIRST
-}
-
+// No candidate lies outside the first box.
 fn is_near(r: Range) -> bool
     ensures { result ≡ near (range_view r) }
 {
-    let x = r.x;
-    let y = r.y;
-    let z = r.z;
-    common::all_three(span_near(x), span_near(y), span_near(z))
+    is_within(r, BzSearch::SEARCH_FIRST)
 }
 
+fn first_box(r: Range) -> Axes
+    requires { T (range_fits (range_view r)) }
+    ensures { axes_view result ≡ first_box (range_view r) }
+{
+    Axes {
+        x: fft_order(clipped(r.x)),
+        y: fft_order(clipped(r.y)),
+        z: fft_order(clipped(r.z)),
+    }
+}
+
+fn whole_box(r: Range) -> Axes
+    requires { T (range_fits (range_view r)) }
+    ensures { axes_view result ≡ whole_box (range_view r) }
+{
+    Axes {
+        x: upwards(r.x),
+        y: upwards(r.y),
+        z: upwards(r.z),
+    }
+}
+
+#[tactic(auto, unfolding(crate::specs::Search::candidates))]
 pub fn boxes_of(r: Range) -> Boxes
     requires { T (range_fits (range_view r)) }
-    ensures result_value { first_view result ≡ first_box (range_view r) }
-    ensures result_value_2 { whole_view result ≡ whole_box (range_view r) }
-    ensures near_value { result.near ≡ near (range_view r) }
-    ensures boxes_room { BoxesRoom result }
+    ensures { candidates_of result ≡ candidates (range_view r) }
 {
-    let x = r.x;
-    let y = r.y;
-    let z = r.z;
+    let rest = if is_near(r) { None } else { Some(whole_box(r)) };
     Boxes {
-        x: fft_order(clipped(x)),
-        y: fft_order(clipped(y)),
-        z: fft_order(clipped(z)),
-        u: upwards(x),
-        v: upwards(y),
-        w: upwards(z),
-        near: is_near(r),
+        first: first_box(r),
+        rest: rest,
     }
 }
 
 impl Numbers {
     // The k-th number.
-    fn at(self, k: usize) -> i64
-        requires fact_1 { Room (numbers_view self) }
-        requires fact_2 { k < self.n }
-        ensures { result ≡ number_at (numbers_view self) k }
+    pub fn at(self, k: usize) -> i64
+        requires { k < self.n }
+        ensures value { result ≡ number_at (numbers_view self) k }
+        ensures small { nat_abs result ≤ 16 }
     {
         if k < self.low {
             self.a + k as i64
         } else {
             self.b + (k - self.low) as i64
         }
-    }
-
-    // Along each axis: a vector with the k-th number.
-    pub fn along_x(self, k: usize) -> [i64; 3]
-        requires { (Room (numbers_view self)) × (k < self.n) }
-        ensures { result ≡ items (record { x = number_at (numbers_view self) k; y = pos 0; z = pos 0 }) }
-    {
-        [self.at(k), 0, 0]
-    }
-
-    pub fn along_y(self, m: [i64; 3], k: usize) -> [i64; 3]
-        requires { (Room (numbers_view self)) × (k < self.n) }
-        ensures { result ≡ items (record { x = along m X; y = number_at (numbers_view self) k; z = pos 0 }) }
-    {
-        [m[0], self.at(k), 0]
-    }
-
-    pub fn along_z(self, m: [i64; 3], k: usize) -> [i64; 3]
-        requires fact_1 { Room (numbers_view self) }
-        requires fact_2 { k < self.n }
-        ensures { result ≡ items (record { x = along m X; y = along m Y; z = number_at (numbers_view self) k }) }
-    {
-        [m[0], m[1], self.at(k)]
     }
 }
 
@@ -205,16 +163,11 @@ fn is_far(m: i64) -> bool
 }
 
 // Some number lies outside -2..2.
+#[tactic(auto, unfolding(crate::specs::Search::outside))]
 pub fn is_outside(m: [i64; 3]) -> bool
     ensures { result ≡ outside (vector_of m) }
 {
-    if is_far(m[0]) {
-        return true;
-    }
-    if is_far(m[1]) {
-        return true;
-    }
-    is_far(m[2])
+    is_far(m[0]) || is_far(m[1]) || is_far(m[2])
 }
 
 impl BzSearch {
@@ -232,99 +185,38 @@ impl BzSearch {
         requires { Sized 16 m }
         ensures { result ≡ least_of (search_of self) (float_vector s0) least (chosen rest (vector_of m)) }
     {
-        if rest {
-            if !is_outside(m) {
-                return least;
-            }
+        if rest && !is_outside(m) {
+            return least;
         }
         self.lower(s0, m, least)
     }
 
-    fn least_line(self, s0: [f64; 3], m: [i64; 3], z: Numbers, rest: bool, from: f64) -> f64
-        requires fact_1 { Sized 16 m }
-        requires fact_2 { Room (numbers_view z) }
-        ensures { result ≡ least_of (search_of self) (float_vector s0) from (rows (line_at rest (numbers_view z) (along m X) (along m Y)) z.n) }
+    fn least_box(self, s0: [f64; 3], b: Axes, rest: bool, from: f64) -> f64
+        ensures { result ≡ least_of (search_of self) (float_vector s0) from (box rest (axes_view b)) }
     {
-        let n = z.n;
         let mut least = from;
-        let mut k = 0;
-        while k < n {
-            least = self.least_one(s0, z.along_z(m, k), rest, least);
-            k += 1;
+        for i in 0..b.x.n {
+            let x = b.x.at(i);
+            for j in 0..b.y.n {
+                let y = b.y.at(j);
+                for k in 0..b.z.n {
+                    least = self.least_one(s0, [x, y, b.z.at(k)], rest, least);
+                }
+            }
         }
         least
-    }
-
-    fn least_plane(
-        self,
-        s0: [f64; 3],
-        m: [i64; 3],
-        y: Numbers,
-        z: Numbers,
-        rest: bool,
-        from: f64,
-    ) -> f64
-        requires fact_1 { Sized 16 m }
-        requires fact_2 { Room (numbers_view y) }
-        requires fact_3 { Room (numbers_view z) }
-        ensures { result ≡ least_of (search_of self) (float_vector s0) from (rows (plane_at rest (numbers_view y) (numbers_view z) (along m X)) y.n) }
-    {
-        let n = y.n;
-        let mut least = from;
-        let mut k = 0;
-        while k < n {
-            least = self.least_line(s0, y.along_y(m, k), z, rest, least);
-            k += 1;
-        }
-        least
-    }
-
-    fn least_box(
-        self,
-        s0: [f64; 3],
-        x: Numbers,
-        y: Numbers,
-        z: Numbers,
-        rest: bool,
-        from: f64,
-    ) -> f64
-        requires fact_1 { Room (numbers_view x) }
-        requires fact_2 { Room (numbers_view y) }
-        requires fact_3 { Room (numbers_view z) }
-        ensures { result ≡ least_of (search_of self) (float_vector s0) from (box rest (record { x = numbers_view x; y = numbers_view y; z = numbers_view z })) }
-    {
-        let n = x.n;
-        let mut least = from;
-        let mut k = 0;
-        while k < n {
-            least = self.least_plane(s0, x.along_x(k), y, z, rest, least);
-            k += 1;
-        }
-        least
-    }
-
-    fn least_rest(self, s0: [f64; 3], b: Boxes, from: f64) -> f64
-        requires { BoxesRoom b }
-        ensures { result ≡ least_of (search_of self) (float_vector s0) from (pick b.near [] (box true (whole_view b))) }
-    {
-        if b.near {
-            return from;
-        }
-        let u = b.u;
-        let v = b.v;
-        let w = b.w;
-        self.least_box(s0, u, v, w, true, from)
     }
 
     // Under which the images lie: the least length of both boxes, plus the tolerance.
+    #[tactic(auto, unfolding(crate::specs::Search::bound))]
     pub fn bound(self, s0: [f64; 3], b: Boxes) -> f64
-        requires { BoxesRoom b }
-        ensures { result ≡ bound (search_of self) (float_vector s0) (box false (first_view b) ++ pick b.near [] (box true (whole_view b))) }
+        ensures { result ≡ bound (search_of self) (float_vector s0) (candidates_of b) }
     {
-        let x = b.x;
-        let y = b.y;
-        let z = b.z;
-        let first = self.least_box(s0, x, y, z, false, self.distance(s0, [0, 0, 0]));
-        self.least_rest(s0, b, first) + self.tolerance
+        let first = self.least_box(s0, b.first, false, self.distance(s0, [0, 0, 0]));
+        let least = match b.rest {
+            None => first,
+            Some(whole) => self.least_box(s0, whole, true, first),
+        };
+        least + self.tolerance
     }
 }

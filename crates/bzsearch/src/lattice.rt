@@ -9,7 +9,7 @@ ghost use Rattle.common.specs.FloatMatrix.{float_vector, float_matrix};
 ghost use Rattle.common.specs.Limits.{diagonal_fits};
 ghost use Rattle.bzsearch.specs.Lattice.{lattice_fits, squares_from0, larger, bz_tolerance, cross_d, norm, dual_lengths_of, singular};
 
-use crate::search::BzSearch;
+use crate::types::BzSearch;
 
 fn squares_from_0(x: f64, y: f64, z: f64) -> f64
     ensures { result ≡ squares_from0 x y z }
@@ -22,7 +22,7 @@ fn step_squared(x: f64, y: f64, z: f64, d: i64) -> f64
     requires { nat_abs d ≤ 256 }
     ensures { result ≡ div binary64 (squares_from0 x y z) (of_int binary64 (pos (nat_abs d * nat_abs d))) }
 {
-    squares_from_0(x, y, z) / float::to_f64(d * d)
+    squares_from_0(x, y, z) / (d * d) as f64
 }
 
 fn larger(most: f64, x: f64) -> f64
@@ -85,10 +85,7 @@ pub fn is_singular(m: [[f64; 3]; 3]) -> bool
     ensures { result ≡ singular (float_matrix m) }
 {
     let det = float_matrix::det_d(m);
-    if det == 0.0 {
-        return true;
-    }
-    !float::is_finite(det)
+    det == 0.0 || !float::is_finite(det)
 }
 
 fn entry_fits(x: f64) -> bool
@@ -100,14 +97,11 @@ fn entry_fits(x: f64) -> bool
 fn row_fits(a: [f64; 3]) -> bool
     ensures { result ≡ all_axes (λ k. le (abs_of (side (float_vector a) k)) (of_int binary64 (pos 1000000))) }
 {
-    common::all_three(entry_fits(a[0]), entry_fits(a[1]), entry_fits(a[2]))
+    entry_fits(a[0]) && entry_fits(a[1]) && entry_fits(a[2])
 }
 
 pub fn lattice_fits(m: [[f64; 3]; 3]) -> bool
     ensures { result ≡ lattice_fits (float_matrix m) }
 {
-    let x = m[0];
-    let y = m[1];
-    let z = m[2];
-    common::all_three(row_fits(x), row_fits(y), row_fits(z))
+    row_fits(m[0]) && row_fits(m[1]) && row_fits(m[2])
 }

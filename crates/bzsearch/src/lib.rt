@@ -4,6 +4,8 @@
 pub mod candidates;
 mod lattice;
 mod search;
+mod types;
 
 pub use lattice::{bz_tolerance, is_singular, lattice_fits};
-pub use search::{BzSearch, Point, Range, Span, Split, flat_d, is_unimodular, length_squared};
+pub use search::{flat_d, is_unimodular, length_squared};
+pub use types::{Axes, Boxes, BzSearch, Numbers, Point, Range, Span, Split};

@@ -8,9 +8,10 @@ ghost use Rattle.common.specs.FloatMatrix.{floats, float_vector, float_matrix};
 ghost use Rattle.common.specs.Limits.{diagonal_fits, matrix_within, shift_fits};
 ghost use Rattle.bzsearch.specs.Search.{new_search, grid_coordinate, split_of, split_reduced, moved, length_squared, distance, span, search_range, set_bz_address, unimodular};
 ghost use Rattle.grgrid.specs.Grid.{size, address};
-ghost use Rattle.bzsearch.specs.SearchView.{point_split, PointFits, float_nine, search_of, Ready, split_view, range_view, span_view, inverse_row, row_times};
+ghost use Rattle.bzsearch.specs.SearchView.{point_split, float_nine, search_of, split_view, range_view, span_view, inverse_row, row_times};
 
 use crate::lattice;
+use crate::types::{BzSearch, Point, Range, Span, Split};
 
 // A cofactor times the determinant, which is 1 or -1: the same as over it.
 fn cofactor_over(a: i64, b: i64, c: i64, d: i64, det: i64) -> i64
@@ -38,7 +39,7 @@ pub fn is_unimodular(q: [[i64; 3]; 3]) -> bool
     requires { T (matrix_within 1000 (matrix_of q)) }
     ensures { result ≡ unimodular (matrix_of q) }
 {
-    integer::unsigned_abs(integer_matrix::det_i(q)) == 1
+    integer_matrix::det_i(q).unsigned_abs() == 1
 }
 
 // Of a determinant of 1 or -1.
@@ -57,27 +58,6 @@ fn inverse_unimodular(q: [[i64; 3]; 3]) -> [[i64; 3]; 3]
         inverse_row(z, x, det),
         inverse_row(x, y, det),
     ]
-}
-
-// Reduced coordinates: what is left of each, and its nearest whole number.
-#[derive(Clone, Copy)]
-pub struct Split {
-    pub s0: [f64; 3],
-    pub nint: [i64; 3],
-}
-
-#[derive(Clone, Copy)]
-pub struct Span {
-    pub lo: i64,
-    pub hi: i64,
-}
-
-// `lo <= m <= hi` along each axis.
-#[derive(Clone, Copy)]
-pub struct Range {
-    pub x: Span,
-    pub y: Span,
-    pub z: Span,
 }
 
 fn coordinate(a: f64, d: f64) -> f64
@@ -131,10 +111,8 @@ pub fn length_squared(l: [f64; 9], v: [f64; 3]) -> f64
 pub fn flat_d(m: [[f64; 3]; 3]) -> [f64; 9]
     ensures { result ≡ entries (float_matrix m) [] }
 {
-    let x = m[0];
-    let y = m[1];
-    let z = m[2];
-    [x[0], x[1], x[2], y[0], y[1], y[2], z[0], z[1], z[2]]
+    let [[a, b, c], [d, e, f], [g, h, i]] = m;
+    [a, b, c, d, e, f, g, h, i]
 }
 
 fn difference(m: [i64; 3], n: [i64; 3]) -> [i64; 3]
@@ -161,27 +139,6 @@ fn span_of(s0: f64, half_width: f64) -> Span
     Span { lo: lo, hi: hi }
 }
 
-// A point: what is left of its reduced coordinates and their whole part, its address and its index.
-#[derive(Clone, Copy)]
-pub struct Point {
-    pub s0: [f64; 3],
-    pub nint: [i64; 3],
-    pub address: [i64; 3],
-    pub index: usize,
-}
-
-// Parameters of the search for the BZ images of GR-grid points.
-#[derive(Clone, Copy)]
-pub struct BzSearch {
-    pub d_diag: [i64; 3],
-    pub ps: [i64; 3],
-    pub q: [i64; 9],
-    pub q_inv: [i64; 9],
-    pub rec_lattice: [f64; 9],
-    pub tolerance: f64,
-    pub dual_lengths: [f64; 3],
-}
-
 impl BzSearch {
     // The tolerance over the largest of column length squared over d squared.
     pub const TOLERANCE_FACTOR: f64 = 0.01;
@@ -200,8 +157,7 @@ impl BzSearch {
         requires fact_2 { T (matrix_within 1000 (matrix_of q)) }
         requires fact_3 { T (unimodular (matrix_of q)) }
         requires fact_4 { T (shift_fits ps) }
-        ensures ready { Ready result }
-        ensures result_value { search_of result ≡ new_search (sides_of d_diag) (vector_of ps) (matrix_of q) (float_matrix rec_lattice) }
+        ensures { search_of result ≡ new_search (sides_of d_diag) (vector_of ps) (matrix_of q) (float_matrix rec_lattice) }
     {
         let inverse = integer_matrix::flat(inverse_unimodular(q));
         let flat_q = integer_matrix::flat(q);
@@ -221,8 +177,7 @@ impl BzSearch {
 
     // The coordinates of an address along the grid's axes.
     fn grid_coordinates(self, address: [i64; 3]) -> [f64; 3]
-        requires fact_1 { Sized 256 address }
-        requires fact_2 { Ready self }
+        requires { Sized 256 address }
         ensures { result ≡ items (vector (grid_coordinate (search_of self) (vector_of address))) }
     {
         let ps = self.ps;
@@ -237,9 +192,9 @@ impl BzSearch {
     }
 
     // Split the reduced coordinates of an address into what is left, at most 1/2 in size, and a whole vector.
+    #[tactic(auto, unfolding(crate::specs::Search::split_reduced, crate::specs::Search::reduced))]
     pub fn split_reduced_coordinates(self, address: [i64; 3]) -> Split
-        requires fact_1 { Sized 256 address }
-        requires fact_2 { Ready self }
+        requires { Sized 256 address }
         ensures { split_view result ≡ split_reduced (search_of self) (vector_of address) }
     {
         let q = self.q;
@@ -250,6 +205,7 @@ impl BzSearch {
     }
 
     // Squared length of `rec_lattice (s0 + m)`.
+    #[tactic(auto, unfolding(crate::specs::Search::distance))]
     pub fn distance(self, s0: [f64; 3], m: [i64; 3]) -> f64
         requires { Sized 16 m }
         ensures { result ≡ distance (search_of self) (float_vector s0) (vector_of m) }
@@ -259,6 +215,7 @@ impl BzSearch {
     }
 
     // The Rust's range: in f64 it may miss a candidate that would be kept.
+    #[tactic(auto, unfolding(crate::specs::Search::search_range, crate::specs::Search::distance))]
     pub fn search_range(self, s0: [f64; 3]) -> Range
         ensures { range_view result ≡ search_range (search_of self) (float_vector s0) }
     {
@@ -275,7 +232,6 @@ impl BzSearch {
         requires fact_1 { Sized 16 m }
         requires fact_2 { Sized 256 address }
         requires fact_3 { Sized 4096 nint }
-        requires fact_4 { Ready self }
         ensures { result ≡ items (set_bz_address (search_of self) (vector_of address) (vector_of nint) (vector_of m)) }
     {
         let q_inv = self.q_inv;
@@ -289,12 +245,10 @@ impl BzSearch {
     }
 
     pub fn point(self, i: usize) -> Point
-        requires fact_1 { Ready self }
-        requires fact_2 { i < size (search_of self).d }
+        requires { i < size (search_of self).d }
         ensures index_value { result.index ≡ i }
         ensures address_value { result.address ≡ items (address (search_of self).d i) }
         ensures result_value { point_split result ≡ split_reduced (search_of self) (address (search_of self).d i) }
-        ensures point_fits { PointFits result }
     {
         let d = self.d_diag;
         let address = grgrid::grid_address_from_index(i, grgrid::grid_of(d));

@@ -1,0 +1,14 @@
+use Rattle.std.proofs.Common.{ℕ, ℤ, pos, ◌-ℤ◌, ◌≡◌, List, [], ◌∷◌, get_or}
+use Rattle.integer.proofs.Plain.{plain, plain-is}
+use Rattle.integer.proofs.Fits.{held}
+use Rattle.common.proofs.Bounds.{p-sized}
+use Rattle.common.specs.Array.{Sized}
+use Rattle.bzsearch.proofs.search.difference.Goals as goal
+
+exact : {m n : List ℤ} → Sized 16 m → Sized 4096 n → (k : ℕ) → held (held (get_or m k (pos 0)) -ℤ held (get_or n k (pos 0))) ≡ get_or m k (pos 0) -ℤ get_or n k (pos 0)
+exact f g k = plain-is (search (plain, p-sized) depth 12) tt
+
+pub returns : goal.returns
+returns c =
+    let at = exact c.requires.fact_1 c.requires.fact_2 in
+    λ i. at 0 i ∷ at 1 i ∷ at 2 i ∷ []

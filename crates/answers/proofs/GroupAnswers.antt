@@ -11,13 +11,14 @@ use mir.Syntax.{w64}
 use mir.Val.{SFits}
 use borrow.Author.Tests.{ne_eqb}
 use Rattle.std.specs.Prelude.{Result, Ok, Err}
+use Rattle.common.specs.Tested.{answer_of}
 use Rattle.integer.specs.Checked.{pick}
 use Rattle.integer.proofs.Fits.{held, held-is}
 use Rattle.common.specs.declared.Refusal.{Refusal}
 use Rattle.common.specs.declared.Refusal.TheVariants.{WrongLength}
 use Rattle.common.specs.Refusal.{number_of}
 use Rattle.recip_rotations.specs.PointGroup.{count_of}
-use Rattle.answers.specs.PointGroupTold.{group_number, group_told, PointGroupTold}
+use Rattle.answers.specs.PointGroupTold.{group_told, PointGroupTold}
 use Rattle.common.proofs.Stored.{stored}
 
 -- the count fits a place
@@ -42,7 +43,7 @@ module _ (g : Result ℕ Refusal) (l : List ℤ) (n : ℕ) (b : List ℤ) where
 pub group-passed-on : {g h : Result ℕ Refusal} {l m out told : List ℤ} {i n k : ℕ} {r : ℤ} → mag r < 0x8000000000000000 → g ≡ h → l ≡ m → i ≡ n
     → PointGroupTold g l i k r out told → PointGroupTold h m n k (held r) out told
 group-passed-on {k = k} {r = r} f e p q t = record {
-  answer = held-is r f ∙ t.answer ∙ ap (λ g. pick (eqb k 1) (group_number g) (pos (number_of WrongLength))) e;
+  answer = held-is r f ∙ t.answer ∙ ap (λ g. pick (eqb k 1) (answer_of g) (pos (number_of WrongLength))) e;
   written = t.written ∙ ap₂ (λ l n. pick (eqb k 1) l (replicate n (negsuc 0))) p q;
   value = t.value ∙ ap (λ g. pick (eqb k 1) (group_told g) (replicate k (negsuc 0))) e;
 }

@@ -14,7 +14,7 @@ use mir.Val.{to_z}
 use mir.Facts.{to_z_pos}
 use Rattle.std.specs.Prelude.{Result}
 use Rattle.common.specs.declared.Refusal.{Refusal}
-use Rattle.common.specs.Tested.{Tested}
+use Rattle.common.specs.Tested.{Tested, answer_of}
 use Rattle.integer.proofs.Test.{and_l, and_r}
 use Rattle.common.specs.declared.Refusal.TheVariants.{WrongLength}
 use Rattle.common.specs.Refusal.{number_of}
@@ -26,7 +26,7 @@ use Rattle.bzgrid.specs.BzGridAddresses.{has_room, input_tests, bz_answer, addre
 use Rattle.bztable.specs.Rotate.{rotate_tests, rotate_read, rotate_answer}
 use Rattle.bztable.specs.Neighbours.{input_tests as neighbour_input, neighbours_read, neighbour_tests, neighbours_answer, neighbours_written}
 use Rattle.bztable.proofs.AcceptedCall.{call-accepted}
-use Rattle.answers.specs.Images.{image_lengths, images_number, images_told, Held, LengthsFit, BzGridAddressesTold, rotate_lengths, rotated_number, rotated_told, RotateTold, neighbours_number, NeighboursTold}
+use Rattle.answers.specs.Images.{image_lengths, images_told, Held, LengthsFit, BzGridAddressesTold, rotate_lengths, rotated_number, rotated_told, RotateTold, NeighboursTold}
 use Rattle.answers.proofs.Lengths.{taken, left, both, three-lengths}
 
 abbrev unwritten : ℕ → List ℤ
@@ -81,7 +81,7 @@ module _ (d q ps : List ℤ) (lattice : List Float) (t : ℤ) (na nm ng nt : ℕ
     pub images-unsized : image_lengths (length d) (length q) (length ps) (length lattice) nt ≡ false → r ≡ pos (number_of WrongLength)
         → addresses ≡ unwritten na → map ≡ unwritten nm → grg ≡ unwritten ng → told ≡ unwritten nt → BzGridAddressesTold d q ps lattice t na nm ng nt r addresses map grg told
     images-unsized e er ea em eg et = record {
-      answer = er ∙ left (images_number a) (pos (number_of WrongLength)) e;
+      answer = er ∙ left (answer_of a) (pos (number_of WrongLength)) e;
       written = ea ∙ left written (unwritten na) e;
       mapped = em ∙ left mapped (unwritten nm) e;
       points = eg ∙ left points (unwritten ng) e;
@@ -92,10 +92,10 @@ module _ (d q ps : List ℤ) (lattice : List Float) (t : ℤ) (na nm ng nt : ℕ
     pub images-passed : image_lengths (length d) (length q) (length ps) (length lattice) nt ≡ true
         → {u v : List ℤ} {m : List (List ℤ)} {f : List (List Float)} {z : ℤ} {b : Result Lengths Refusal} → z ≡ t → u ≡ row_at d 0 → m ≡ rows (matrix_at q 0) → v ≡ row_at ps 0 → f ≡ rows (float_nine lattice)
         → b ≡ bz_answer u m v f z na nm ng → addresses ≡ addresses_written u m v f z na nm ng → map ≡ map_written u m v f z na nm ng → grg ≡ grg_written u m v f z na nm ng
-        → r ≡ images_number b → told ≡ images_told b → BzGridAddressesTold d q ps lattice t na nm ng nt r addresses map grg told
+        → r ≡ answer_of b → told ≡ images_told b → BzGridAddressesTold d q ps lattice t na nm ng nt r addresses map grg told
     unfolding input_tests bz_answer addresses_written map_written grg_written
     images-passed e {u} {v} {m} {f} {z} {b} ez eu em ev ef eb ea ep eg er et = record {
-      answer = er ∙ ap images_number same ∙ taken (images_number a) (pos (number_of WrongLength)) e;
+      answer = er ∙ ap answer_of same ∙ taken (answer_of a) (pos (number_of WrongLength)) e;
       written = ea ∙ over (λ z u m v f. addresses_written u m v f z na nm ng) ∙ taken written (unwritten na) e;
       mapped = ep ∙ over (λ z u m v f. map_written u m v f z na nm ng) ∙ taken mapped (unwritten nm) e;
       points = eg ∙ over (λ z u m v f. grg_written u m v f z na nm ng) ∙ taken points (unwritten ng) e;
@@ -146,14 +146,14 @@ module _ (points offsets addresses map d : List ℤ) (t : ℤ) (n : ℕ) where
   module _ {r : ℤ} {out : List ℤ} where
     pub neighbours-unsized : (length d ≡ 3 → ⊥) → r ≡ pos (number_of WrongLength) → out ≡ unwritten n → NeighboursTold points offsets addresses map d t n r out
     neighbours-unsized h er eo = let e = ne_eqb (length d) 3 h in record {
-      answer = er ∙ left (neighbours_number found) (pos (number_of WrongLength)) e;
+      answer = er ∙ left (answer_of found) (pos (number_of WrongLength)) e;
       written = eo ∙ left listed (unwritten n) e;
     }
 
     pub neighbours-passed : length d ≡ 3 → {u : List ℤ} {z : ℤ} {b : Tested} → z ≡ t → u ≡ row_at d 0 → b ≡ neighbours_answer points offsets addresses map u z n → out ≡ neighbours_written points offsets addresses map u z n
-        → r ≡ neighbours_number b → NeighboursTold points offsets addresses map d t n r out
+        → r ≡ answer_of b → NeighboursTold points offsets addresses map d t n r out
     unfolding neighbour_input neighbours_read neighbour_tests neighbours_answer neighbours_written
     neighbours-passed h ez eu eb eo er = let e = eq-eqb (length d) 3 h in record {
-      answer = er ∙ ap neighbours_number (eb ∙ ap₂ (λ u z. neighbours_answer points offsets addresses map u z n) eu ez) ∙ taken (neighbours_number found) (pos (number_of WrongLength)) e;
+      answer = er ∙ ap answer_of (eb ∙ ap₂ (λ u z. neighbours_answer points offsets addresses map u z n) eu ez) ∙ taken (answer_of found) (pos (number_of WrongLength)) e;
       written = eo ∙ ap₂ (λ u z. neighbours_written points offsets addresses map u z n) eu ez ∙ taken listed (unwritten n) e;
     }

@@ -7,12 +7,12 @@ use lib.Dec.{eqb}
 use lib.IntN.{ℤ, pos, negsuc}
 use lib.ListN.{length, replicate}
 use borrow.Author.Tests.{eqb-true}
-use Rattle.common.specs.Tested.{Tested}
+use Rattle.common.specs.Tested.{Tested, answer_of}
 use Rattle.common.specs.declared.Refusal.TheVariants.{WrongLength}
 use Rattle.common.specs.Refusal.{number_of}
 use Rattle.common.specs.Array.{row_at, rows, matrix_at}
 use Rattle.transform_rotations.specs.TransformRotations.{transform_answer, transform_written}
-use Rattle.answers.specs.Transforms.{transformed_number, transform_lengths, TransformRotationsTold}
+use Rattle.answers.specs.Transforms.{transform_lengths, TransformRotationsTold}
 use Rattle.answers.proofs.Lengths.{taken, left, both}
 
 pub lengths : (d q : ℕ) → transform_lengths d q ≡ true → (d ≡ 3) × (q ≡ 9)
@@ -30,15 +30,15 @@ module _ (rotations d q : List ℤ) (n : ℕ) where
   module _ {r : ℤ} {out : List ℤ} where
     pub transform-unsized : transform_lengths (length d) (length q) ≡ false → r ≡ pos (number_of WrongLength) → out ≡ replicate n (negsuc 0) → TransformRotationsTold rotations d q n r out
     transform-unsized e a b = record {
-      answer = a ∙ left (transformed_number answer) (pos (number_of WrongLength)) e;
+      answer = a ∙ left (answer_of answer) (pos (number_of WrongLength)) e;
       written = b ∙ left result (replicate n (negsuc 0)) e;
     }
 
     -- the library's call has the three numbers of d and the rows of Q
     pub transform-passed : transform_lengths (length d) (length q) ≡ true → {u : List ℤ} {m : List (List ℤ)} → u ≡ row_at d 0 → m ≡ rows (matrix_at q 0)
-        → {a : Tested} → a ≡ transform_answer rotations u m n → out ≡ transform_written rotations u m n → r ≡ transformed_number a → TransformRotationsTold rotations d q n r out
+        → {a : Tested} → a ≡ transform_answer rotations u m n → out ≡ transform_written rotations u m n → r ≡ answer_of a → TransformRotationsTold rotations d q n r out
     unfolding transform_answer transform_written
     transform-passed e eu em ea eo b = record {
-      answer = b ∙ ap transformed_number (ea ∙ ap₂ (λ u m. transform_answer rotations u m n) eu em) ∙ taken (transformed_number answer) (pos (number_of WrongLength)) e;
+      answer = b ∙ ap answer_of (ea ∙ ap₂ (λ u m. transform_answer rotations u m n) eu em) ∙ taken (answer_of answer) (pos (number_of WrongLength)) e;
       written = eo ∙ ap₂ (λ u m. transform_written rotations u m n) eu em ∙ taken result (replicate n (negsuc 0)) e;
     }

@@ -1,7 +1,7 @@
 -- What the exports of bzgrid answer and leave in their outputs.
 use Rattle.std.specs.Prelude.{◌≡◌, Bool, ◌&&◌, List, [], ◌∷◌, ℕ, ◌<◌, eqb, ℤ, pos, negsuc, Float, length, replicate, Result, Ok, Err}
 use Rattle.common.specs.declared.Refusal.{Refusal}
-use Rattle.common.specs.Tested.{Tested}
+use Rattle.common.specs.Tested.{Tested, answer_of, told_of}
 use Rattle.integer.specs.Checked.{pick}
 use Rattle.common.specs.declared.Refusal.TheVariants.{WrongLength}
 use Rattle.common.specs.Refusal.{number_of}
@@ -15,14 +15,9 @@ use Rattle.bztable.specs.Rotate.{rotate_answer}
 use Rattle.bztable.specs.Neighbours.{neighbours_answer, neighbours_written}
 
 -- ---- image tables
-abbrev pub images_number : Result Lengths Refusal → ℤ
-images_number (Ok l) = pos 0
-images_number (Err r) = pos (number_of r)
-
 -- the three lengths, in the places of `told`
 abbrev pub images_told : Result Lengths Refusal → List ℤ
-images_told (Ok l) = pos l.addresses ∷ pos l.map ∷ pos l.grg ∷ []
-images_told (Err r) = negsuc 0 ∷ negsuc 0 ∷ negsuc 0 ∷ []
+images_told = told_of (λ l. pos l.addresses ∷ pos l.map ∷ pos l.grg ∷ []) 3
 
 -- they are lengths of slices
 pub record Held (l : Lengths) : Type 0 where
@@ -39,7 +34,7 @@ image_lengths d q ps lattice told = eqb d 3 && ((eqb q 9 && (eqb ps 3 && eqb lat
 
 -- the answer r and the outputs, which had na, nm, ng and nt places
 pub record BzGridAddressesTold (d q ps : List ℤ) (lattice : List Float) (t : ℤ) (na nm ng nt : ℕ) (r : ℤ) (addresses map grg told : List ℤ) : Type 0 where
-  pub answer : r ≡ pick (image_lengths (length d) (length q) (length ps) (length lattice) nt) (images_number (bz_answer d (rows (matrix_at q 0)) ps (rows (float_nine lattice)) t na nm ng)) (pos (number_of WrongLength))
+  pub answer : r ≡ pick (image_lengths (length d) (length q) (length ps) (length lattice) nt) (answer_of (bz_answer d (rows (matrix_at q 0)) ps (rows (float_nine lattice)) t na nm ng)) (pos (number_of WrongLength))
   pub written : addresses ≡ pick (image_lengths (length d) (length q) (length ps) (length lattice) nt) (addresses_written d (rows (matrix_at q 0)) ps (rows (float_nine lattice)) t na nm ng) (replicate na (negsuc 0))
   pub mapped : map ≡ pick (image_lengths (length d) (length q) (length ps) (length lattice) nt) (map_written d (rows (matrix_at q 0)) ps (rows (float_nine lattice)) t na nm ng) (replicate nm (negsuc 0))
   pub points : grg ≡ pick (image_lengths (length d) (length q) (length ps) (length lattice) nt) (grg_written d (rows (matrix_at q 0)) ps (rows (float_nine lattice)) t na nm ng) (replicate ng (negsuc 0))
@@ -67,11 +62,7 @@ pub record RotateTold (index : ℤ) (rotation addresses map d ps : List ℤ) (t 
   pub value : told ≡ pick (rotate_lengths (length rotation) (length d) (length ps) n) (rotated_told (rotate_answer index (rows (matrix_at rotation 0)) addresses map d ps t)) (replicate n (negsuc 0))
 
 -- ---- neighbours
-abbrev pub neighbours_number : Tested → ℤ
-neighbours_number (Ok _) = pos 0
-neighbours_number (Err r) = pos (number_of r)
-
 -- the answer r and the output, which had n places
 pub record NeighboursTold (points offsets addresses map d : List ℤ) (t : ℤ) (n : ℕ) (r : ℤ) (out : List ℤ) : Type 0 where
-  pub answer : r ≡ pick (eqb (length d) 3) (neighbours_number (neighbours_answer points offsets addresses map d t n)) (pos (number_of WrongLength))
+  pub answer : r ≡ pick (eqb (length d) 3) (answer_of (neighbours_answer points offsets addresses map d t n)) (pos (number_of WrongLength))
   pub written : out ≡ pick (eqb (length d) 3) (neighbours_written points offsets addresses map d t n) (replicate n (negsuc 0))

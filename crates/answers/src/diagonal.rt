@@ -3,46 +3,26 @@ ghost use Rattle.std.specs.Prelude.{◌≡◌, [], ◌∷◌, length};
 ghost use Rattle.common.specs.Tested.{answer_of};
 ghost use Rattle.answers.specs.Diagonals.{result_lengths, diagonal_lengths, smith_lengths};
 
-use common::Refusal;
+use crate::number;
 use smith3x3::Smith;
 use snf3x3::Snf;
 
 fn result_lengths(d: usize, p: usize, q: usize) -> bool
     ensures { result ≡ result_lengths d p q }
 {
-    common::all_three(d == 3, p == 9, q == 9)
+    d == 3 && p == 9 && q == 9
 }
 
 pub fn diagonal_lengths(a: usize, d: usize, p: usize, q: usize, told: usize) -> bool
     ensures { result ≡ diagonal_lengths a d p q told }
 {
-    common::all_three(a == 9, result_lengths(d, p, q), told == 1)
+    a == 9 && result_lengths(d, p, q) && told == 1
 }
 
 pub fn smith_lengths(a: usize, d: usize, p: usize, q: usize) -> bool
     ensures { result ≡ smith_lengths a d p q }
 {
     a == 9 && result_lengths(d, p, q)
-}
-
-pub fn outcome_number(t: Result<(), Refusal>) -> i64
-    ensures { result ≡ answer_of t }
-{
-    match t {
-        Ok(()) => 0,
-        Err(r) => r.answer(),
-    }
-}
-
-pub fn copy(from: &[i64], out: &mut [i64])
-    requires { length from.now ≡ length out.old }
-    ensures { out.new ≡ from.now }
-{
-    let mut i = 0;
-    while i < from.len() {
-        out[i] = from[i];
-        i += 1;
-    }
 }
 
 fn copy_three(
@@ -58,9 +38,9 @@ fn copy_three(
     ensures p_after { p.new ≡ left }
     ensures q_after { q.new ≡ right }
 {
-    copy(&diagonal, d);
-    copy(&left, p);
-    copy(&right, q);
+    d.copy_from_slice(&diagonal);
+    p.copy_from_slice(&left);
+    q.copy_from_slice(&right);
 }
 
 pub fn tell_diagonal(s: Snf, d: &mut [i64], p: &mut [i64], q: &mut [i64], told: &mut [i64]) -> i64
@@ -78,7 +58,7 @@ pub fn tell_diagonal(s: Snf, d: &mut [i64], p: &mut [i64], q: &mut [i64], told: 
     let rounds = s.rounds;
     told[0] = rounds;
     let t = s.tested;
-    outcome_number(t)
+    number(t)
 }
 
 pub fn tell_smith(s: Smith, d: &mut [i64], p: &mut [i64], q: &mut [i64]) -> i64
@@ -93,5 +73,5 @@ pub fn tell_smith(s: Smith, d: &mut [i64], p: &mut [i64], q: &mut [i64]) -> i64
     let right = s.q;
     copy_three(diagonal, left, right, d, p, q);
     let t = s.tested;
-    outcome_number(t)
+    number(t)
 }

@@ -3,7 +3,7 @@ ghost use Rattle.std.specs.Prelude.{◌≡◌, pos, length};
 ghost use Rattle.common.specs.Tested.{answer_of};
 ghost use Rattle.answers.specs.Forms.{form_lengths, order_told, same_number, same_told};
 
-use crate::diagonal;
+use crate::number;
 use hermite3x3::{Hermite, Order, SameGrid};
 
 pub fn form_lengths(a: usize, h: usize) -> bool
@@ -18,9 +18,9 @@ pub fn tell_form(s: Hermite, h: &mut [i64]) -> i64
     ensures h_after { h.new ≡ s.h }
 {
     let form = s.h;
-    diagonal::copy(&form, h);
+    h.copy_from_slice(&form);
     let t = s.tested;
-    diagonal::outcome_number(t)
+    number(t)
 }
 
 pub fn tell_order(answer: Order, told: &mut [i64]) -> i64

@@ -15,6 +15,7 @@ mod weights;
 ghost use Rattle.std.specs.Prelude.{◌≡◌, pos, negsuc, length, replicate};
 ghost use Rattle.common.specs.declared.Refusal.TheVariants.{WrongLength};
 ghost use Rattle.common.specs.Refusal.{number_of};
+ghost use Rattle.common.specs.Tested.{answer_of, told_of};
 
 use common::Refusal;
 pub use diagonal::{diagonal_lengths, smith_lengths, tell_diagonal, tell_smith};
@@ -25,10 +26,36 @@ pub use marks::{mark_lengths, ranges_at};
 pub use pair::tell_pair;
 pub use recip::tell_group;
 pub use transform::transform_lengths;
-pub use triplets::{
-    refuse_triplets, tell_triplet_classes, triplet_class_lengths, triplet_lengths, triplets_number,
-};
+pub use triplets::{refuse_triplets, triplet_class_lengths, triplet_lengths};
 pub use weights::{tell_weights, weight_lengths};
+
+// 0, or the number of the refusal.
+pub fn number(answer: Result<(), Refusal>) -> i64
+    ensures { result ≡ answer_of answer }
+{
+    match answer {
+        Ok(()) => 0,
+        Err(r) => r.answer(),
+    }
+}
+
+// What is told beside: the numbers of an accepted call, or -1 in every place.
+fn tell<const N: usize>(answer: Result<[i64; N], Refusal>, told: &mut [i64]) -> i64
+    requires { length told.old ≡ N }
+    ensures value { result ≡ answer_of answer.entry }
+    ensures told_after { told.new ≡ told_of (λ a. a) N answer.entry }
+{
+    match answer {
+        Ok(a) => {
+            told.copy_from_slice(&a);
+            0
+        }
+        Err(r) => {
+            told.fill(-1);
+            r.answer()
+        }
+    }
+}
 
 // Slices of other lengths: -1 in every place of the outputs.
 pub fn refuse_three(a: &mut [i64], b: &mut [i64], c: &mut [i64]) -> i64

@@ -3,6 +3,7 @@ ghost use Rattle.std.specs.Prelude.{◌≤◌, length};
 ghost use Rattle.recip_rotations.specs.PointGroup.{count_of};
 ghost use Rattle.answers.specs.PointGroupTold.{PointGroupTold};
 
+use crate::tell;
 use common::Refusal;
 
 pub fn tell_group(answer: Result<usize, Refusal>, out: &mut [i64], told: &mut [i64]) -> i64
@@ -15,13 +16,7 @@ pub fn tell_group(answer: Result<usize, Refusal>, out: &mut [i64], told: &mut [i
         return Refusal::WrongLength.answer();
     }
     match answer {
-        Ok(n) => {
-            told[0] = n as i64;
-            0
-        }
-        Err(r) => {
-            told[0] = -1;
-            r.answer()
-        }
+        Ok(n) => tell(Ok([n as i64]), told),
+        Err(r) => tell::<1>(Err(r), told),
     }
 }

@@ -35,7 +35,12 @@ abbrev pub output_of : Tested → ℕ → List ℤ → List ℤ
 output_of (Ok _) n l = l
 output_of (Err r) n l = replicate n (negsuc 0)
 
--- what an export answers
-abbrev pub answer_of : Tested → ℤ
+-- what an export answers: 0, or the number of the refusal
+abbrev pub answer_of : {A : Type 0} → Result A Refusal → ℤ
 answer_of (Ok _) = pos 0
 answer_of (Err r) = pos (number_of r)
+
+-- what it tells in n places beside: the numbers of the value, or -1 everywhere
+abbrev pub told_of : {A : Type 0} → (A → List ℤ) → ℕ → Result A Refusal → List ℤ
+told_of numbers n (Ok a) = numbers a
+told_of numbers n (Err r) = replicate n (negsuc 0)

@@ -31,8 +31,5 @@ pub fn zone_all_grid_addresses(d: &[i64], out: &mut [i64]) -> i64
         common::fill(out, -1);
         return Refusal::WrongLength.answer();
     }
-    match grgrid::all_grid_addresses(common::row_at(d, 0), out) {
-        Ok(()) => 0,
-        Err(r) => r.answer(),
-    }
+    answers::number(grgrid::all_grid_addresses(common::row_at(d, 0), out))
 }

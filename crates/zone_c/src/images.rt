@@ -80,7 +80,7 @@ pub fn zone_neighboring_grid_points(
         common::fill(out, -1);
         return Refusal::WrongLength.answer();
     }
-    match bztable::neighboring_grid_points_many(
+    answers::number(bztable::neighboring_grid_points_many(
         points,
         offsets,
         addresses,
@@ -88,8 +88,5 @@ pub fn zone_neighboring_grid_points(
         common::row_at(d, 0),
         bz_grid_type,
         out,
-    ) {
-        Ok(()) => 0,
-        Err(r) => r.answer(),
-    }
+    ))
 }

@@ -20,15 +20,12 @@ pub fn zone_mark_candidates(
         common::fill(marks, -1);
         return Refusal::WrongLength.answer();
     }
-    match mark_candidates::mark_candidates(
+    answers::number(mark_candidates::mark_candidates(
         common::row_at(d, 0),
         common::matrix_at(q, 0),
         common::row_at(ps, 0),
         answers::ranges_at(lowest, highest),
         point,
         marks,
-    ) {
-        Ok(()) => 0,
-        Err(r) => r.answer(),
-    }
+    ))
 }

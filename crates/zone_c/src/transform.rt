@@ -11,13 +11,11 @@ pub fn zone_transform_rotations(rotations: &[i64], d: &[i64], q: &[i64], out: &m
         common::fill(out, -1);
         return Refusal::WrongLength.answer();
     }
-    match transform_rotations::transform_rotations(
+    let answer = transform_rotations::transform_rotations(
         rotations,
         common::row_at(d, 0),
         common::matrix_at(q, 0),
         out,
-    ) {
-        Ok(()) => 0,
-        Err(r) => r.answer(),
-    }
+    );
+    answers::number(answer)
 }

@@ -17,7 +17,7 @@ pub fn zone_ir_triplets_at_q(
     if !answers::triplet_class_lengths(d.len(), told.len()) {
         return answers::refuse_three(map_triplets, map_q, told);
     }
-    answers::tell_triplet_classes(
+    answers::tell_classes(
         triplet_grid::ir_triplets_at_q(
             q0,
             common::row_at(d, 0),
@@ -49,7 +49,7 @@ pub fn zone_bz_triplets_at_q(
     if !answers::triplet_lengths(d.len(), q.len(), lattice.len()) {
         return answers::refuse_triplets(out, left, left_length);
     }
-    answers::triplets_number(bz_triplets::bz_triplets_at_q(
+    answers::number(bz_triplets::bz_triplets_at_q(
         q0,
         addresses,
         map,

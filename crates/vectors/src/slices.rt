@@ -1,6 +1,6 @@
 // A slice stands in a line as its length and its items; one that a call wrote and that has over LISTED
 // places, as its length and a sum.
-ghost use Rattle.std.specs.Prelude.{◌≡◌, ◌≤◌, ◌<◌, min, length};
+ghost use Rattle.std.specs.Prelude.{◌≡◌, ◌≤◌, ◌<◌, min, length, drop};
 ghost use Rattle.vectors.specs.Line.{size, items, beyond, beyond_output};
 ghost use Rattle.vectors.specs.Words.{term_of, sum_from};
 
@@ -51,6 +51,13 @@ pub fn split_pairs(line: &[i64]) -> Option<(&[[i64; 2]], &[i64])> {
     let (words, rest) = rest.split_at_checked(numbers)?;
     let (pairs, _) = words.as_chunks();
     Some((pairs, rest))
+}
+
+// What stands after the answer that a line starts with.
+pub fn after_answer(line: &[i64]) -> &[i64]
+    ensures { result.now ≡ drop 1 line.now }
+{
+    line.get(1..).unwrap_or(&[])
 }
 
 // The front of `out` that is lent for the output that a line starts with.

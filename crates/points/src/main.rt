@@ -9,43 +9,26 @@ fn round(rt: &impl Print, name: &str, x: f64) -> io::Result<()> {
     println!(rt; "round {name}: {}", numbers_c::zone_nint(x))
 }
 
-fn store(list: &mut [i64], at: usize, v: i64) {
-    if at < list.len() {
-        list[at] = v;
-    }
-}
-
-// Makes a list of 0s one of shears, no two alike.
-fn distinct(rotations: &mut [i64]) {
-    let mut at = 0;
-    while at + 9 <= rotations.len() {
-        store(rotations, at, 1);
-        store(rotations, at + 1, at as i64);
-        store(rotations, at + 4, 1);
-        store(rotations, at + 8, 1);
-        at += 9;
-    }
-}
-
-// The reciprocal point group of a list of distinct rotations: the answer, and the count told.
+// The reciprocal point group of a list of rotations, which become shears, no two alike: the answer, and the count told.
 fn reciprocal(
     rt: &impl Print,
     name: &str,
-    rotations: &mut [i64],
+    rotations: &mut [[i64; 9]],
     time_reversal: bool,
 ) -> io::Result<()> {
-    distinct(rotations);
-    let mut out = [0i64; 432];
-    let mut told = [0i64; 1];
+    for (k, m) in rotations.iter_mut().enumerate() {
+        *m = [1, k as i64, 0, 0, 1, 0, 0, 0, 1];
+    }
+    let mut out = [0; 432];
+    let mut told = [0];
     let answer = zone_c::zone_reciprocal_point_group(
-        rotations,
+        rotations.as_flattened(),
         time_reversal,
         true,
         &mut out,
         &mut told,
     );
-    let count = told[0];
-    println!(rt; "{name}: {answer}, count {count}")
+    println!(rt; "{name}: {answer}, count {}", told[0])
 }
 
 fn print_list(rt: &impl Print, name: &str, list: &[i64]) -> io::Result<()> {
@@ -112,14 +95,10 @@ fn main(rt: HostRuntime) -> io::Result<()> {
     round(&rt, "2.5", 2.5)?;
     round(&rt, "-2.5", -2.5)?;
     round(&rt, "0.49999999999999994", 0.49999999999999994)?;
-    let mut list = [0i64; 432];
-    reciprocal(&rt, "48 rotations", &mut list, false)?;
-    let mut list = [0i64; 441];
-    reciprocal(&rt, "49 rotations", &mut list, false)?;
-    let mut list = [0i64; 216];
-    reciprocal(&rt, "24 rotations, time reversal", &mut list, true)?;
-    let mut list = [0i64; 225];
-    reciprocal(&rt, "25 rotations, time reversal", &mut list, true)?;
+    reciprocal(&rt, "48 rotations", &mut [[0; 9]; 48], false)?;
+    reciprocal(&rt, "49 rotations", &mut [[0; 9]; 49], false)?;
+    reciprocal(&rt, "24 rotations, time reversal", &mut [[0; 9]; 24], true)?;
+    reciprocal(&rt, "25 rotations, time reversal", &mut [[0; 9]; 25], true)?;
     images(&rt)?;
     triplets(&rt)?;
     worst_pair(&rt, "worst pair up to 1000000:", 1000000)?;

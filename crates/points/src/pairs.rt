@@ -1,79 +1,53 @@
 // The worst pair of every limit up to 300, by trial of all pairs.
+use std::cmp::Reverse;
 
-// The steps are those that the gcd tells.
-#[derive(Clone, Copy)]
+// The steps are those that the gcd tells. The worst of several pairs is the least in this order: it takes the
+// most steps, then has the smallest sum, then the smallest first number.
+#[derive(Clone, Copy, PartialEq, Eq, PartialOrd, Ord)]
 pub struct Pair {
-    pub first: u16,
-    pub second: u16,
-    pub steps: i64,
+    steps: Reverse<i64>,
+    sum: u32,
+    first: u16,
+    second: u16,
 }
 
-fn sum(p: Pair) -> u64 {
-    let a = p.first as u64;
-    let b = p.second as u64;
-    a + b
-}
-
-// Whether p takes more steps than q, or as many and has the smaller sum, or the same sum and the smaller first number.
-fn worse(p: Pair, q: Pair) -> bool {
-    if p.steps != q.steps {
-        return p.steps > q.steps;
+impl Pair {
+    fn of(first: u16, second: u16) -> Self {
+        let mut told = [0; 4];
+        numbers_c::zone_extended_gcd(i64::from(first), i64::from(second), &mut told);
+        Self {
+            steps: Reverse(told[3]),
+            sum: u32::from(first) + u32::from(second),
+            first,
+            second,
+        }
     }
-    if sum(p) != sum(q) {
-        return sum(p) < sum(q);
-    }
-    p.first < q.first
-}
-
-fn tried(p: Pair, first: u16, second: u16) -> Pair {
-    let mut told = [0i64; 4];
-    numbers_c::zone_extended_gcd(first as i64, second as i64, &mut told);
-    let steps = told[3];
-    let q = Pair {
-        first: first,
-        second: second,
-        steps: steps,
-    };
-    if worse(q, p) {
-        return q;
-    }
-    p
 }
 
 // The worst of p and the pairs whose larger number is n.
 fn up_to(p: Pair, n: u16) -> Pair {
-    let mut worst = p;
-    let mut k: u16 = 1;
-    while k < n {
-        worst = tried(tried(worst, k, n), n, k);
-        k += 1;
-    }
-    tried(worst, n, n)
+    let worst = p.min(Pair::of(n, n));
+    (1..n).fold(
+        worst,
+        |worst, k| worst.min(Pair::of(k, n)).min(Pair::of(n, k)),
+    )
 }
 
 fn agrees(p: Pair, limit: u16) -> bool {
-    let mut told = [0i64; 3];
-    if zone_c::zone_worst_pair(limit as i64, &mut told) != 0 {
-        return false;
-    }
-    told[0] == p.first as i64 && told[1] == p.second as i64 && told[2] == p.steps
+    let mut told = [0; 3];
+    let answer = zone_c::zone_worst_pair(i64::from(limit), &mut told);
+    answer == 0 && told == [i64::from(p.first), i64::from(p.second), p.steps.0]
 }
 
 // How many of the limits up to 300 have the pair that the trial finds.
 pub fn agreeing() -> i64 {
-    let mut worst = Pair {
-        first: 0,
-        second: 0,
-        steps: -1,
-    };
-    let mut limit: u16 = 0;
+    let mut worst = Pair::of(1, 1);
     let mut n: u16 = 0;
-    while limit < 300 {
-        limit += 1;
+    for limit in 1..301 {
         worst = up_to(worst, limit);
         if agrees(worst, limit) {
             n += 1;
         }
     }
-    n as i64
+    i64::from(n)
 }

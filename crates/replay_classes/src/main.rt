@@ -7,47 +7,12 @@
 mod marks;
 mod weights;
 
+use replaying::replay;
 use std::io;
-use std::rt::Files;
-use vectors::tally::Tally;
-use vectors::{Verdict, text};
-
-const CLASS_WEIGHTS: usize = 0;
-
-const MARK_CANDIDATES: usize = 1;
-
-fn judge(function: usize, altered: bool, line: &[u8]) -> Verdict {
-    let mut n = [0i64; 4096];
-    let count = text::case(line, altered, &mut n);
-    if count < 1 {
-        return Verdict::Unread;
-    }
-    if function == CLASS_WEIGHTS {
-        return weights::class_weights(&n[..count]);
-    }
-    marks::mark_candidates(&n[..count])
-}
-
-fn replay(function: usize, altered: bool, lines: &[u8]) -> Tally {
-    let mut tally = Tally::new();
-    for i in 0..lines.len() {
-        if text::starts(lines, i) {
-            tally = tally.with(judge(function, altered, text::line(lines, i)));
-        }
-    }
-    tally
-}
-
-fn replay_file(rt: &(impl Files + Print), function: usize, name: &[u8]) -> io::Result<()> {
-    let mut lines = [0u8; 65536];
-    let n = replaying::read_vectors(rt, name, &mut lines);
-    let tally = replay(function, false, &lines[..n]);
-    let altered = replay(function, true, &lines[..n]);
-    replaying::print(rt, name, tally, altered)
-}
 
 fn main(rt: HostRuntime) -> io::Result<()> {
-    replay_file(&rt, CLASS_WEIGHTS, b"class_weights")?;
-    replay_file(&rt, MARK_CANDIDATES, b"mark_candidates")?;
-    replay_file(&rt, CLASS_WEIGHTS, b"control")
+    let mut n = [0; 4096];
+    replay(&rt, "class_weights", &mut n, weights::class_weights)?;
+    replay(&rt, "mark_candidates", &mut n, marks::mark_candidates)?;
+    replay(&rt, "control", &mut n, weights::class_weights)
 }

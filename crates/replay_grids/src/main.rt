@@ -6,62 +6,43 @@
 
 mod matrices;
 mod outputs;
-mod pairs;
 
+use replaying::replay;
 use std::io;
-use std::rt::Files;
-use vectors::tally::Tally;
-use vectors::{Verdict, text};
-
-fn judge(function: usize, altered: bool, line: &[u8]) -> Verdict {
-    let mut n = [0i64; 4096];
-    let count = text::case(line, altered, &mut n);
-    if count < 1 {
-        return Verdict::Unread;
-    }
-    if function >= matrices::SNF3X3 {
-        return matrices::judge(function, &n[..count]);
-    }
-    if function == pairs::WORST_PAIR {
-        return pairs::judge(&n[..count]);
-    }
-    outputs::judge(function, &n[..count])
-}
-
-fn replay(function: usize, altered: bool, lines: &[u8]) -> Tally {
-    let mut tally = Tally::new();
-    for i in 0..lines.len() {
-        if text::starts(lines, i) {
-            tally = tally.with(judge(function, altered, text::line(lines, i)));
-        }
-    }
-    tally
-}
-
-fn replay_file(rt: &(impl Files + Print), function: usize, name: &[u8]) -> io::Result<()> {
-    let mut lines = [0u8; 65536];
-    let n = replaying::read_vectors(rt, name, &mut lines);
-    let tally = replay(function, false, &lines[..n]);
-    let altered = replay(function, true, &lines[..n]);
-    replaying::print(rt, name, tally, altered)
-}
 
 fn main(rt: HostRuntime) -> io::Result<()> {
-    replay_file(
+    let mut n = [0; 4096];
+    replay(
         &rt,
-        outputs::RECIPROCAL_POINT_GROUP,
-        b"reciprocal_point_group",
+        "reciprocal_point_group",
+        &mut n,
+        outputs::reciprocal_point_group,
     )?;
-    replay_file(&rt, outputs::RECIPROCAL_ROTATIONS, b"reciprocal_rotations")?;
-    replay_file(&rt, outputs::RECIPROCAL_GROUP, b"reciprocal_group")?;
-    replay_file(&rt, outputs::IR_GRID_MAP, b"ir_grid_map")?;
-    replay_file(&rt, outputs::ALL_GRID_ADDRESSES, b"all_grid_addresses")?;
-    replay_file(&rt, matrices::SNF3X3, b"snf3x3")?;
-    replay_file(&rt, matrices::SMITH3X3, b"smith3x3")?;
-    replay_file(&rt, matrices::HERMITE3X3, b"hermite3x3")?;
-    replay_file(&rt, matrices::ORDER_FORMS, b"order_forms")?;
-    replay_file(&rt, matrices::SAME_GRID, b"same_grid")?;
-    replay_file(&rt, pairs::WORST_PAIR, b"worst_pair")?;
-    replay_file(&rt, outputs::TRANSFORM_ROTATIONS, b"transform_rotations")?;
-    replay_file(&rt, outputs::IR_GRID_MAP, b"control")
+    replay(
+        &rt,
+        "reciprocal_rotations",
+        &mut n,
+        outputs::reciprocal_rotations,
+    )?;
+    replay(&rt, "reciprocal_group", &mut n, outputs::reciprocal_group)?;
+    replay(&rt, "ir_grid_map", &mut n, outputs::ir_grid_map)?;
+    replay(
+        &rt,
+        "all_grid_addresses",
+        &mut n,
+        outputs::all_grid_addresses,
+    )?;
+    replay(&rt, "snf3x3", &mut n, matrices::snf3x3)?;
+    replay(&rt, "smith3x3", &mut n, matrices::smith3x3)?;
+    replay(&rt, "hermite3x3", &mut n, matrices::hermite3x3)?;
+    replay(&rt, "order_forms", &mut n, matrices::order_forms)?;
+    replay(&rt, "same_grid", &mut n, matrices::same_grid)?;
+    replay(&rt, "worst_pair", &mut n, matrices::worst_pair)?;
+    replay(
+        &rt,
+        "transform_rotations",
+        &mut n,
+        outputs::transform_rotations,
+    )?;
+    replay(&rt, "control", &mut n, outputs::ir_grid_map)
 }

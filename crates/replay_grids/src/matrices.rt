@@ -1,88 +1,74 @@
-// One case of a function on one or two matrices or forms, whose outputs have fixed lengths.
+// One case of a function on a limit or on one or two matrices or forms, whose outputs have fixed lengths.
 use vectors::compared::Compared;
 use vectors::{UNWRITTEN, Verdict, slices};
 
-// The functions of this file have the numbers from 20 on, those of the other files lower ones.
-pub const SNF3X3: usize = 20;
-
-pub const SMITH3X3: usize = 21;
-
-pub const SAME_GRID: usize = 22;
-
-pub const HERMITE3X3: usize = 23;
-
-pub const ORDER_FORMS: usize = 24;
-
-// After the matrix: the answer and three outputs.
-fn compared(answer: i64, d: &[i64], p: &[i64], q: &[i64], n: &[i64]) -> Compared {
-    Compared::To(slices::after_slices(n, 1))
-        .number(answer, n)
-        .output(d, n)
-        .output(p, n)
-        .output(q, n)
-}
-
-// The number of rounds stands last.
-fn snf3x3(n: &[i64]) -> Verdict {
-    let a = slices::slice_after(n, 0);
+// After the matrix: the answer, three outputs, and the number of rounds.
+pub fn snf3x3(line: &[i64]) -> Option<Verdict> {
+    let (a, line) = slices::split(line);
     let mut d = [UNWRITTEN; 3];
     let mut p = [UNWRITTEN; 9];
     let mut q = [UNWRITTEN; 9];
-    let mut told = [UNWRITTEN; 1];
+    let mut told = [UNWRITTEN];
     let answer = zone_c::zone_snf3x3(a, &mut d, &mut p, &mut q, &mut told);
-    compared(answer, &d, &p, &q, n).numbers(&told, n).verdict(n)
+    Some(
+        Compared::with(line)
+            .number(answer)
+            .output(&d)
+            .output(&p)
+            .output(&q)
+            .numbers(&told)
+            .verdict(),
+    )
 }
 
-fn smith3x3(n: &[i64]) -> Verdict {
-    let a = slices::slice_after(n, 0);
+// The same without the number of rounds.
+pub fn smith3x3(line: &[i64]) -> Option<Verdict> {
+    let (a, line) = slices::split(line);
     let mut d = [UNWRITTEN; 3];
     let mut p = [UNWRITTEN; 9];
     let mut q = [UNWRITTEN; 9];
     let answer = zone_c::zone_smith3x3(a, &mut d, &mut p, &mut q);
-    compared(answer, &d, &p, &q, n).verdict(n)
+    Some(
+        Compared::with(line)
+            .number(answer)
+            .output(&d)
+            .output(&p)
+            .output(&q)
+            .verdict(),
+    )
 }
 
 // After the matrix: the answer and one output.
-fn hermite3x3(n: &[i64]) -> Verdict {
-    let a = slices::slice_after(n, 0);
+pub fn hermite3x3(line: &[i64]) -> Option<Verdict> {
+    let (a, line) = slices::split(line);
     let mut h = [UNWRITTEN; 9];
     let answer = zone_c::zone_hermite3x3(a, &mut h);
-    Compared::To(slices::after_slices(n, 1))
-        .number(answer, n)
-        .output(&h, n)
-        .verdict(n)
+    Some(Compared::with(line).number(answer).output(&h).verdict())
 }
 
 // After two matrices, or two forms: the answer and what was told.
-fn told_of_two(answer: i64, told: &[i64], n: &[i64]) -> Verdict {
-    Compared::To(slices::after_slices(n, 2))
-        .number(answer, n)
-        .numbers(told, n)
-        .verdict(n)
+fn of_two<F: FnOnce(&[i64], &[i64], &mut [i64]) -> i64>(line: &[i64], call: F) -> Option<Verdict>
+    requires { F.IsAlwaysCallable call }
+{
+    let (a, line) = slices::split(line);
+    let (b, line) = slices::split(line);
+    let mut told = [UNWRITTEN];
+    let answer = call(a, b, &mut told);
+    Some(Compared::with(line).number(answer).numbers(&told).verdict())
 }
 
-fn order_forms(n: &[i64]) -> Verdict {
-    let g = slices::slice_after(n, 0);
-    let h = slices::slice_after(n, 1);
-    let mut told = [UNWRITTEN; 1];
-    let answer = zone_c::zone_order_forms(g, h, &mut told);
-    told_of_two(answer, &told, n)
+pub fn order_forms(line: &[i64]) -> Option<Verdict> {
+    of_two(line, |g, h, told| zone_c::zone_order_forms(g, h, told))
 }
 
-fn same_grid(n: &[i64]) -> Verdict {
-    let a = slices::slice_after(n, 0);
-    let b = slices::slice_after(n, 1);
-    let mut told = [UNWRITTEN; 1];
-    let answer = zone_c::zone_same_grid(a, b, &mut told);
-    told_of_two(answer, &told, n)
+pub fn same_grid(line: &[i64]) -> Option<Verdict> {
+    of_two(line, |a, b, told| zone_c::zone_same_grid(a, b, told))
 }
 
-pub fn judge(function: usize, n: &[i64]) -> Verdict {
-    match function {
-        SNF3X3 => snf3x3(n),
-        SMITH3X3 => smith3x3(n),
-        HERMITE3X3 => hermite3x3(n),
-        ORDER_FORMS => order_forms(n),
-        _ => same_grid(n),
-    }
+// The limit, the answer, and what was told.
+pub fn worst_pair(line: &[i64]) -> Option<Verdict> {
+    let (limit, line) = line.split_first()?;
+    let mut told = [UNWRITTEN; 3];
+    let answer = zone_c::zone_worst_pair(*limit, &mut told);
+    Some(Compared::with(line).number(answer).numbers(&told).verdict())
 }

@@ -2,62 +2,47 @@
 use vectors::compared::Compared;
 use vectors::{UNWRITTEN, Verdict, slices};
 
-// Five slices, the type, the answer and two numbers told.
-fn rotate(index: i64, n: &[i64]) -> Verdict {
-    let at = slices::after_slices(n, 5);
-    if at >= n.len() {
-        return Verdict::Unread;
-    }
-    let rotation = slices::slice_after(n, 0);
-    let addresses = slices::slice_after(n, 1);
-    let map = slices::slice_after(n, 2);
-    let d = slices::slice_after(n, 3);
-    let ps = slices::slice_after(n, 4);
+// The index, five slices, the type, the answer and two numbers told.
+pub fn rotate_bz_grid_index(line: &[i64]) -> Option<Verdict> {
+    let (index, line) = line.split_first()?;
+    let (rotation, line) = slices::split(line);
+    let (addresses, line) = slices::split(line);
+    let (map, line) = slices::split(line);
+    let (d, line) = slices::split(line);
+    let (ps, line) = slices::split(line);
+    let (bz_grid_type, line) = line.split_first()?;
     let mut told = [UNWRITTEN; 2];
     let answer = zone_c::zone_rotate_bz_grid_index(
-        index, rotation, addresses, map, d, ps, n[at], &mut told,
+        *index,
+        rotation,
+        addresses,
+        map,
+        d,
+        ps,
+        *bz_grid_type,
+        &mut told,
     );
-    Compared::To(at + 1)
-        .number(answer, n)
-        .numbers(&told, n)
-        .verdict(n)
+    Some(Compared::with(line).number(answer).numbers(&told).verdict())
 }
 
-// The index stands first.
-pub fn rotate_bz_grid_index(n: &[i64]) -> Verdict {
-    if n.len() < 1 {
-        return Verdict::Unread;
-    }
-    rotate(n[0], &n[1..])
-}
-
-// Five slices, the type, the answer and the output.
-fn neighbours(n: &[i64], out: &mut [i64]) -> Verdict {
-    let at = slices::after_slices(n, 5);
-    if at >= n.len() {
-        return Verdict::Unread;
-    }
-    let points = slices::slice_after(n, 0);
-    let offsets = slices::slice_after(n, 1);
-    let addresses = slices::slice_after(n, 2);
-    let map = slices::slice_after(n, 3);
-    let d = slices::slice_after(n, 4);
-    let answer = zone_c::zone_neighboring_grid_points(
-        points, offsets, addresses, map, d, n[at], out,
-    );
-    Compared::To(at + 1)
-        .number(answer, n)
-        .output(out, n)
-        .verdict(n)
-}
-
-// In an output of the length that the line has.
-fn judge_neighbours(n: &[i64], out: &mut [i64]) -> Verdict {
-    let places = slices::places(n, slices::after_slices(n, 5) + 2, out);
-    neighbours(n, &mut out[..places])
-}
-
-pub fn neighboring_grid_points(n: &[i64]) -> Verdict {
+// Five slices, the type, the answer and the output, which is lent with the length that the line has.
+pub fn neighboring_grid_points(line: &[i64]) -> Option<Verdict> {
+    let (points, line) = slices::split(line);
+    let (offsets, line) = slices::split(line);
+    let (addresses, line) = slices::split(line);
+    let (map, line) = slices::split(line);
+    let (d, line) = slices::split(line);
+    let (bz_grid_type, line) = line.split_first()?;
     let mut out = [UNWRITTEN; 4096];
-    judge_neighbours(n, &mut out)
+    let out = slices::lent(slices::after_answer(line), &mut out);
+    let answer = zone_c::zone_neighboring_grid_points(
+        points,
+        offsets,
+        addresses,
+        map,
+        d,
+        *bz_grid_type,
+        out,
+    );
+    Some(Compared::with(line).number(answer).output(out).verdict())
 }

@@ -7,46 +7,25 @@
 mod job_file;
 mod runs;
 
+use replaying::replay_as;
 use std::io;
-use std::rt::Files;
-use vectors::tally::Tally;
-use vectors::{Verdict, text};
-
-fn judge(export: bool, altered: bool, line: &[u8]) -> Verdict {
-    let mut n = [0i64; 4096];
-    let count = text::case(line, altered, &mut n);
-    if count < 1 {
-        return Verdict::Unread;
-    }
-    job_file::judge(export, &n[..count])
-}
-
-fn replay(export: bool, altered: bool, lines: &[u8]) -> Tally {
-    let mut tally = Tally::new();
-    for i in 0..lines.len() {
-        if text::starts(lines, i) {
-            tally = tally.with(judge(export, altered, text::line(lines, i)));
-        }
-    }
-    tally
-}
-
-fn replay_file(
-    rt: &(impl Files + Print),
-    export: bool,
-    name: &[u8],
-    call: &[u8],
-) -> io::Result<()> {
-    let mut lines = [0u8; 65536];
-    let n = replaying::read_vectors(rt, name, &mut lines);
-    let tally = replay(export, false, &lines[..n]);
-    let altered = replay(export, true, &lines[..n]);
-    replaying::print(rt, call, tally, altered)
-}
 
 fn main(rt: HostRuntime) -> io::Result<()> {
-    replay_file(&rt, false, b"zone_list", b"print_job")?;
-    replay_file(&rt, true, b"zone_list", b"zone_list")?;
-    replay_file(&rt, false, b"control", b"control of print_job")?;
-    replay_file(&rt, true, b"control", b"control of zone_list")
+    let mut n = [0; 4096];
+    replay_as(&rt, "zone_list", "print_job", &mut n, job_file::printed)?;
+    replay_as(&rt, "zone_list", "zone_list", &mut n, job_file::exported)?;
+    replay_as(
+        &rt,
+        "control",
+        "control of print_job",
+        &mut n,
+        job_file::printed,
+    )?;
+    replay_as(
+        &rt,
+        "control",
+        "control of zone_list",
+        &mut n,
+        job_file::exported,
+    )
 }

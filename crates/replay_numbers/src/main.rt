@@ -4,66 +4,109 @@
 // must be all. One number of data/control is wrong, so that one case of it must differ.
 #![tactic(auto)]
 
-mod checked;
 mod floats;
-mod gcd;
+mod integers;
 
+use integers::{of_one, of_two};
+use replaying::replay;
 use std::io;
 use std::rt::Files;
-use vectors::tally::Tally;
-use vectors::{Verdict, text};
+use vectors::UNWRITTEN;
 
-fn judge(function: usize, altered: bool, line: &[u8]) -> Verdict {
-    let mut n = [0i64; 8];
-    let count = text::case(line, altered, &mut n);
-    if count < 2 {
-        return Verdict::Unread;
-    }
-    if function <= checked::REM {
-        return checked::judge(function, &n[..count]);
-    }
-    if function == gcd::EXTENDED_GCD {
-        return gcd::judge(&n[..count]);
-    }
-    floats::judge(function, &n[..count])
+// The most numbers of a line.
+const LINE: usize = 8;
+
+// A checked operation on two numbers.
+fn checked<F: Fn(i64, i64, &mut [i64]) -> i64>(
+    rt: &(impl Files + Print),
+    name: &str,
+    call: F,
+) -> io::Result<()>
+where
+    F: Drop,
+    requires { F.IsAlwaysCallable call }
+{
+    replay(
+        rt,
+        name,
+        &mut [0; LINE],
+        |n|
+            requires { F.IsAlwaysCallable call }
+        { of_two(n, &mut [UNWRITTEN], &call) },
+    )
 }
 
-fn replay(function: usize, altered: bool, lines: &[u8]) -> Tally {
-    let mut tally = Tally::new();
-    for i in 0..lines.len() {
-        if text::starts(lines, i) {
-            tally = tally.with(judge(function, altered, text::line(lines, i)));
-        }
-    }
-    tally
+// A function on a float whose result is one.
+fn to_float<F: Fn(f64) -> f64>(rt: &(impl Files + Print), name: &str, call: F) -> io::Result<()>
+where
+    F: Drop,
+    requires { F.IsAlwaysCallable call }
+{
+    replay(
+        rt,
+        name,
+        &mut [0; LINE],
+        |n|
+            requires { F.IsAlwaysCallable call }
+        { floats::to_float(n, &call) },
+    )
 }
 
-fn replay_file(rt: &(impl Files + Print), function: usize, name: &[u8]) -> io::Result<()> {
-    let mut lines = [0u8; 65536];
-    let n = replaying::read_vectors(rt, name, &mut lines);
-    let tally = replay(function, false, &lines[..n]);
-    let altered = replay(function, true, &lines[..n]);
-    replaying::print(rt, name, tally, altered)
+// A function on a float whose result is a number.
+fn to_number<F: Fn(f64) -> i64>(rt: &(impl Files + Print), name: &str, call: F) -> io::Result<()>
+where
+    F: Drop,
+    requires { F.IsAlwaysCallable call }
+{
+    replay(
+        rt,
+        name,
+        &mut [0; LINE],
+        |n|
+            requires { F.IsAlwaysCallable call }
+        { floats::to_number(n, &call) },
+    )
 }
 
+// An export without a contract is called in a closure: by its name alone it is no value in another crate.
 fn main(rt: HostRuntime) -> io::Result<()> {
-    replay_file(&rt, checked::ADD, b"checked_add")?;
-    replay_file(&rt, checked::SUB, b"checked_sub")?;
-    replay_file(&rt, checked::MUL, b"checked_mul")?;
-    replay_file(&rt, checked::NEG, b"checked_neg")?;
-    replay_file(&rt, checked::DIV_EUCLID, b"checked_div_euclid")?;
-    replay_file(&rt, checked::REM_EUCLID, b"checked_rem_euclid")?;
-    replay_file(&rt, checked::DIV, b"checked_div")?;
-    replay_file(&rt, checked::REM, b"checked_rem")?;
-    replay_file(&rt, floats::ROUND, b"round")?;
-    replay_file(&rt, floats::FLOOR, b"floor")?;
-    replay_file(&rt, floats::CEIL, b"ceil")?;
-    replay_file(&rt, floats::ABS, b"abs")?;
-    replay_file(&rt, floats::SQRT, b"sqrt")?;
-    replay_file(&rt, floats::TO_I64, b"to_i64")?;
-    replay_file(&rt, floats::NINT, b"nint")?;
-    replay_file(&rt, floats::IS_FINITE, b"is_finite")?;
-    replay_file(&rt, floats::TO_F64, b"to_f64")?;
-    replay_file(&rt, gcd::EXTENDED_GCD, b"extended_gcd")?;
-    replay_file(&rt, checked::DIV, b"control")
+    checked(&rt, "checked_add", numbers_c::zone_checked_add)?;
+    checked(&rt, "checked_sub", numbers_c::zone_checked_sub)?;
+    checked(&rt, "checked_mul", numbers_c::zone_checked_mul)?;
+    replay(&rt, "checked_neg", &mut [0; LINE], |n| {
+        of_one(n, &mut [UNWRITTEN], numbers_c::zone_checked_neg)
+    })?;
+    checked(
+        &rt,
+        "checked_div_euclid",
+        numbers_c::zone_checked_div_euclid,
+    )?;
+    checked(
+        &rt,
+        "checked_rem_euclid",
+        numbers_c::zone_checked_rem_euclid,
+    )?;
+    checked(&rt, "checked_div", numbers_c::zone_checked_div)?;
+    checked(&rt, "checked_rem", numbers_c::zone_checked_rem)?;
+    to_float(&rt, "round", |x| numbers_c::zone_round(x))?;
+    to_float(&rt, "floor", |x| numbers_c::zone_floor(x))?;
+    to_float(&rt, "ceil", |x| numbers_c::zone_ceil(x))?;
+    to_float(&rt, "abs", |x| numbers_c::zone_abs(x))?;
+    to_float(&rt, "sqrt", |x| numbers_c::zone_sqrt(x))?;
+    to_number(&rt, "to_i64", |x| numbers_c::zone_to_i64(x))?;
+    to_number(&rt, "nint", |x| numbers_c::zone_nint(x))?;
+    to_number(
+        &rt,
+        "is_finite",
+        |x| i64::from(numbers_c::zone_is_finite(x)),
+    )?;
+    replay(&rt, "to_f64", &mut [0; LINE], floats::to_f64)?;
+    replay(&rt, "extended_gcd", &mut [0; LINE], |n| {
+        of_two(
+            n,
+            &mut [UNWRITTEN; 4],
+            |a, b, told| numbers_c::zone_extended_gcd(a, b, told),
+        )
+    })?;
+    checked(&rt, "control", numbers_c::zone_checked_div)
 }

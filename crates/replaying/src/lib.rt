@@ -1,4 +1,4 @@
-// What the programs that replay vectors share: a file is read, and its tally printed.
+// What the programs that replay vectors share: the cases of a file are judged and counted, and the counts printed.
 #![tactic(auto)]
 
 ghost use Rattle.vectors.specs.Line.{Front};
@@ -8,8 +8,10 @@ use std::io;
 use std::io::Read;
 use std::rt::Files;
 use vectors::tally::Tally;
+use vectors::{Verdict, text};
 
 // Reads until `text` is full, the file ends or a read fails, and answers how many bytes it put to the front.
+// `io::copy` would lose that number where a read fails, and zonelist's loop hands such a failure on.
 fn read_full(file: &mut impl Read, text: &mut [u8]) -> usize
     ensures { Front result text.new }
 {
@@ -23,37 +25,74 @@ fn read_full(file: &mut impl Read, text: &mut [u8]) -> usize
     done
 }
 
-// Tells why a file counts as empty. A failed write is left to the tally, which is printed next.
-fn tell(rt: &impl Print, why: &[u8]) {
-    let _ = rt.write_all(why);
-}
-
-// Reads the file to the front of `text`, and answers how long it is: 0 where there is none or it has no
-// room, which is told. A name that is not UTF-8 names no file.
-pub fn read_vectors(rt: &(impl Files + Print), name: &[u8], text: &mut [u8]) -> usize
-    ensures { Front result text.new }
-{
-    let Ok(path) = str::from_utf8(name) else {
-        tell(rt, b"no vectors: ");
-        return 0;
-    };
-    let Ok(mut file) = File::open(rt, path) else {
-        tell(rt, b"no vectors: ");
-        return 0;
+// The file, read into `text`; nothing where there is none or it has no room, which is told. A failed write of
+// that is left to the counts, which are printed next.
+fn read_vectors<'a>(rt: &(impl Files + Print), name: &str, text: &'a mut [u8]) -> &'a [u8] {
+    let Ok(mut file) = File::open(rt, name) else {
+        let _ = print!(rt; "no vectors: ");
+        return &[];
     };
     let n = read_full(&mut file, text);
     if n == text.len() {
-        tell(rt, b"too long: ");
-        return 0;
+        let _ = print!(rt; "too long: ");
+        return &[];
     }
-    n
+    &text[..n]
 }
 
-// The tally of a file, and how many of its cases differ once their last number is altered.
-pub fn print(rt: &impl Print, name: &[u8], tally: Tally, altered: Tally) -> io::Result<()> {
-    rt.write_all(name)?;
+// Counts the cases by what is judged of each, as they stand or with another last number. A line that begins
+// with # is a comment.
+fn tally<F: Fn(&[i64]) -> Option<Verdict>>(
+    lines: &[u8],
+    altered: bool,
+    numbers: &mut [i64],
+    judge: &F,
+) -> Tally
+    requires { F.IsAlwaysCallable judge.now }
+{
+    let mut tally = Tally::new();
+    for line in lines.split_inclusive(|b| *b == b'\n') {
+        if !line.starts_with(b"#") {
+            let line = line.strip_suffix(b"\n").unwrap_or(line);
+            tally = tally.with(text::case(line, altered, numbers).and_then(|n| judge(n)));
+        }
+    }
+    tally
+}
+
+// Replays the cases of a file: prints, after the name of the call, how many there are, how many differ, and
+// how many differ once their last number is altered. `numbers` holds those of a line.
+pub fn replay_as<F: Fn(&[i64]) -> Option<Verdict>>(
+    rt: &(impl Files + Print),
+    file: &str,
+    call: &str,
+    numbers: &mut [i64],
+    judge: F,
+) -> io::Result<()>
+where
+    F: Drop,
+    requires { F.IsAlwaysCallable judge }
+{
+    let mut text = [0u8; 65536];
+    let lines = read_vectors(rt, file, &mut text);
+    let told = tally(lines, false, numbers, &judge);
+    let altered = tally(lines, true, numbers, &judge);
     println!(rt;
-        " cases {} differences {} unread {} altered {}",
-        tally.cases, tally.differences, tally.unread, altered.differences
+        "{call} cases {} differences {} unread {} altered {}",
+        told.cases, told.differences, told.unread, altered.differences
     )
+}
+
+// The same of a file that has the name of the call.
+pub fn replay<F: Fn(&[i64]) -> Option<Verdict>>(
+    rt: &(impl Files + Print),
+    call: &str,
+    numbers: &mut [i64],
+    judge: F,
+) -> io::Result<()>
+where
+    F: Drop,
+    requires { F.IsAlwaysCallable judge }
+{
+    replay_as(rt, call, call, numbers, judge)
 }

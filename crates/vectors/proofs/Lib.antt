@@ -1,4 +1,1 @@
-pub mod Same
-pub mod Line
-pub mod Words
 pub mod Matched

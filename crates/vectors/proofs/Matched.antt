@@ -1,101 +1,58 @@
--- A line that is compared, by the tests of the code; and what a verdict says of the line.
-use mathlib.Core.Path.{◌≡◌, refl, sym, ◌∙◌, ap, ap₂}
-use mathlib.Core.Bool.{Bool, true, false, ◌&&◌}
-use mathlib.Core.List.{List, [], ◌∷◌, ◌++◌, append-nil}
-use Prim.Native.Nat.{ℕ, suc, ◌+◌, ◌<◌, ◌≤◌}
-use native.Mathlib.Numerals.{add-one}
+-- What is left of a line that is compared; and what a verdict says of the line.
+use Rattle.std.proofs.Common.{◌≡◌, refl, sym, ◌∙◌, ap, Bool, true, false, List, [], ◌∷◌, ◌++◌, ℕ, length, ℤ, pos, Option, Some, None, option_map, cond, Bor, MatchOption, ◌≢◌}
+use Rattle.std.specs.Ordering.{int_eq}
+use Rattle.std.proofs.lemmas.Bool.Decides.{Decides-int_eq}
+use mathlib.Core.List.{append-nil}
 use native.Mathlib.Omega.{arith}
-use lib.Dec.{leb, eqb}
-use lib.IntN.{ℤ, pos}
-use lib.ListN.{length, take, drop, get_or, drop_of_length-le, take-append-drop}
-use lib.Seq.{drop-cons, drop-drop, drop-length}
-use lib.Ieee.{Float, nan}
-use borrow.Author.Tests.{le-leb, lt-leb, eqb-true}
-use Rattle.integer.specs.Checked.{pick}
-use Rattle.vectors.specs.Same.{same_numbers}
-use Rattle.vectors.specs.Words.{sum_from, listed, words_of}
-use Rattle.vectors.specs.Matched.{matched, matched_output, matched_floats, verdict_of}
-use Rattle.vectors.specs.declared.Verdict.TheVariants.{Same, Differs}
-use Rattle.vectors.specs.declared.compared.Compared.{Compared}
-use Rattle.vectors.specs.declared.compared.Compared.TheVariants.{To, Unlike}
-use Rattle.vectors.proofs.Same.{same-equal}
+use Rattle.vectors.specs.Words.{listed}
+use Rattle.vectors.specs.Matched.{after, matched, matched_output, verdict_of}
+use Rattle.vectors.specs.declared.Verdict.TheVariants.{Same}
 
-module _ (w n : List ℤ) (k : ℕ) where
-  -- the line is too short
-  pub no_room : length n < k + length w → Unlike ≡ matched (To k) w n
-  no_room h = sym (ap (λ t. pick (t && same_numbers w (take (length w) (drop k n))) (To (k + length w)) Unlike) (lt-leb (k + length w) (length n) h))
+-- the line begins with the numbers
+pub after-sound : (w n r : List ℤ) → after w n ≡ Some r → n ≡ w ++ r
+after-sound [] n r e = cc
+after-sound (x ∷ w) [] r e = absurd (let z : ◌≡◌ {A = ℕ} 0 1 = cc in omega arith)
+after-sound (x ∷ w) (y ∷ n) r e = go (int_eq x y) refl e (after-sound w n r)
+  where
+    go : (t : Bool) → int_eq x y ≡ t → cond t (after w n) None ≡ Some r → (after w n ≡ Some r → n ≡ w ++ r) → y ∷ n ≡ x ∷ (w ++ r)
+    go true t p h = ap (λ z. z ∷ n) (sym ((Decides-int_eq x y).0 t)) ∙ ap (λ l. x ∷ l) (h p)
+    go false t p h = absurd (let z : ◌≡◌ {A = ℕ} 0 1 = cc in omega arith)
 
-  -- the next j numbers were compared
-  module _ (j : ℕ) (e : j ≡ length w) (h : k + length w ≤ length n) (t : Bool) (same : t ≡ same_numbers w (take j (drop k n))) where
-    outcome : pick t (To (k + length w)) Unlike ≡ matched (To k) w n
-    outcome =
-        ap (λ b. pick b (To (k + length w)) Unlike) (same ∙ ap (λ i. same_numbers w (take i (drop k n))) e)
-        ∙ sym (ap (λ b. pick (b && same_numbers w (take (length w) (drop k n))) (To (k + length w)) Unlike) (le-leb (k + length w) (length n) h))
+pub after-found : (w r : List ℤ) → after w (w ++ r) ≡ Some r
+after-found [] r = refl
+after-found (x ∷ w) r = ap (λ t. cond t (after w (w ++ r)) None) ((Decides-int_eq x x).1 refl) ∙ after-found w r
 
-    pub found : t ≡ true → To (k + length w) ≡ matched (To k) w n
-    found y = sym (ap (λ b. pick b (To (k + length w)) Unlike) y) ∙ outcome
-
-    pub unlike : t ≡ false → Unlike ≡ matched (To k) w n
-    unlike y = sym (ap (λ b. pick b (To (k + length w)) Unlike) y) ∙ outcome
-
--- ---- outputs
-pub listed-all : (out : List ℤ) → length out ≤ 432 → out ≡ listed out
-listed-all out h = sym (ap (λ t. pick t out (pos (sum_from 0 out) ∷ [])) (le-leb (length out) 432 h))
-
-pub listed-sum : (out : List ℤ) → 432 < length out → pos (sum_from 0 out) ∷ [] ≡ listed out
-listed-sum out h = sym (ap (λ t. pick t out (pos (sum_from 0 out) ∷ [])) (lt-leb (length out) 432 h))
-
--- ---- floats, one after another
-pub floats-on : (c d : Compared) (l : List Float) (n : List ℤ) (i : ℕ) → i < length l → d ≡ matched c (words_of (get_or l i nan)) n → matched_floats d (drop (i + 1) l) n ≡ matched_floats c (drop i l) n
-floats-on c d l n i h e =
-    ap (λ j. matched_floats d (drop j l) n) (add-one i)
-    ∙ ap (λ m. matched_floats m (drop (suc i) l) n) e
-    ∙ sym (ap (λ r. matched_floats c r n) (drop-cons l i nan h))
-
-pub floats-end : (c : Compared) (l : List Float) (n : List ℤ) (i : ℕ) → length l ≤ i → matched_floats c (drop i l) n ≡ c
-floats-end c l n i h = ap (λ r. matched_floats c r n) (drop_of_length-le l h)
+pub after-stripped : (w n : List ℤ) (s : Option (Bor (List ℤ))) → MatchOption s ((r : List ℤ) → n ≢ w ++ r) (λ x. n ≡ w ++ x.now) → option_map (λ (l : Bor (List ℤ)). l.now) s ≡ after w n
+after-stripped w n (Some x) e = sym (ap (after w) e ∙ after-found w x.now)
+after-stripped w n None e = go (after w n) refl
+  where
+    go : (o : Option (List ℤ)) → after w n ≡ o → None ≡ after w n
+    go None p = sym p
+    go (Some r) p = absurd (e r (after-sound w n r p))
 
 -- ---- what a verdict says of the line: where a call's numbers were found, the line has them, and it ends with them
-pub record Stands (c : Compared) (w n : List ℤ) (m : ℕ) : Type 0 where
-  pub from : ℕ
-  pub began : c ≡ To from
-  pub there : drop from n ≡ w ++ drop m n
+pub record Stands (c : Option (List ℤ)) (w r : List ℤ) : Type 0 where
+  pub line : List ℤ
+  pub began : c ≡ Some line
+  pub there : line ≡ w ++ r
 
-pub stands : (c : Compared) (w n : List ℤ) (m : ℕ) → matched c w n ≡ To m → Stands c w n m
-stands Unlike w n m e = absurd (let z : ◌≡◌ {A = ℕ} 0 1 = cc in omega arith)
-stands (To k) w n m e = record { from = k; began = refl; there = go (leb (k + length w) (length n)) (same_numbers w (take (length w) (drop k n))) refl e }
-  where
-    found-there : same_numbers w (take (length w) (drop k n)) ≡ true → k + length w ≡ m → drop k n ≡ w ++ drop m n
-    found-there s p =
-        sym (take-append-drop (length w) (drop k n))
-        ∙ ap₂ (λ a b. a ++ b) (sym (same-equal w (take (length w) (drop k n)) s)) (drop-drop (length w) k n ∙ ap (λ j. drop j n) p)
+pub stands : (c : Option (List ℤ)) (w r : List ℤ) → matched c w ≡ Some r → Stands c w r
+stands None w r e = absurd (let z : ◌≡◌ {A = ℕ} 0 1 = cc in omega arith)
+stands (Some n) w r e = record { line = n; began = refl; there = after-sound w n r e }
 
-    go : (r t : Bool) → same_numbers w (take (length w) (drop k n)) ≡ t → pick (r && t) (To (k + length w)) Unlike ≡ To m → drop k n ≡ w ++ drop m n
-    go true true s p = found-there s (cc)
-    go true false s p = absurd (let z : ◌≡◌ {A = ℕ} 0 1 = cc in omega arith)
-    go false t s p = absurd (let z : ◌≡◌ {A = ℕ} 0 1 = cc in omega arith)
-
-pub verdict-same : (c : Compared) (n : List ℤ) → verdict_of c n ≡ Same → c ≡ To (length n)
-verdict-same Unlike n e = absurd (let z : ◌≡◌ {A = ℕ} 0 1 = cc in omega arith)
-verdict-same (To k) n e = go (eqb k (length n)) refl e
-  where
-    go : (t : Bool) → eqb k (length n) ≡ t → pick t Same Differs ≡ Same → To k ≡ To (length n)
-    go true s p = ap To (eqb-true k (length n) s)
-    go false s p = absurd (let z : ◌≡◌ {A = ℕ} 0 1 = cc in omega arith)
+pub verdict-same : (c : Option (List ℤ)) → verdict_of c ≡ Same → c ≡ Some []
+verdict-same None e = absurd (let z : ◌≡◌ {A = ℕ} 0 1 = cc in omega arith)
+verdict-same (Some []) e = refl
+verdict-same (Some (x ∷ n)) e = absurd (let z : ◌≡◌ {A = ℕ} 0 1 = cc in omega arith)
 
 -- a call with one output
-pub same_line : (a : ℤ) (out told n : List ℤ) (k : ℕ) → verdict_of (matched (matched_output (matched (To k) (a ∷ []) n) out n) told n) n ≡ Same → drop k n ≡ a ∷ pos (length out) ∷ (listed out ++ told)
-same_line a out told n k e =
-    let c1 = matched (To k) (a ∷ []) n in
-    let c2 = matched c1 (pos (length out) ∷ []) n in
-    let s4 = stands (matched c2 (listed out) n) told n (length n) (verdict-same (matched (matched c2 (listed out) n) told n) n e) in
-    let s3 = stands c2 (listed out) n s4.from s4.began in
-    let s2 = stands c1 (pos (length out) ∷ []) n s3.from s3.began in
-    let s1 = stands (To k) (a ∷ []) n s2.from s2.began in
-    let start : k ≡ s1.from = to_is s1.began in
-    ap (λ j. drop j n) start
-    ∙ s1.there
-    ∙ ap (λ l. a ∷ l) (s2.there ∙ ap (λ l. pos (length out) ∷ l) (s3.there ∙ ap (λ l. listed out ++ l) (s4.there ∙ ap (λ l. told ++ l) (drop-length n) ∙ append-nil told)))
-  where
-    to_is : {i j : ℕ} → To i ≡ To j → i ≡ j
-    to_is p = cc
+pub same_line : (a : ℤ) (out told n : List ℤ) → verdict_of (matched (matched_output (matched (Some n) (a ∷ [])) out) told) ≡ Same → n ≡ a ∷ pos (length out) ∷ (listed out ++ told)
+same_line a out told n e =
+    let c1 = matched (Some n) (a ∷ []) in
+    let c2 = matched c1 (pos (length out) ∷ []) in
+    let s4 = stands (matched c2 (listed out)) told [] (verdict-same (matched (matched c2 (listed out)) told) e) in
+    let s3 = stands c2 (listed out) s4.line s4.began in
+    let s2 = stands c1 (pos (length out) ∷ []) s3.line s3.began in
+    let s1 = after-sound (a ∷ []) n s2.line s2.began in
+    s1
+    ∙ ap (λ l. a ∷ l) (s2.there ∙ ap (λ l. pos (length out) ∷ l) (s3.there ∙ ap (λ l. listed out ++ l) (s4.there ∙ append-nil told)))

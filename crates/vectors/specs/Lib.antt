@@ -1,4 +1,3 @@
-pub mod Same
 pub mod Line
 pub mod Words
 pub mod Matched

@@ -1,6 +1,10 @@
 -- A line is a list of numbers. A slice stands there as its length and its items; an output of over 432 places as its length and one number.
-use Rattle.std.specs.Prelude.{◌≡◌, List, [], ◌∷◌, ℕ, zero, suc, ◌≤◌, leb, ℤ, nat_abs, length, take, drop}
-use Rattle.integer.specs.Checked.{pick}
+use Rattle.std.specs.Prelude.{◌≡◌, List, [], ◌∷◌, ℕ, ◌≤◌, cond, leb, ℤ, nat_abs, length, take, drop}
+
+-- the length that a line starts with
+abbrev pub size : List ℤ → ℕ
+size [] = 0
+size (x ∷ l) = nat_abs x
 
 -- the items of the slice that a line starts with
 abbrev pub items : List ℤ → List ℤ
@@ -12,14 +16,10 @@ abbrev pub beyond : List ℤ → List ℤ
 beyond [] = []
 beyond (x ∷ l) = drop (nat_abs x) l
 
-abbrev pub beyond_slices : ℕ → List ℤ → List ℤ
-beyond_slices zero l = l
-beyond_slices (suc k) l = beyond_slices k (beyond l)
-
 -- what stands after the output that a line starts with
 abbrev pub beyond_output : List ℤ → List ℤ
 beyond_output [] = []
-beyond_output (x ∷ l) = drop (pick (leb (nat_abs x) 432) (nat_abs x) 1) l
+beyond_output (x ∷ l) = drop (cond (leb (nat_abs x) 432) (nat_abs x) 1) l
 
 -- the first n places of l, said so that lending them needs no proof
 abbrev pub Front : {A : Type 0} → ℕ → List A → Type 0

@@ -1,88 +1,81 @@
 // A line against what a call answered and wrote.
-ghost use Rattle.std.specs.Prelude.{◌≡◌, [], ◌∷◌, pos, length};
+ghost use Rattle.std.specs.Prelude.{◌≡◌, [], ◌∷◌, pos, length, List, ℤ, Option, option_map};
 ghost use Rattle.vectors.specs.Words.{words_of};
 ghost use Rattle.vectors.specs.Matched.{matched, matched_output, matched_floats, verdict_of};
 
 use crate::slices::LISTED;
 use crate::{Verdict, floats, slices};
+use std::marker::Model;
 
-#[derive(Clone, Copy)]
-pub enum Compared {
-    // every place before this one is what the call answered and wrote
-    To(usize),
-    Unlike,
+// What is left of a line after all that was compared; `None` once something was unlike.
+#[derive(Drop)]
+pub struct Compared<'a>(Option<&'a [i64]>);
+
+impl<'a> Model for Compared<'a> {
+    ghost Value = { Option (List ℤ) };
+
+    ghost view = { λ c. option_map (λ l. l.now) c.0 };
 }
 
-impl Compared {
-    pub fn numbers(self, told: &[i64], n: &[i64]) -> Self
-        ensures { result ≡ matched self told.now n.now }
+impl<'a> Compared<'a> {
+    pub fn with(line: &'a [i64]) -> Self
+        ensures { result ≡ Some line.now }
     {
-        let Self::To(at) = self else {
-            return Self::Unlike;
-        };
-        if at > n.len() {
-            return Self::Unlike;
-        }
-        if told.len() > n.len() - at {
-            return Self::Unlike;
-        }
-        let end = at + told.len();
-        let next = &n[at..end];
-        if slices::same(told, next) {
-            return Self::To(end);
-        }
-        Self::Unlike
+        Self(Some(line))
     }
 
-    pub fn number(self, z: i64, n: &[i64]) -> Self
-        ensures { result ≡ matched self (z ∷ []) n.now }
+    pub fn numbers(self, told: &[i64]) -> Self
+        ensures { result ≡ matched self.entry told.now }
     {
-        let one = [z];
-        self.numbers(&one, n)
+        let Self(Some(line)) = self else {
+            return self;
+        };
+        Self(line.strip_prefix(told))
+    }
+
+    pub fn number(self, z: i64) -> Self
+        ensures { result ≡ matched self.entry (z ∷ []) }
+    {
+        self.numbers(&[z])
     }
 
     // Its length, and its places or their sum.
-    pub fn output(self, out: &[i64], n: &[i64]) -> Self
-        ensures { result ≡ matched_output self out.now n.now }
+    pub fn output(self, out: &[i64]) -> Self
+        ensures { result ≡ matched_output self.entry out.now }
     {
-        let places = self.number(out.len() as i64, n);
+        let places = self.number(out.len() as i64);
         if out.len() <= LISTED {
-            return places.numbers(out, n);
+            return places.numbers(out);
         }
-        places.number(slices::sum(out) as i64, n)
+        places.number(slices::sum(out) as i64)
     }
 
-    pub fn float(self, x: f64, n: &[i64]) -> Self
-        ensures { result ≡ matched self (words_of x) n.now }
+    pub fn float(self, x: f64) -> Self
+        ensures { result ≡ matched self.entry (words_of x) }
     {
         let bits = floats::bits_of(x);
         let words = [(bits / 0x1_0000_0000) as i64, (bits % 0x1_0000_0000) as i64];
-        self.numbers(&words, n)
+        self.numbers(&words)
     }
 
     // Their count, and the words of each.
-    pub fn floats(self, l: &[f64], n: &[i64]) -> Self
-        ensures { result ≡ matched_floats (matched self (pos (length l.now) ∷ []) n.now) l.now n.now }
+    pub fn floats(self, list: &[f64]) -> Self
+        ensures { result ≡ matched_floats (matched self.entry (pos (length list.now) ∷ [])) list.now }
     {
-        let mut c = self.number(l.len() as i64, n);
-        let mut i = 0;
-        while i < l.len() {
-            c = c.float(l[i], n);
-            i += 1;
+        let mut compared = self.number(list.len() as i64);
+        for x in list {
+            compared = compared.float(*x);
         }
-        c
+        compared
     }
 
     // The line ends here.
-    pub fn verdict(self, n: &[i64]) -> Verdict
-        ensures { result ≡ verdict_of self n.now }
+    pub fn verdict(self) -> Verdict
+        ensures { result ≡ verdict_of self.entry }
     {
-        let Self::To(at) = self else {
-            return Verdict::Differs;
-        };
-        if at == n.len() {
-            return Verdict::Same;
+        match self.0 {
+            Some([]) => Verdict::Same,
+            _ => Verdict::Differs,
         }
-        Verdict::Differs
     }
 }

@@ -7,12 +7,11 @@ pub mod slices;
 pub mod tally;
 pub mod text;
 
-#[derive(Clone, Copy)]
+// What a vector says of the port; `None` stands for a line that is no vector of the function.
+#[derive(Clone, Copy, Debug, PartialEq, Eq)]
 pub enum Verdict {
     Same,
     Differs,
-    // no vector of the function
-    Unread,
 }
 
 // What outputs are lent filled with, so that a place that is not written shows: no answer in the vectors has it.

@@ -1,36 +1,17 @@
 // A slice stands in a line as its length and its items; one that a call wrote and that has over LISTED
 // places, as its length and a sum.
-ghost use Rattle.std.specs.Prelude.{◌≡◌, ◌≤◌, ◌<◌, min, pos, nat_abs, length, drop, get_or};
-ghost use Rattle.vectors.specs.Same.{same_numbers};
-ghost use Rattle.vectors.specs.Line.{items, beyond, beyond_slices, beyond_output, Front};
+ghost use Rattle.std.specs.Prelude.{◌≡◌, ◌≤◌, ◌<◌, min, length, drop};
+ghost use Rattle.vectors.specs.Line.{size, items, beyond, beyond_output};
 ghost use Rattle.vectors.specs.Words.{term_of, sum_from};
 
 pub const LISTED: usize = 432;
-
-pub fn same(a: &[i64], b: &[i64]) -> bool
-    ensures { result ≡ same_numbers a.now b.now }
-{
-    if a.len() != b.len() {
-        return false;
-    }
-    let mut i = 0;
-    while i < b.len() {
-        let x = a[i];
-        let y = b[i];
-        if x != y {
-            return false;
-        }
-        i += 1;
-    }
-    true
-}
 
 // The size of v modulo 1,000,003, and its sign.
 fn term(v: i64) -> u64
     ensures value { result ≡ term_of v }
     ensures upper_bound { result ≤ 2000006 }
 {
-    let size = integer::unsigned_abs(v) % 1_000_003;
+    let size = v.unsigned_abs() % 1_000_003;
     if v < 0 { size * 2 + 1 } else { size * 2 }
 }
 
@@ -38,110 +19,61 @@ pub fn sum(written: &[i64]) -> u64
     ensures value { result ≡ sum_from 0 written.now }
     ensures upper_bound { result < 1000003 }
 {
-    let mut sum = 0u64;
-    let mut i = 0;
-    while i < written.len() {
-        sum = (sum * 31 + term(written[i])) % 1_000_003;
-        i += 1;
+    let mut sum = 0;
+    for v in written {
+        sum = (sum * 31 + term(*v)) % 1_000_003;
     }
     sum
 }
 
-// The place after the slice that starts at place `at`; the end of n where there is none.
-fn after(n: &[i64], at: usize) -> usize
-    ensures upper_bound { result ≤ length n.now }
-    ensures n_value { drop result n.now ≡ beyond (drop at n.now) }
+// The length that a line starts with; 0 where it has ended.
+fn size(line: &[i64]) -> usize
+    ensures { result ≡ size line.now }
 {
-    if at >= n.len() {
-        return n.len();
-    }
-    let wanted = integer::unsigned_abs(n[at]);
-    let room = n.len() - at - 1;
-    if wanted <= room as u64 {
-        return at + 1 + wanted as usize;
-    }
-    n.len()
+    line.first().map_or(0, |n| n.unsigned_abs() as usize)
 }
 
-// The place after the first `count` slices of a line.
-pub fn after_slices(n: &[i64], count: usize) -> usize
-    ensures upper_bound { result ≤ length n.now }
-    ensures n_value { drop result n.now ≡ beyond_slices count n.now }
+// The slice that a line starts with, as far as the line goes, and the rest of the line.
+pub fn split(line: &[i64]) -> (&[i64], &[i64])
+    ensures slice { result.0.now ≡ items line.now }
+    ensures rest { result.1.now ≡ beyond line.now }
 {
-    let mut at = 0;
-    let mut i = 0;
-    while i < count {
-        at = after(n, at);
-        i += 1;
-    }
-    at
+    let Some((length, rest)) = line.split_first() else {
+        return (line, line);
+    };
+    rest.split_at(rest.len().min(length.unsigned_abs() as usize))
 }
 
-// The slice that stands after the first `count`; an empty one where there is none.
-pub fn slice_after(n: &[i64], count: usize) -> &[i64]
-    ensures { result.now ≡ items (beyond_slices count n.now) }
-{
-    let at = after_slices(n, count);
-    if at >= n.len() {
-        return &n[at..];
-    }
-    let size = length_at(n, at, n.len() - at - 1);
-    let start = at + 1;
-    let end = start + size;
-    &n[start..end]
+// The pairs that a line starts with, their count and two numbers each, and the rest of the line.
+pub fn split_pairs(line: &[i64]) -> Option<(&[[i64; 2]], &[i64])> {
+    let (count, rest) = line.split_first()?;
+    let numbers = (count.unsigned_abs() as usize).checked_mul(2)?;
+    let (words, rest) = rest.split_at_checked(numbers)?;
+    let (pairs, _) = words.as_chunks();
+    Some((pairs, rest))
 }
 
-// The length that stands at place `at`, but at most `most`; 0 where n ends before.
-pub fn length_at(n: &[i64], at: usize, most: usize) -> usize
-    ensures { result ≡ min (nat_abs (get_or n.now at (pos 0))) most }
+// What stands after the answer that a line starts with.
+pub fn after_answer(line: &[i64]) -> &[i64]
+    ensures { result.now ≡ drop 1 line.now }
 {
-    if at >= n.len() {
-        return 0;
-    }
-    let wanted = integer::unsigned_abs(n[at]);
-    if wanted <= most as u64 {
-        return wanted as usize;
-    }
-    most
+    line.get(1..).unwrap_or(&[])
 }
 
-// How much of `out` is lent for the output at place `at`.
-pub fn places(n: &[i64], at: usize, out: &[i64]) -> usize
-    ensures value { result ≡ min (nat_abs (get_or n.now at (pos 0))) (length out.now) }
-    ensures front { Front result out.now }
+// The front of `out` that is lent for the output that a line starts with.
+pub fn lent<'a, T>(line: &[i64], out: &'a mut [T]) -> &'a mut [T]
+    ensures { length result.now ≡ min (size line.now) (length out.old) }
 {
-    length_at(n, at, out.len())
+    let places = size(line).min(out.len());
+    &mut out[..places]
 }
 
-// The place after the output at place `at`; the end of n where there is none.
-pub fn after_output(n: &[i64], at: usize) -> usize
-    ensures upper_bound { result ≤ length n.now }
-    ensures n_value { drop result n.now ≡ beyond_output (drop at n.now) }
+// The rest of a line after the output that it starts with.
+pub fn after_output(line: &[i64]) -> &[i64]
+    ensures { result.now ≡ beyond_output line.now }
 {
-    if at >= n.len() {
-        return n.len();
+    if size(line) <= LISTED {
+        return split(line).1;
     }
-    if integer::unsigned_abs(n[at]) <= LISTED as u64 {
-        return after(n, at);
-    }
-    if n.len() - at < 2 {
-        return n.len();
-    }
-    at + 2
-}
-
-// The place after the pairs that start at place `at`, their count and two numbers each; the end of n where
-// there are none.
-pub fn after_pairs(n: &[i64], at: usize) -> usize
-    ensures { result ≤ length n.now }
-{
-    if at >= n.len() {
-        return n.len();
-    }
-    let wanted = integer::unsigned_abs(n[at]);
-    let room = (n.len() - at - 1) / 2;
-    if wanted <= room as u64 {
-        return at + 1 + wanted as usize * 2;
-    }
-    n.len()
+    line.get(2..).unwrap_or(&[])
 }

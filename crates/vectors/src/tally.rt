@@ -1,22 +1,15 @@
 // The cases of a file, counted.
 ghost use Rattle.std.specs.Prelude.{◌≡◌};
-ghost use Rattle.vectors.specs.Counted.{more as one_more, counted};
+ghost use Rattle.vectors.specs.Counted.{counted};
 
 use crate::Verdict;
 
-#[derive(Clone, Copy)]
+#[derive(Clone, Copy, Debug, PartialEq, Eq)]
 pub struct Tally {
     pub cases: u64,
     pub differences: u64,
     // lines that are neither vectors nor comments
     pub unread: u64,
-}
-
-// One more, short of wrapping.
-fn more(n: u64) -> u64
-    ensures { result ≡ one_more n }
-{
-    if n < 0xffff_ffff_ffff_ffff { n + 1 } else { n }
 }
 
 impl Tally {
@@ -28,19 +21,19 @@ impl Tally {
         }
     }
 
-    pub fn with(mut self, verdict: Verdict) -> Self
+    pub fn with(mut self, verdict: Option<Verdict>) -> Self
         ensures { result ≡ counted self verdict }
     {
         match verdict {
-            Verdict::Same => {
-                self.cases = more(self.cases);
+            Some(Verdict::Same) => {
+                self.cases = self.cases.saturating_add(1);
             }
-            Verdict::Differs => {
-                self.cases = more(self.cases);
-                self.differences = more(self.differences);
+            Some(Verdict::Differs) => {
+                self.cases = self.cases.saturating_add(1);
+                self.differences = self.differences.saturating_add(1);
             }
-            Verdict::Unread => {
-                self.unread = more(self.unread);
+            None => {
+                self.unread = self.unread.saturating_add(1);
             }
         }
         self

@@ -6,7 +6,8 @@ ghost use Rattle.std.specs.Io.{ReadsAtMost};
 use std::io;
 use std::io::Read;
 
-// Reads until `held` is full or the input ends, and answers how many bytes it put to the front.
+// Reads until `held` is full or the input ends, and answers how many bytes it put to the front. `io::copy` would keep a second
+// buffer of 8 KiB. The replays have such a loop too, which a failed read ends: no crate below both is about input.
 fn read_full(input: &mut impl Read, held: &mut [u8]) -> io::Result<usize>
     ensures { ReadsAtMost result held.new }
 {

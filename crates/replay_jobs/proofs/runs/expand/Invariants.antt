@@ -1,8 +1,5 @@
-use Rattle.std.proofs.Common.{length, ◌≡◌, ◌≤◌, ◌-◌}
+use Rattle.std.proofs.Common.{length, ◌≤◌}
 use Rattle.replay_jobs.proofs.runs.expand.Given as goal
 
-abbrev pub invariant-loop-i : goal.invariant-loop-i
-invariant-loop-i l = (l.at ≤ length l.held) × (length l.held ≡ length l.initial.held)
-
-abbrev pub decreases-loop-i : goal.decreases-loop-i
-decreases-loop-i l = length l.runs - l.i
+abbrev pub invariant-loop-count : goal.invariant-loop-count
+invariant-loop-count l = l.at ≤ length l.held

@@ -17,10 +17,12 @@ pub fn row_to_d(a: [i64; 3]) -> [f64; 3]
     a.map(float::to_f64)
 }
 
+// Row by row: as `m.map(row_to_d)` a matvec_id took 23 ns in place of 14.
 pub fn mat_i_to_d(m: [[i64; 3]; 3]) -> [[f64; 3]; 3]
     ensures { result ≡ rows (to_floats m) }
 {
-    m.map(row_to_d)
+    let [x, y, z] = m;
+    [row_to_d(x), row_to_d(y), row_to_d(z)]
 }
 
 pub fn matvec_id(a: [[i64; 3]; 3], b: [f64; 3]) -> [f64; 3]

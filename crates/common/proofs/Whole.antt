@@ -13,59 +13,28 @@ use Rattle.common.specs.Fitting.{dot_fits_over, product_fits_over}
 use Rattle.common.specs.IntegerMatrix.{products_fit, dot_fits, product_fits, cross_fits, minors_fit, expand_fits, det_fits, largest_of, largest}
 use Rattle.common.proofs.Matrix.{axes-of, all-axes}
 
--- three products, the sum or difference of two, and that of all
-pub record Fitting (u v : Axis → ℤ) (both all : ℤ) : Type 0 where
+-- three products, the sum of two, and that of all
+pub record DotFits (u v : Axis → ℤ) : Type 0 where
   pub product : (k : Axis) → T (fits64 (u k *ℤ v k))
-  pub two : T (fits64 both)
-  pub whole : T (fits64 all)
+  pub two : T (fits64 (u X *ℤ v X +ℤ u Y *ℤ v Y))
+  pub whole : T (fits64 (dot integers u v))
 
-fitting : (u v : Axis → ℤ) (both all : ℤ) → T (products_fit u v && (fits64 both && fits64 all)) → Fitting u v both all
-fitting u v both all t =
-    let rest = and_r (products_fit u v) (fits64 both && fits64 all) t in
+pub dot-fits : (u v : Axis → ℤ) → T (dot_fits u v) → DotFits u v
+dot-fits u v t =
+    let two = fits64 (u X *ℤ v X +ℤ u Y *ℤ v Y) in
+    let all = fits64 (dot integers u v) in
+    let rest = and_r (products_fit u v) (two && all) t in
     record {
-      product = axes-of (λ k. fits64 (u k *ℤ v k)) (and_l (products_fit u v) (fits64 both && fits64 all) t);
-      two = and_l (fits64 both) (fits64 all) rest;
-      whole = and_r (fits64 both) (fits64 all) rest;
-    }
-
-pub dot-fits : (u v : Axis → ℤ) → T (dot_fits u v) → Fitting u v (u X *ℤ v X +ℤ u Y *ℤ v Y) (dot integers u v)
-dot-fits u v = fitting u v (u X *ℤ v X +ℤ u Y *ℤ v Y) (dot integers u v)
-
-pub expand-fits : (u v : Axis → ℤ) → T (expand_fits u v) → Fitting u v (u X *ℤ v X -ℤ u Y *ℤ v Y) (expand integers u v)
-expand-fits u v = fitting u v (u X *ℤ v X -ℤ u Y *ℤ v Y) (expand integers u v)
-
--- the two products of a minor, and their difference
-pub record CrossFits (j k m n : ℤ) : Type 0 where
-  pub main : T (fits64 (j *ℤ n))
-  pub other : T (fits64 (k *ℤ m))
-  pub whole : T (fits64 (cross integers j k m n))
-
-pub cross-fits : (j k m n : ℤ) → T (cross_fits j k m n) → CrossFits j k m n
-cross-fits j k m n t =
-    let rest = and_r (fits64 (j *ℤ n)) (fits64 (k *ℤ m) && fits64 (cross integers j k m n)) t in
-    record {
-      main = and_l (fits64 (j *ℤ n)) (fits64 (k *ℤ m) && fits64 (cross integers j k m n)) t;
-      other = and_l (fits64 (k *ℤ m)) (fits64 (cross integers j k m n)) rest;
-      whole = and_r (fits64 (k *ℤ m)) (fits64 (cross integers j k m n)) rest;
+      product = axes-of (λ k. fits64 (u k *ℤ v k)) (and_l (products_fit u v) (two && all) t);
+      two = and_l two all rest;
+      whole = and_r two all rest;
     }
 
 -- the tests of the minor without column k
-abbrev pub minor_fits : (y z : Axis → ℤ) → Axis → Bool
+abbrev minor_fits : (y z : Axis → ℤ) → Axis → Bool
 minor_fits y z X = cross_fits (y Y) (y Z) (z Y) (z Z)
 minor_fits y z Y = cross_fits (y X) (y Z) (z X) (z Z)
 minor_fits y z Z = cross_fits (y X) (y Y) (z X) (z Y)
-
-pub minor-fits : (y z : Axis → ℤ) → T (minors_fit y z) → (k : Axis) → T (minor_fits y z k)
-minor-fits y z t = axes-of (minor_fits y z) t
-
-module _ (m : Mat ℤ) (t : T (det_fits m)) where
-  pub det-minors : T (minors_fit (entry m Y) (entry m Z))
-  unfolding det_fits
-  det-minors = and_l (minors_fit (entry m Y) (entry m Z)) (expand_fits (entry m X) (minors integers (entry m Y) (entry m Z))) t
-
-  pub det-expand : T (expand_fits (entry m X) (minors integers (entry m Y) (entry m Z)))
-  unfolding det_fits
-  det-expand = and_r (minors_fit (entry m Y) (entry m Z)) (expand_fits (entry m X) (minors integers (entry m Y) (entry m Z))) t
 
 -- ---- by sizes: three products of numbers up to x and y
 module _ (x y : ℤ) {m n : ℕ} (h : nat_abs x ≤ m) (k : nat_abs y ≤ n) where

@@ -1,22 +1,22 @@
 // 3 by 3 matrices and vectors by value: three rows, or nine numbers by rows.
 ghost use Rattle.std.specs.Prelude.{◌≡◌, ◌+◌, ◌*◌, ◌≤◌, [], length};
 ghost use Rattle.common.specs.Matrix.{entries, transpose};
-ghost use Rattle.common.specs.Array.{rows, row_at_or, matrix_or, matrix_at_or};
+ghost use Rattle.common.specs.Array.{rows, row_at, matrix_at, matrix_or, matrix_at_or};
 
 use crate::entry::Entry;
 
 // Three numbers of a lent list.
-pub fn row_at<N: Entry>(list: &[N], at: usize) -> [N; 3]
+pub fn row_at(list: &[i64], at: usize) -> [i64; 3]
     requires { at + 3 ≤ length list.now }
-    ensures { result ≡ row_at_or N.none list.now at }
+    ensures { result ≡ row_at list.now at }
 {
     [list[at], list[at + 1], list[at + 2]]
 }
 
 // Matrix n of a lent list.
-pub fn matrix_at<N: Entry>(list: &[N], n: usize) -> [[N; 3]; 3]
+pub fn matrix_at(list: &[i64], n: usize) -> [[i64; 3]; 3]
     requires { n * 9 + 9 ≤ length list.now }
-    ensures { result ≡ rows (matrix_at_or N.none list.now n) }
+    ensures { result ≡ rows (matrix_at list.now n) }
 {
     let at = n * 9;
     [row_at(list, at), row_at(list, at + 3), row_at(list, at + 6)]

@@ -1,72 +1,40 @@
 -- What the tests of a product and of a determinant say of each number.
-use mathlib.Core.Path.{◌≡◌, refl}
-use mathlib.Core.Bool.{Bool, true, false, ◌&&◌}
-use Prim.Native.Nat.{ℕ, ◌+◌, ◌*◌, ◌≤◌, ◌<◌}
-use native.Mathlib.Nat.{le_refl, le_of_eq, le_of_lt, le_trans, add-le-add, mul-le-mul, lt_of_le_of_lt}
-use lib.Dec.{T, ltb, ltb→lt, lit<}
+use mathlib.Core.Bool.{Bool, ◌&&◌}
+use Prim.Native.Nat.{ℕ, ◌+◌, ◌*◌, ◌≤◌, max}
+use native.Mathlib.Nat.{le_of_eq, le-max_left, le-max_right, le_trans, add-le-add, mul-le-mul, lt_of_le_of_lt}
+use lib.Dec.{T, lit<}
 use lib.IntN.{ℤ, nat_abs, neg_ℤ, ◌+ℤ◌, ◌*ℤ◌, ◌-ℤ◌}
-use borrow.Author.Tests.{ltb-false}
-use Rattle.integer.specs.Checked.{fits64, pick}
+use Rattle.integer.specs.Checked.{fits64}
 use Rattle.integer.proofs.Test.{and_l, and_r, and_in}
 use Rattle.integer.proofs.Size.{abs_neg, abs-mul, abs-add}
 use Rattle.integer.proofs.Fits.{size_fits}
-use Rattle.common.specs.Matrix.{Axis, X, Y, Z, all_axes, Mat, entry, cross, dot, expand, minors, integers, det}
-use Rattle.common.specs.IntegerMatrix.{products_fit, dot_fits, product_fits, cross_fits, minors_fit, expand_fits, det_fits, larger, largest_of, largest}
+use Rattle.common.specs.Matrix.{Axis, X, Y, Z, all_axes, Mat, entry, Ops, cross, dot, expand, minors, integers, det}
+use Rattle.common.specs.Fitting.{dot_fits_over, product_fits_over}
+use Rattle.common.specs.IntegerMatrix.{products_fit, dot_fits, product_fits, cross_fits, minors_fit, expand_fits, det_fits, largest_of, largest}
 use Rattle.common.proofs.Matrix.{axes-of, all-axes}
 
--- three products, the sum or difference of two, and that of all
-pub record Fitting (u v : Axis → ℤ) (both all : ℤ) : Type 0 where
+-- three products, the sum of two, and that of all
+pub record DotFits (u v : Axis → ℤ) : Type 0 where
   pub product : (k : Axis) → T (fits64 (u k *ℤ v k))
-  pub two : T (fits64 both)
-  pub whole : T (fits64 all)
+  pub two : T (fits64 (u X *ℤ v X +ℤ u Y *ℤ v Y))
+  pub whole : T (fits64 (dot integers u v))
 
-fitting : (u v : Axis → ℤ) (both all : ℤ) → T (products_fit u v && (fits64 both && fits64 all)) → Fitting u v both all
-fitting u v both all t =
-    let rest = and_r (products_fit u v) (fits64 both && fits64 all) t in
+pub dot-fits : (u v : Axis → ℤ) → T (dot_fits u v) → DotFits u v
+dot-fits u v t =
+    let two = fits64 (u X *ℤ v X +ℤ u Y *ℤ v Y) in
+    let all = fits64 (dot integers u v) in
+    let rest = and_r (products_fit u v) (two && all) t in
     record {
-      product = axes-of (λ k. fits64 (u k *ℤ v k)) (and_l (products_fit u v) (fits64 both && fits64 all) t);
-      two = and_l (fits64 both) (fits64 all) rest;
-      whole = and_r (fits64 both) (fits64 all) rest;
-    }
-
-pub dot-fits : (u v : Axis → ℤ) → T (dot_fits u v) → Fitting u v (u X *ℤ v X +ℤ u Y *ℤ v Y) (dot integers u v)
-dot-fits u v = fitting u v (u X *ℤ v X +ℤ u Y *ℤ v Y) (dot integers u v)
-
-pub expand-fits : (u v : Axis → ℤ) → T (expand_fits u v) → Fitting u v (u X *ℤ v X -ℤ u Y *ℤ v Y) (expand integers u v)
-expand-fits u v = fitting u v (u X *ℤ v X -ℤ u Y *ℤ v Y) (expand integers u v)
-
--- the two products of a minor, and their difference
-pub record CrossFits (j k m n : ℤ) : Type 0 where
-  pub main : T (fits64 (j *ℤ n))
-  pub other : T (fits64 (k *ℤ m))
-  pub whole : T (fits64 (cross integers j k m n))
-
-pub cross-fits : (j k m n : ℤ) → T (cross_fits j k m n) → CrossFits j k m n
-cross-fits j k m n t =
-    let rest = and_r (fits64 (j *ℤ n)) (fits64 (k *ℤ m) && fits64 (cross integers j k m n)) t in
-    record {
-      main = and_l (fits64 (j *ℤ n)) (fits64 (k *ℤ m) && fits64 (cross integers j k m n)) t;
-      other = and_l (fits64 (k *ℤ m)) (fits64 (cross integers j k m n)) rest;
-      whole = and_r (fits64 (k *ℤ m)) (fits64 (cross integers j k m n)) rest;
+      product = axes-of (λ k. fits64 (u k *ℤ v k)) (and_l (products_fit u v) (two && all) t);
+      two = and_l two all rest;
+      whole = and_r two all rest;
     }
 
 -- the tests of the minor without column k
-abbrev pub minor_fits : (y z : Axis → ℤ) → Axis → Bool
+abbrev minor_fits : (y z : Axis → ℤ) → Axis → Bool
 minor_fits y z X = cross_fits (y Y) (y Z) (z Y) (z Z)
 minor_fits y z Y = cross_fits (y X) (y Z) (z X) (z Z)
 minor_fits y z Z = cross_fits (y X) (y Y) (z X) (z Y)
-
-pub minor-fits : (y z : Axis → ℤ) → T (minors_fit y z) → (k : Axis) → T (minor_fits y z k)
-minor-fits y z t = axes-of (minor_fits y z) t
-
-module _ (m : Mat ℤ) (t : T (det_fits m)) where
-  pub det-minors : T (minors_fit (entry m Y) (entry m Z))
-  unfolding det_fits
-  det-minors = and_l (minors_fit (entry m Y) (entry m Z)) (expand_fits (entry m X) (minors integers (entry m Y) (entry m Z))) t
-
-  pub det-expand : T (expand_fits (entry m X) (minors integers (entry m Y) (entry m Z)))
-  unfolding det_fits
-  det-expand = and_r (minors_fit (entry m Y) (entry m Z)) (expand_fits (entry m X) (minors integers (entry m Y) (entry m Z))) t
 
 -- ---- by sizes: three products of numbers up to x and y
 module _ (x y : ℤ) {m n : ℕ} (h : nat_abs x ≤ m) (k : nat_abs y ≤ n) where
@@ -141,33 +109,19 @@ module _ (m : Mat ℤ) (h : (j k : Axis) → nat_abs (entry m j k) ≤ 1000000) 
       (size_fits (expand integers u v) (lt_of_le_of_lt det-size (lit< tt)))))
 
 -- ---- the largest size
-larger-left : (a b : ℕ) → a ≤ larger a b
-larger-left a b = go (ltb a b) (ltb→lt a b)
-  where
-    go : (t : Bool) → (T t → a < b) → a ≤ pick t b a
-    go true h = le_of_lt (h tt)
-    go false h = le_refl a
-
-larger-right : (a b : ℕ) → b ≤ larger a b
-larger-right a b = go (ltb a b) refl
-  where
-    go : (t : Bool) → ltb a b ≡ t → b ≤ pick t b a
-    go true h = le_refl b
-    go false h = ltb-false a b h
-
 largest-of : (u : Axis → ℤ) (k : Axis) → nat_abs (u k) ≤ largest_of u
-largest-of u X = le_trans (larger-left (nat_abs (u X)) (nat_abs (u Y))) (larger-left (larger (nat_abs (u X)) (nat_abs (u Y))) (nat_abs (u Z)))
-largest-of u Y = le_trans (larger-right (nat_abs (u X)) (nat_abs (u Y))) (larger-left (larger (nat_abs (u X)) (nat_abs (u Y))) (nat_abs (u Z)))
-largest-of u Z = larger-right (larger (nat_abs (u X)) (nat_abs (u Y))) (nat_abs (u Z))
+largest-of u X = le_trans (le-max_left (nat_abs (u X)) (nat_abs (u Y))) (le-max_left (max (nat_abs (u X)) (nat_abs (u Y))) (nat_abs (u Z)))
+largest-of u Y = le_trans (le-max_right (nat_abs (u X)) (nat_abs (u Y))) (le-max_left (max (nat_abs (u X)) (nat_abs (u Y))) (nat_abs (u Z)))
+largest-of u Z = le-max_right (max (nat_abs (u X)) (nat_abs (u Y))) (nat_abs (u Z))
 
 pub entry-size : (m : Mat ℤ) (j k : Axis) → nat_abs (entry m j k) ≤ largest m
 unfolding largest
 entry-size m j k = le_trans (largest-of (entry m j) k) (of j)
   where
-    of : (j : Axis) → largest_of (entry m j) ≤ larger (larger (largest_of (entry m X)) (largest_of (entry m Y))) (largest_of (entry m Z))
-    of X = le_trans (larger-left (largest_of (entry m X)) (largest_of (entry m Y))) (larger-left (larger (largest_of (entry m X)) (largest_of (entry m Y))) (largest_of (entry m Z)))
-    of Y = le_trans (larger-right (largest_of (entry m X)) (largest_of (entry m Y))) (larger-left (larger (largest_of (entry m X)) (largest_of (entry m Y))) (largest_of (entry m Z)))
-    of Z = larger-right (larger (largest_of (entry m X)) (largest_of (entry m Y))) (largest_of (entry m Z))
+    of : (j : Axis) → largest_of (entry m j) ≤ max (max (largest_of (entry m X)) (largest_of (entry m Y))) (largest_of (entry m Z))
+    of X = le_trans (le-max_left (largest_of (entry m X)) (largest_of (entry m Y))) (le-max_left (max (largest_of (entry m X)) (largest_of (entry m Y))) (largest_of (entry m Z)))
+    of Y = le_trans (le-max_right (largest_of (entry m X)) (largest_of (entry m Y))) (le-max_left (max (largest_of (entry m X)) (largest_of (entry m Y))) (largest_of (entry m Z)))
+    of Z = le-max_right (max (largest_of (entry m X)) (largest_of (entry m Y))) (largest_of (entry m Z))
 
 -- of entries up to x and y
 pub sized-product : (l m : Mat ℤ) (x y : ℕ) → ((j k : Axis) → nat_abs (entry l j k) ≤ x) → ((j k : Axis) → nat_abs (entry m j k) ≤ y) → x * y ≤ 3074457345618258602 → T (product_fits l m)
@@ -176,13 +130,20 @@ sized-product l m x y f g h =
     all-axes (λ j. all_axes (λ k. dot_fits (entry l j) (λ n. entry m n k))) (λ j. all-axes (λ k. dot_fits (entry l j) (λ n. entry m n k)) (λ k.
     sized-dot (entry l j) (λ n. entry m n k) x y (f j) (λ n. g n k) h))
 
-pub sized-products : (l a b : Mat ℤ) → largest l * larger (largest a) (largest b) ≤ 3074457345618258602 → T (product_fits l a && product_fits l b)
+pub sized-products : (l a b : Mat ℤ) → largest l * max (largest a) (largest b) ≤ 3074457345618258602 → T (product_fits l a && product_fits l b)
 sized-products l a b h =
     and_in (product_fits l a) (product_fits l b)
-    (sized-product l a (largest l) (larger (largest a) (largest b)) (entry-size l) (λ j k. le_trans (entry-size a j k) (larger-left (largest a) (largest b))) h)
-    (sized-product l b (largest l) (larger (largest a) (largest b)) (entry-size l) (λ j k. le_trans (entry-size b j k) (larger-right (largest a) (largest b))) h)
+    (sized-product l a (largest l) (max (largest a) (largest b)) (entry-size l) (λ j k. le_trans (entry-size a j k) (le-max_left (largest a) (largest b))) h)
+    (sized-product l b (largest l) (max (largest a) (largest b)) (entry-size l) (λ j k. le_trans (entry-size b j k) (le-max_right (largest a) (largest b))) h)
 
 -- ---- each row with each column
+module _ {R : Type 0} (o : Ops R) (fits : R → Bool) (l m : Mat R) (t : T (product_fits_over o fits l m)) where
+  each-row : (j : Axis) → T (all_axes (λ k. dot_fits_over o fits (entry l j) (λ n. entry m n k)))
+  each-row = axes-of (λ j. all_axes (λ k. dot_fits_over o fits (entry l j) (λ n. entry m n k))) t
+
+  pub each-dot : (j k : Axis) → T (dot_fits_over o fits (entry l j) (λ n. entry m n k))
+  each-dot j = axes-of (λ k. dot_fits_over o fits (entry l j) (λ n. entry m n k)) (each-row j)
+
 pub row_fits : (l m : Mat ℤ) → T (product_fits l m) → (j : Axis) → T (all_axes (λ k. dot_fits (entry l j) (λ n. entry m n k)))
 unfolding product_fits
-row_fits l m t = axes-of (λ j. all_axes (λ k. dot_fits (entry l j) (λ n. entry m n k))) t
+row_fits l m t = each-row integers fits64 l m t

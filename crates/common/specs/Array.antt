@@ -7,12 +7,31 @@ number X = 0
 number Y = 1
 number Z = 2
 
--- the number along an axis
+-- what an array or a nested array holds, and `none` where there is no such place
+module _ {A : Type 0} (none : A) where
+  -- the number along an axis
+  abbrev pub along_or : List A → Axis → A
+  along_or l k = get_or l (number k) none
+
+  abbrev pub vector_or : List A → Vec A
+  vector_or l = vector (along_or l)
+
+  abbrev pub matrix_or : List (List A) → Mat A
+  matrix_or m = matrix (λ j k. get_or (get_or m (number j) []) (number k) none)
+
+  -- three numbers of a list
+  abbrev pub row_at_or : List A → ℕ → List A
+  row_at_or l n = get_or l n none ∷ get_or l (n + 1) none ∷ get_or l (n + 2) none ∷ []
+
+  -- matrix n of a list
+  abbrev pub matrix_at_or : List A → ℕ → Mat A
+  matrix_at_or l n = matrix (λ j k. get_or l (n * 9 + number j * 3 + number k) none)
+
 abbrev pub along : List ℤ → Axis → ℤ
-along l k = get_or l (number k) (pos 0)
+along = along_or (pos 0)
 
 abbrev pub vector_of : List ℤ → Vec ℤ
-vector_of l = vector (along l)
+vector_of = vector_or (pos 0)
 
 -- the diagonal numbers, which are positive
 abbrev pub sides_of : List ℤ → Vec ℕ
@@ -22,22 +41,16 @@ abbrev pub items : {A : Type 0} → Vec A → List A
 items v = v.x ∷ v.y ∷ v.z ∷ []
 
 abbrev pub matrix_of : List (List ℤ) → Mat ℤ
-matrix_of m = matrix (λ j k. get_or (get_or m (number j) []) (number k) (pos 0))
+matrix_of = matrix_or (pos 0)
 
 abbrev pub rows : {A : Type 0} → Mat A → List (List A)
 rows m = (m.a ∷ m.b ∷ m.c ∷ []) ∷ (m.d ∷ m.e ∷ m.f ∷ []) ∷ (m.g ∷ m.h ∷ m.i ∷ []) ∷ []
 
--- three numbers of a list
 abbrev pub row_at : List ℤ → ℕ → List ℤ
-row_at l n = get_or l n (pos 0) ∷ get_or l (n + 1) (pos 0) ∷ get_or l (n + 2) (pos 0) ∷ []
+row_at = row_at_or (pos 0)
 
--- one number of each row
-abbrev pub column_at : List (List ℤ) → ℕ → List ℤ
-column_at m k = get_or (get_or m 0 []) k (pos 0) ∷ get_or (get_or m 1 []) k (pos 0) ∷ get_or (get_or m 2 []) k (pos 0) ∷ []
-
--- matrix n of a list
 abbrev pub matrix_at : List ℤ → ℕ → Mat ℤ
-matrix_at l n = matrix (λ j k. get_or l (n * 9 + number j * 3 + number k) (pos 0))
+matrix_at = matrix_at_or (pos 0)
 
 -- the next m, from matrix n on
 abbrev pub matrices_from : List ℤ → ℕ → ℕ → List (Mat ℤ)

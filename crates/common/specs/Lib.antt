@@ -1,5 +1,6 @@
 pub mod Matrix
 pub mod Array
+pub mod Fitting
 pub mod IntegerMatrix
 pub mod FloatMatrix
 pub mod Limits

@@ -1,8 +1,9 @@
-// 3 by 3 matrices and vectors by value.
-ghost use Rattle.std.specs.Prelude.{◌≡◌, ◌+◌, ◌*◌, ◌≤◌, T, length};
-ghost use Rattle.common.specs.Matrix.{◌▹◌};
-ghost use Rattle.common.specs.Array.{along, vector_of, items, matrix_of, rows, row_at, matrix_at, dot_of};
-ghost use Rattle.common.specs.IntegerMatrix.{dot_fits, apply_fits};
+// 3 by 3 matrices and vectors by value: three rows, or nine numbers by rows.
+ghost use Rattle.std.specs.Prelude.{◌≡◌, ◌+◌, ◌*◌, ◌≤◌, [], length};
+ghost use Rattle.common.specs.Matrix.{entries, transpose};
+ghost use Rattle.common.specs.Array.{rows, row_at, matrix_at, matrix_or, matrix_at_or};
+
+use crate::entry::Entry;
 
 // Three numbers of a lent list.
 pub fn row_at(list: &[i64], at: usize) -> [i64; 3]
@@ -21,20 +22,25 @@ pub fn matrix_at(list: &[i64], n: usize) -> [[i64; 3]; 3]
     [row_at(list, at), row_at(list, at + 3), row_at(list, at + 6)]
 }
 
-// Where every number on the way fits.
-pub fn dot_i(a: [i64; 3], b: [i64; 3]) -> i64
-    requires { T (dot_fits (along a) (along b)) }
-    ensures { result ≡ dot_of a b }
+// A record holds a matrix flat, by rows.
+pub fn flat<N: Entry>(m: [[N; 3]; 3]) -> [N; 9]
+    ensures { result ≡ entries (matrix_or N.none m) [] }
 {
-    a[0] * b[0] + a[1] * b[1] + a[2] * b[2]
+    let [[a, b, c], [d, e, f], [g, h, i]] = m;
+    [a, b, c, d, e, f, g, h, i]
 }
 
-pub fn matvec_ii(a: [[i64; 3]; 3], b: [i64; 3]) -> [i64; 3]
-    requires { T (apply_fits (matrix_of a) (vector_of b)) }
-    ensures { result ≡ items (matrix_of a ▹ vector_of b) }
+// And back.
+pub fn nested<N: Entry>(m: [N; 9]) -> [[N; 3]; 3]
+    ensures { result ≡ rows (matrix_at_or N.none m 0) }
 {
-    let x = a[0];
-    let y = a[1];
-    let z = a[2];
-    [dot_i(x, b), dot_i(y, b), dot_i(z, b)]
+    let [a, b, c, d, e, f, g, h, i] = m;
+    [[a, b, c], [d, e, f], [g, h, i]]
+}
+
+pub fn transpose<N: Entry>(m: [[N; 3]; 3]) -> [[N; 3]; 3]
+    ensures { result ≡ rows (transpose (matrix_or N.none m)) }
+{
+    let [[a, b, c], [d, e, f], [g, h, i]] = m;
+    [[a, d, g], [b, e, h], [c, f, i]]
 }

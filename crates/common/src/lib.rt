@@ -1,13 +1,17 @@
 // What the modules share: limits, refusals and the filling of outputs.
 #![tactic(auto)]
 
+mod algebra;
 mod array;
+mod entry;
 mod limits;
 
 ghost use Rattle.std.specs.Prelude.{◌≡◌, ◌<◌, pos, length, replicate};
 ghost use Rattle.common.specs.Refusal.{number_of};
 
-pub use array::{dot_i, matrix_at, matvec_ii, row_at};
+pub use algebra::{apply, cross, det, dot, matmul, matvec_ii, minors};
+pub use array::{flat, matrix_at, nested, row_at, transpose};
+pub use entry::Entry;
 pub use limits::{
     all_three, all_within, diagonal_fits, is_thrice, matrix_within, point_fits, rotations_fit,
     row_within, same_row, shift_fits, whole_matrices, within,

@@ -1,27 +1,27 @@
 -- The definition by what the two calls returned, and the products by what `product` returned.
-use mathlib.Core.Path.{◌≡◌, refl, sym, ◌∙◌, ap}
-use mathlib.Core.Bool.{Bool, true}
+use mathlib.Core.Path.{◌≡◌, refl, ◌∙◌, ap}
+use mathlib.Core.Bool.{Bool, true, false, ◌&&◌}
 use mathlib.Core.List.{List, [], ◌∷◌}
 use Prim.Native.Nat.{ℕ, suc, ◌<◌}
 use native.Mathlib.Omega.{arith}
-use lib.IntN.{ℤ, pos, negsuc}
-use lib.ListN.{length, get_or, drop, replicate, drop_of_length-le}
+use lib.IntN.{ℤ, pos}
+use lib.ListN.{length, get_or, drop, drop_of_length-le}
 use lib.Seq.{drop-cons}
-use Rattle.std.specs.Prelude.{Err}
-use Rattle.common.specs.Tested.{Accepted}
+use Rattle.std.specs.Prelude.{Option, Some, None, Result, Ok, Err}
 use Rattle.integer.specs.Checked.{pick}
 use Rattle.common.specs.declared.Refusal.{Refusal}
-use Rattle.common.specs.Matrix.{Mat, entries, ◌·◌, diagonal}
+use Rattle.common.specs.declared.Refusal.TheVariants.{Overflow}
+use Rattle.common.specs.Matrix.{Vec, Mat, entries, ◌·◌, diagonal}
+use Rattle.common.specs.IntegerMatrix.{product_fits}
 use Rattle.common.specs.Array.{vector_of, matrix_at, items}
+use Rattle.snf_steps.specs.Then.{provided}
+use Rattle.snf3x3.specs.declared.Snf.{Snf}
 use Rattle.snf3x3.specs.Snf3x3 as first
 use Rattle.snf3x3.specs.Snf3x3.{snf3x3_unlimited}
-use Rattle.snf3x3.specs.Written.{written}
-use Rattle.smith3x3.specs.declared.Joined.{Joined}
-use Rattle.smith3x3.specs.Written.{product_of}
-use Rattle.smith3x3.specs.Smith3x3.{refused, multiplied, joined, again}
-
-never : ◌≡◌ {A = ℕ} 0 1 → ⊥
-never e = omega arith
+use Rattle.snf3x3.specs.Written as snf
+use Rattle.smith3x3.specs.declared.Smith.{Smith}
+use Rattle.smith3x3.specs.Written.{written, product_of}
+use Rattle.smith3x3.specs.Smith3x3.{Answer, refused, divided, multiplied, joined, again}
 
 -- three numbers
 pub three-items : (l : List ℤ) → length l ≡ 3 → l ≡ items (vector_of l)
@@ -30,26 +30,33 @@ three-items l e = from 0 (omega (arith, e)) (from 1 (omega (arith, e)) (from 2 (
     from : (n : ℕ) {rest : List ℤ} → n < length l → drop (suc n) l ≡ rest → drop n l ≡ get_or l n (pos 0) ∷ rest
     from n h r = drop-cons l n (pos 0) h ∙ ap (λ r. get_or l n (pos 0) ∷ r) r
 
--- a product that fits
-pub product-entries : (l m : Mat ℤ) {x : Joined} → x ≡ product_of l m → x.fits ≡ true → x.m ≡ entries (l · m) []
-product-entries l m e t = ap (λ v. v.m) e ∙ ap (λ (b : Bool). pick b (entries (l · m) []) (replicate 9 (negsuc 0))) (sym (ap (λ v. v.fits) e) ∙ t)
+-- the two products
+abbrev pub both-products : List ℤ → Option (List ℤ) → Option (List ℤ) → Result Smith Refusal
+both-products d None q = Err Overflow
+both-products d (Some p) None = Err Overflow
+both-products d (Some p) (Some q) = Ok (record { d_diag = d; p = p; q = q })
 
--- ---- the second call
-pub second-accepted : (p q : Mat ℤ) (w : first.Answer) → (written w).tested ≡ Accepted
-    → joined p q w ≡ multiplied (vector_of (written w).d_diag) p q (matrix_at (written w).p 0) (matrix_at (written w).q 0)
-second-accepted p q (first.refused r) e = let z : ◌≡◌ {A = ℕ} 0 1 = cc in absurd (never z)
-second-accepted p q (first.diagonalised d p' q' n) e = refl
+pub multiplied-by : (d : Vec ℤ) (p q p' q' : Mat ℤ) → both-products (items d) (product_of p' p) (product_of q q') ≡ written (multiplied d p q p' q')
+multiplied-by d p q p' q' = by (product_fits p' p) (product_fits q q')
+  where
+    by : (t u : Bool) → both-products (items d) (provided t (entries (p' · p) [])) (provided u (entries (q · q') [])) ≡ written (pick (t && u) (divided d (p' · p) (q · q')) (refused Overflow))
+    by true true = refl
+    by true false = refl
+    by false u = refl
 
-pub second-refused : (p q : Mat ℤ) (w : first.Answer) {r : Refusal} → (written w).tested ≡ Err r → joined p q w ≡ refused r
-second-refused p q (first.refused r) {r = r'} e = let z : r ≡ r' = cc in (λ i. refused (z i))
-second-refused p q (first.diagonalised d p' q' n) e = let z : ◌≡◌ {A = ℕ} 0 1 = cc in absurd (never z)
+-- after the second call, and after the first
+abbrev pub after-second : (p q : Mat ℤ) → Result Snf Refusal → Answer
+after-second p q (Ok s) = multiplied (vector_of s.d_diag) p q (matrix_at s.p 0) (matrix_at s.q 0)
+after-second p q (Err r) = refused r
 
--- ---- the first call
-pub first-accepted : (w : first.Answer) → (written w).tested ≡ Accepted
-    → again w ≡ joined (matrix_at (written w).p 0) (matrix_at (written w).q 0) (snf3x3_unlimited (diagonal (vector_of (written w).d_diag)))
-first-accepted (first.refused r) e = let z : ◌≡◌ {A = ℕ} 0 1 = cc in absurd (never z)
-first-accepted (first.diagonalised d p q n) e = refl
+pub joined-by : (p q : Mat ℤ) (w : first.Answer) → after-second p q (snf.written w) ≡ joined p q w
+joined-by p q (first.refused r) = refl
+joined-by p q (first.diagonalised d p' q' n) = refl
 
-pub first-refused : (w : first.Answer) {r : Refusal} → (written w).tested ≡ Err r → again w ≡ refused r
-first-refused (first.refused r) {r = r'} e = let z : r ≡ r' = cc in (λ i. refused (z i))
-first-refused (first.diagonalised d p q n) e = let z : ◌≡◌ {A = ℕ} 0 1 = cc in absurd (never z)
+abbrev pub after_first : Result Snf Refusal → Answer
+after_first (Ok s) = joined (matrix_at s.p 0) (matrix_at s.q 0) (snf3x3_unlimited (diagonal (vector_of s.d_diag)))
+after_first (Err r) = refused r
+
+pub again-by : (w : first.Answer) → after_first (snf.written w) ≡ again w
+again-by (first.refused r) = refl
+again-by (first.diagonalised d p q n) = refl

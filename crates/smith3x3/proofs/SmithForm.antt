@@ -7,6 +7,7 @@ use native.Mathlib.Nat.{mul-pos}
 use lib.Dec.{T_not, lt→ltb}
 use lib.IntN.{ℤ, pos, nat_abs, ◌*ℤ◌}
 use lib.Signed.{◌<ℤ◌, lt_z_yes}
+use Rattle.std.specs.Prelude.{Option, Some, Result}
 use Rattle.integer.specs.Checked.{is_zero, pick}
 use Rattle.integer.proofs.Test.{pick-cases}
 use Rattle.integer.proofs.Size.{test-nonzero}
@@ -15,9 +16,8 @@ use Rattle.common.specs.declared.Refusal.TheVariants.{Singular, Overflow}
 use Rattle.common.specs.Matrix.{Axis, X, Y, Z, Vec, Mat, side, entry, ◌·◌, det, diagonal}
 use Rattle.common.specs.IntegerMatrix.{product_fits, det_fits}
 use Rattle.common.proofs.Matrix.{product-assoc, det-product, det-diagonal}
-use Rattle.common.proofs.Tests.{not-accepted}
 use Rattle.common.proofs.Unimodular.{Regular, unimodular-product}
-use Rattle.snf_steps.specs.Result.{Result, ok, ◌then◌}
+use Rattle.snf_steps.specs.Then.{◌then◌}
 use Rattle.snf_steps.specs.Stages.{Triple, through, second}
 use Rattle.snf_steps.specs.Finalize.{finalize}
 use Rattle.snf_steps.proofs.Accepted as steps
@@ -54,7 +54,7 @@ abbrev pub Tells : (S : Refusal → Type 0) (R : (x y z : ℕ) → Type 0) → f
 Tells S R (first.refused r) = S r
 Tells S R (first.diagonalised d p q n) = Told R d
 
-answer-tells : (S : Refusal → Type 0) {R : (x y z : ℕ) → Type 0} (n : ℕ) {m : Result Triple} → S Overflow → steps.Accepted (Numbers R) m → Tells S R (answer n m)
+answer-tells : (S : Refusal → Type 0) {R : (x y z : ℕ) → Type 0} (n : ℕ) {m : Option Triple} → S Overflow → steps.Accepted (Numbers R) m → Tells S R (answer n m)
 answer-tells S n o overflowed = o
 answer-tells S n o (accepted {x = s} k) =
     let e = k.shows.is in
@@ -78,7 +78,7 @@ diagonal-round : (d : Vec ℤ) → round (begun (diagonal d)) ≡ through (begun
 unfolding round
 diagonal-round d =
     let s = begun (diagonal d) in
-    ap (λ r. r then λ o. pick o.done (second o.left) (ok o)) (first-kept s refl refl refl refl) ∙ second-kept s refl refl
+    ap (λ r. r then λ o. pick o.done (second o.left) (Some o)) (first-kept s refl refl refl refl) ∙ second-kept s refl refl
 
 diagonal-rounds : (d : Vec ℤ) → rounds 100 0 (begun (diagonal d)) ≡ answer 1 (finalize (begun (diagonal d)))
 unfolding rounds
@@ -155,8 +155,8 @@ module _ (A : Mat ℤ) where
 
   -- the theorem, of what the call returns
   returned : (w : Answer) → Right A w → Promised A (written w)
-  returned (refused r) f = record { form = λ e. absurd (not-accepted e); refusals = λ w e. let z : r ≡ w = cc in subst Given z f }
-  returned (divided d P Q) f = record { form = λ _. f; refusals = λ w e. absurd (not-accepted (sym e)) }
+  returned (refused r) f = record { form = tt; refusals = f }
+  returned (divided d P Q) f = record { form = f; refusals = tt }
 
-  pub promised : (r : Smith) → r ≡ written (smith3x3 A) → Promised A r
+  pub promised : (r : Result Smith Refusal) → r ≡ written (smith3x3 A) → Promised A r
   promised r e = subst (Promised A) (sym e) (returned (smith3x3 A) answer-right)

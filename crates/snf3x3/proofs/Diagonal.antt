@@ -3,6 +3,7 @@ use mathlib.Core.Path.{◌≡◌, refl, sym, ◌∙◌, ap, subst}
 use Prim.Native.Nat.{ℕ, zero, suc}
 use lib.Dec.{T, T_not}
 use lib.IntN.{ℤ, pos}
+use Rattle.std.specs.Prelude.{Option, Some}
 use Rattle.integer.specs.Checked.{is_zero, pick}
 use Rattle.integer.proofs.Test.{pick-cases}
 use Rattle.integer.proofs.Size.{nonzero-test}
@@ -12,7 +13,6 @@ use Rattle.common.specs.Matrix.{Vec, Mat, ◌·◌, det, diagonal, identity}
 use Rattle.common.specs.IntegerMatrix.{det_fits}
 use Rattle.common.proofs.Matrix.{identity-product, product-identity}
 use Rattle.common.proofs.Unimodular.{Regular, Unimodular, unimodular-transpose}
-use Rattle.snf_steps.specs.Result.{Result, ok}
 use Rattle.snf_steps.specs.Stages.{Triple, Outcome, second}
 use Rattle.snf_steps.specs.Finalize.{finalize}
 use Rattle.common.specs.Limits.{matrix_within}
@@ -47,15 +47,15 @@ pub record RoundLeft (A : Mat ℤ) (o : Outcome) : Type 0 where
 pub round-leaves : (A : Mat ℤ) → Regular A → (s : Triple) → Sound A s → Accepted (RoundLeft A) (round s)
 unfolding round
 round-leaves A r s v =
-    accepted-bind (λ o. pick o.done (second o.left) (ok o)) (first-leaves A r s v) (λ o w.
-    accepted-pick o.done (second o.left) (ok o)
+    accepted-bind (λ o. pick o.done (second o.left) (Some o)) (first-leaves A r s v) (λ o w.
+    accepted-pick o.done (second o.left) (Some o)
     (λ t. accepted-map (second-leaves A r o.left w.pivot.sound (w.block t)) (λ u x. record { sound = x.pivot.sound; diagonal = x.diagonal }))
     (λ n. accepted (record { sound = w.pivot.sound; diagonal = λ t. absurd (T_not o.done n t) })))
 
 -- what holds of every refusal and of every diagonal that is finalized holds of the walk's answer
 module _ (A : Mat ℤ) (R : Answer → Type 0) (refusal : (r : Refusal) → R (refused r))
     (ended : Regular A → (n : ℕ) (s : Triple) → SoundDiagonal A s → R (answer n (finalize s))) where
-  after-by : Regular A → (n : ℕ) (more : Triple → Answer) {m : Result Outcome} → ((s : Triple) → Sound A s → R (more s)) → Accepted (RoundLeft A) m → R (after n more m)
+  after-by : Regular A → (n : ℕ) (more : Triple → Answer) {m : Option Outcome} → ((s : Triple) → Sound A s → R (more s)) → Accepted (RoundLeft A) m → R (after n more m)
   after-by r n more f overflowed = refusal Overflow
   after-by r n more f (accepted {x = o} v) =
       pick-cases o.done (answer n (finalize o.left)) (more o.left) R
@@ -83,7 +83,7 @@ module _ (A : Mat ℤ) (R : Answer → Type 0) (refusal : (r : Refusal) → R (r
 
 -- ---- the theorem
 module _ (A : Mat ℤ) where
-  answer-right : (n : ℕ) {m : Result Triple} → Accepted (Finalized A) m → Right A (answer n m)
+  answer-right : (n : ℕ) {m : Option Triple} → Accepted (Finalized A) m → Right A (answer n m)
   answer-right n overflowed = tt
   answer-right n (accepted {x = s} d) =
       let e = d.diagonal.is in

@@ -4,11 +4,12 @@ use mathlib.Core.List.{List, [], ◌∷◌}
 use Prim.Native.Nat.{ℕ}
 use native.Mathlib.Omega.{arith}
 use lib.IntN.{ℤ, pos, negsuc}
+use Rattle.std.specs.Prelude.{Option, Some, None}
 use Rattle.common.specs.Refusal.{number_of}
 use Rattle.common.specs.Matrix.{Mat, entries, diagonal, identity}
 use Rattle.common.specs.IntegerMatrix.{product_fits, det_fits}
-use Rattle.snf_steps.specs.Result.{Result, ok, overflow}
-use Rattle.snf_steps.specs.Gcd.{Euclid, step, euclid, extended_gcd, divisions, steps}
+use Rattle.snf_steps.specs.declared.gcd.Euclid.{Euclid}
+use Rattle.snf_steps.specs.Gcd.{step, euclid, extended_gcd, divisions, steps}
 use Rattle.snf_steps.specs.Columns.{multiply, make_zero, first_column, second_column}
 use Rattle.snf_steps.specs.Pivot.{pivot}
 use Rattle.snf_steps.specs.Stages.{Triple, one_loop, first, second, again}
@@ -30,9 +31,9 @@ numbers (refused r) = pos (number_of r) ∷ []
 numbers (diagonalised d p q n) = pos n ∷ d.x ∷ d.y ∷ d.z ∷ entries p (entries q [])
 
 -- r, s and t, or the refusal 4
-abbrev gcd : Result Euclid → List ℤ
-gcd (ok e) = e.r ∷ e.s ∷ e.t ∷ []
-gcd overflow = []
+abbrev gcd : Option Euclid → List ℤ
+gcd (Some e) = e.r ∷ e.s ∷ e.t ∷ []
+gcd None = []
 
 abbrev diag : ℕ → ℕ → ℕ → List ℤ
 diag x y z = numbers (snf3x3 (diagonal (record { x = pos x; y = pos y; z = pos z })))

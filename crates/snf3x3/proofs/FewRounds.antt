@@ -7,6 +7,7 @@ use native.Mathlib.Nat.{le_trans, lt_of_le_of_lt}
 use native.Mathlib.Omega.{arith}
 use lib.Dec.{T, lit≤, lit<, le→leb}
 use lib.IntN.{ℤ, nat_abs, ◌*ℤ◌}
+use Rattle.std.specs.Prelude.{Option, Some, None, Result, Ok, Err}
 use Rattle.integer.specs.Checked.{is_zero, pick}
 use Rattle.integer.specs.Divides.{Divides}
 use Rattle.integer.proofs.Ring.{*ℤ-1, *ℤ-assoc}
@@ -23,7 +24,6 @@ use Rattle.common.proofs.Tests.{not-accepted}
 use Rattle.common.proofs.Bounds.{matrix-sizes}
 use Rattle.common.proofs.Unimodular.{Regular}
 use Rattle.common.proofs.Whole.{det-size}
-use Rattle.snf_steps.specs.Result.{Result, ok, overflow}
 use Rattle.snf_steps.specs.Stages.{Triple, Outcome}
 use Rattle.snf_steps.specs.Finalize.{finalize}
 use Rattle.snf_steps.proofs.Accepted.{Accepted, accepted, overflowed, accepted-both}
@@ -61,15 +61,15 @@ unit-divides : (d z : ℤ) → nat_abs d < 2 → zero < nat_abs d → Divides d 
 unit-divides d z h l = let e : nat_abs d ≡ 1 = omega arith in record { times = z *ℤ d; is = sym (*ℤ-assoc z d d ∙ ap (λ x. z *ℤ x) (unit-square d e) ∙ *ℤ-1 z) }
 
 -- ---- rounds without an answer
-answer-within : (n N : ℕ) (m : Result Triple) → n ≤ N → Within N (answer n m)
-answer-within n N (ok s) h = h
-answer-within n N overflow h = by-overflow
+answer-within : (n N : ℕ) (m : Option Triple) → n ≤ N → Within N (answer n m)
+answer-within n N (Some s) h = h
+answer-within n N None h = by-overflow
 
 within_more : {M N : ℕ} (a : Answer) → M ≤ N → Within M a → Within N a
 within_more (refused x) h w = w
 within_more (diagonalised d p q n) h w = le_trans w h
 
-after-within : {P : Outcome → Type 0} (n N : ℕ) (more : Triple → Answer) {m : Result Outcome} → n ≤ N → Accepted P m
+after-within : {P : Outcome → Type 0} (n N : ℕ) (more : Triple → Answer) {m : Option Outcome} → n ≤ N → Accepted P m
     → ((o : Outcome) → T (not o.done) → P o → Within N (more o.left)) → Within N (after n more m)
 after-within n N more l overflowed f = by-overflow
 after-within n N more l (accepted {x = o} p) f =
@@ -155,8 +155,11 @@ few-rounds = record {
 -- ---- of what the call returns
 written-within : (w : Answer) → Within 82 w → RoundsWithin 82 (written w)
 written-within (refused x) h = record { rounds = tt; converges = λ e. never-two h cc }
-written-within (diagonalised d P Q n) h = record { rounds = le→leb n 82 h; converges = λ e. absurd (not-accepted (sym e)) }
+written-within (diagonalised d P Q n) h = record { rounds = le→leb n 82 h; converges = λ e. subst refusal (sym e) tt }
+  where
+    refusal : Result Snf Refusal → Type 0
+    refusal (Ok s) = ⊥
+    refusal (Err r) = Unit {0}
 
--- both promises of the call
-pub promised : (A : Mat ℤ) {r : Snf} → r ≡ written (snf3x3 A) → (r ≡ written (snf3x3 A)) × RoundsWithin 82 r
-promised A e = (e, subst (RoundsWithin 82) (sym e) (written-within (snf3x3 A) (rounds-within A)))
+pub call_within : (A : Mat ℤ) → RoundsWithin 82 (written (snf3x3 A))
+call_within A = written-within (snf3x3 A) (rounds-within A)

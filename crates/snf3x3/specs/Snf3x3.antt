@@ -1,12 +1,12 @@
 -- Diagonalising a 3 by 3 matrix: the walk of the Rust's snf3x3 on whole numbers, with its rounds.
-use Rattle.std.specs.Prelude.{ℕ, zero, suc, ℤ}
+use Rattle.std.specs.Prelude.{ℕ, zero, suc, ℤ, Option, Some, None}
 use Rattle.integer.specs.Checked.{is_zero, pick}
 use Rattle.common.specs.declared.Refusal.{Refusal}
 use Rattle.common.specs.declared.Refusal.TheVariants.{Singular, NotConverged, OutsideLimits, Overflow}
 use Rattle.common.specs.Limits.{matrix_within}
 use Rattle.common.specs.IntegerMatrix.{det_fits}
 use Rattle.common.specs.Matrix.{Vec, Mat, transpose, det, identity}
-use Rattle.snf_steps.specs.Result.{Result, ok, overflow, ◌then◌}
+use Rattle.snf_steps.specs.Then.{◌then◌}
 use Rattle.snf_steps.specs.Stages.{Triple, Outcome, first, second}
 use Rattle.snf_steps.specs.Finalize.{finalize}
 
@@ -15,17 +15,17 @@ pub data Answer : Type 0 where
   diagonalised : (d : Vec ℤ) (p q : Mat ℤ) (rounds : ℕ) → Answer
 
 -- after n rounds
-abbrev pub answer : ℕ → Result Triple → Answer
-answer n overflow = refused Overflow
-answer n (ok s) = diagonalised (record { x = s.a.a; y = s.a.e; z = s.a.i }) s.p (transpose s.q) n
+abbrev pub answer : ℕ → Option Triple → Answer
+answer n None = refused Overflow
+answer n (Some s) = diagonalised (record { x = s.a.a; y = s.a.e; z = s.a.i }) s.p (transpose s.q) n
 
-unfoldable pub round : Triple → Result Outcome
-round s = first s then λ o. pick o.done (second o.left) (ok o)
+unfoldable pub round : Triple → Option Outcome
+round s = first s then λ o. pick o.done (second o.left) (Some o)
 
 -- after n rounds: the answer, or what the other rounds give
-abbrev pub after : ℕ → (Triple → Answer) → Result Outcome → Answer
-after n more overflow = refused Overflow
-after n more (ok o) = pick o.done (answer n (finalize o.left)) (more o.left)
+abbrev pub after : ℕ → (Triple → Answer) → Option Outcome → Answer
+after n more None = refused Overflow
+after n more (Some o) = pick o.done (answer n (finalize o.left)) (more o.left)
 
 -- m rounds are left, n were made
 unfoldable pub rounds : (m n : ℕ) → Triple → Answer

@@ -8,6 +8,7 @@ use native.Mathlib.Omega.{arith}
 use mathlib.Core.Logic.{⊎_elim}
 use lib.Dec.{T, lit≤}
 use lib.IntN.{ℤ, pos, negsuc, neg_ℤ, nat_abs, ◌+ℤ◌, ◌*ℤ◌, ◌-ℤ◌, *ℤ-zero}
+use Rattle.std.specs.Prelude.{Some}
 use Rattle.integer.specs.Checked.{is_zero}
 use Rattle.integer.specs.Division.{div_euclid, rem_euclid}
 use Rattle.integer.specs.Divides.{Divides, IsGcd}
@@ -16,35 +17,36 @@ use Rattle.integer.proofs.Reify.{ring, reify, zero-by, ◌∗◌, ◌⊹◌, eq-
 use Rattle.integer.proofs.Size.{abs-zero, zero_test, nonzero-test}
 use Rattle.integer.proofs.Division.{div-rem-euclid, rem-euclid-nonneg, rem-euclid-lt}
 use Rattle.integer.proofs.Divides.{mul-cancel, divides-refl, divides-zero, divides-comb, gcd-bezout}
-use Rattle.snf_steps.specs.Result.{ok, ◌then◌}
-use Rattle.snf_steps.specs.Gcd.{Euclid, start, step_fits, next, step, euclid, extended_gcd}
+use Rattle.snf_steps.specs.Then.{◌then◌}
+use Rattle.snf_steps.specs.declared.gcd.Euclid.{Euclid}
+use Rattle.snf_steps.specs.Gcd.{start, step_fits, next, step, euclid, extended_gcd}
 use Rattle.snf_steps.proofs.Accepted.{Accepted, accepted, accepted-bind, accepted-map, accepted-provided, accepted-pick}
 use Rattle.snf_steps.proofs.Halving.{rem-less-than-half, halved}
 
 -- one division
 abbrev pub divided : Euclid → Euclid
-divided e = next (div_euclid e.r e.r') e
+divided e = next (div_euclid e.r e.r1) e
 
 pub step-divides : (e : Euclid) → Accepted (λ f. f ≡ divided e) (step e)
 unfolding step
-step-divides e = accepted-provided (step_fits (div_euclid e.r e.r') e) (divided e) (λ _. refl)
+step-divides e = accepted-provided (step_fits (div_euclid e.r e.r1) e) (divided e) (λ _. refl)
 
 module _ (a b : ℤ) where
   -- two remainders on the way: combinations of a and b, with no common divisor that a and b do not have
   pub record Remainders (e : Euclid) : Type 0 where
     pub now : e.r ≡ e.s *ℤ a +ℤ e.t *ℤ b
-    pub after : e.r' ≡ e.s' *ℤ a +ℤ e.t' *ℤ b
-    pub common : (d : ℤ) → Divides d e.r → Divides d e.r' → Divides d a × Divides d b
+    pub after : e.r1 ≡ e.s1 *ℤ a +ℤ e.t1 *ℤ b
+    pub common : (d : ℤ) → Divides d e.r → Divides d e.r1 → Divides d a × Divides d b
 
   pub record Ended (e : Euclid) : Type 0 where
     pub remainders : Remainders e
-    pub last : e.r' ≡ pos 0
+    pub last : e.r1 ≡ pos 0
 
   -- what is said of an accepted result; that the gcd divides a and b is its `left` and `right`
   pub record ExtendedGcd (e : Euclid) : Type 0 where
     pub combination : e.r ≡ e.s *ℤ a +ℤ e.t *ℤ b
     pub gcd : IsGcd e.r a b
-    pub last : e.r' ≡ pos 0
+    pub last : e.r1 ≡ pos 0
 
   -- ---- one division keeps them
   division-combines : (q m r r' s s' t t' : ℤ) → q *ℤ r' +ℤ m ≡ r → r ≡ s *ℤ a +ℤ t *ℤ b → r' ≡ s' *ℤ a +ℤ t' *ℤ b
@@ -52,40 +54,40 @@ module _ (a b : ℤ) where
   division-combines q m r r' s s' t t' h one two =
       eq-by (zero-by h ⊹ zero-by one ⊹ zero-by two ∗ neg_ℤ q) (ring (q ∷ m ∷ r ∷ r' ∷ s ∷ s' ∷ t ∷ t' ∷ a ∷ b ∷ []) (search reify depth 60 fits 100000) tt)
 
-  pub divided-remainders : (e : Euclid) → zero < nat_abs e.r' → Remainders e → Remainders (divided e)
+  pub divided-remainders : (e : Euclid) → zero < nat_abs e.r1 → Remainders e → Remainders (divided e)
   divided-remainders e h g =
-      let q = div_euclid e.r e.r' in
-      let m = rem_euclid e.r e.r' in
-      let whole = div-rem-euclid e.r e.r' h in
+      let q = div_euclid e.r e.r1 in
+      let m = rem_euclid e.r e.r1 in
+      let whole = div-rem-euclid e.r e.r1 h in
       record {
         now = g.after;
-        after = division-combines q m e.r e.r' e.s e.s' e.t e.t' whole g.now g.after;
-        common = λ d p n. g.common d (divides-comb q (pos 1) p n (sym whole ∙ ring (q ∷ m ∷ e.r' ∷ []) (search reify depth 40) tt)) p;
+        after = division-combines q m e.r e.r1 e.s e.s1 e.t e.t1 whole g.now g.after;
+        common = λ d p n. g.common d (divides-comb q (pos 1) p n (sym whole ∙ ring (q ∷ m ∷ e.r1 ∷ []) (search reify depth 40) tt)) p;
       }
 
-  one-division : (n : ℕ) (e : Euclid) → Remainders e → (T (not (is_zero e.r')) → Remainders (divided e) → Accepted Ended (euclid n (divided e))) → Accepted Ended (euclid (suc n) e)
+  one-division : (n : ℕ) (e : Euclid) → Remainders e → (T (not (is_zero e.r1)) → Remainders (divided e) → Accepted Ended (euclid n (divided e))) → Accepted Ended (euclid (suc n) e)
   unfolding euclid
   one-division n e g k =
-      accepted-pick (is_zero e.r') (ok e) (step e then euclid n)
-      (λ t. accepted (record { remainders = g; last = zero_test e.r' t }))
+      accepted-pick (is_zero e.r1) (Some e) (step e then euclid n)
+      (λ t. accepted (record { remainders = g; last = zero_test e.r1 t }))
       (λ t. accepted-bind (euclid n) (step-divides e)
-      (λ f p. subst (λ f. Accepted Ended (euclid n f)) (sym p) (k t (divided-remainders e (nonzero-test e.r' t) g))))
+      (λ f p. subst (λ f. Accepted Ended (euclid n f)) (sym p) (k t (divided-remainders e (nonzero-test e.r1 t) g))))
 
-  no-division : (n : ℕ) (e : Euclid) → Remainders e → e.r' ≡ pos 0 → Accepted Ended (euclid n e)
+  no-division : (n : ℕ) (e : Euclid) → Remainders e → e.r1 ≡ pos 0 → Accepted Ended (euclid n e)
   unfolding euclid
   no-division zero e g h = accepted (record { remainders = g; last = h })
   no-division (suc n) e g h = one-division n e g (λ t. absurd (subst (λ z. T (not (is_zero z))) h t))
 
   -- from 0 ≤ r' < 2 ^ k on, 2·k divisions are enough
-  pub enough-divisions : (k n : ℕ) (e : Euclid) → k + k ≤ n → Remainders e → NonNeg e.r' → nat_abs e.r' < 2 ^ k → Accepted Ended (euclid n e)
-  enough-divisions zero n e l g p h = no-division n e g (abs-zero e.r' (omega arith))
+  pub enough-divisions : (k n : ℕ) (e : Euclid) → k + k ≤ n → Remainders e → NonNeg e.r1 → nat_abs e.r1 < 2 ^ k → Accepted Ended (euclid n e)
+  enough-divisions zero n e l g p h = no-division n e g (abs-zero e.r1 (omega arith))
   enough-divisions (suc k) zero e l g p h = absurd (omega arith)
   enough-divisions (suc k) (suc zero) e l g p h = absurd (omega arith)
   enough-divisions (suc k) (suc (suc n)) e l g p h =
-      let m = rem_euclid e.r e.r' in
+      let m = rem_euclid e.r e.r1 in
       one-division (suc n) e g (λ t g1. one-division n (divided e) g1 (λ u g2.
-      enough-divisions k n (divided (divided e)) (omega arith) g2 (rem-euclid-nonneg e.r' m)
-      (halved k (nat_abs e.r') _ (le_of_lt (rem-less-than-half e.r' m p (nonzero-test m u) (rem-euclid-lt e.r e.r' (nonzero-test e.r' t)))) h)))
+      enough-divisions k n (divided (divided e)) (omega arith) g2 (rem-euclid-nonneg e.r1 m)
+      (halved k (nat_abs e.r1) _ (le_of_lt (rem-less-than-half e.r1 m p (nonzero-test m u) (rem-euclid-lt e.r e.r1 (nonzero-test e.r1 t)))) h)))
 
   start-remainders : Remainders (start a b)
   start-remainders = record { now = ring (a ∷ b ∷ []) (search reify depth 40) tt; after = ring (a ∷ b ∷ []) (search reify depth 40) tt; common = λ d p q. (p, q) }

@@ -6,6 +6,7 @@ use Prim.Native.Nat.{ℕ, zero, ◌<◌}
 use native.Mathlib.Omega.{arith}
 use lib.Dec.{T}
 use lib.IntN.{ℤ, pos, neg_ℤ, nat_abs, ◌+ℤ◌, ◌*ℤ◌}
+use Rattle.std.specs.Prelude.{Some, None, Option}
 use Rattle.integer.specs.Checked.{is_zero, pick}
 use Rattle.integer.specs.Divides.{Divides}
 use Rattle.integer.proofs.Divides.{divides-refl, divides-mul, divides-zero}
@@ -15,9 +16,8 @@ use Rattle.integer.proofs.Size.{zero_test, nonzero-test}
 use Rattle.common.specs.Matrix.{X, Y, Z, Mat, ◌·◌, det}
 use Rattle.common.specs.Array.{matrix_of}
 use Rattle.common.proofs.Unimodular.{Unimodular, Regular}
-use Rattle.snf_steps.specs.Result.{ok}
 use Rattle.snf_steps.specs.Elementary.{elementary_swap_rows}
-use Rattle.snf_steps.specs.Columns.{Pair, multiply, Pivot, row, none, to_top, zero_first_column, clear_from, first_column, zero_second_column, second_column}
+use Rattle.snf_steps.specs.Columns.{Pair, multiply, to_top, zero_first_column, clear_from, first_column, zero_second_column, second_column}
 use Rattle.snf_steps.proofs.Accepted.{Accepted, accepted, accepted-bind, accepted-map}
 use Rattle.snf_steps.proofs.FittingEntries.{Fits, entry-size}
 use Rattle.snf_steps.proofs.Bezout.{Bezout, gcd-on-top, zero-below}
@@ -129,7 +129,7 @@ zero-third-row s t h =
       };
     })
 
-clear-below : (s : Pair) (i : ℕ) → Accepted (Pivoted s) (to_top i s) → Accepted (FirstCleared s) (clear_from (row i) s)
+clear-below : (s : Pair) (i : ℕ) → Accepted (Pivoted s) (to_top i s) → Accepted (FirstCleared s) (clear_from (Some i) s)
 clear-below s i p = accepted-bind (zero_first_column 2) (accepted-bind (zero_first_column 1) p (zero-second-row s)) (zero-third-row s)
 
 -- a column of zeros makes the determinant 0
@@ -145,10 +145,10 @@ pub first-column : (s : Pair) → Fits s.a → Regular s.a → Accepted (FirstCl
 unfolding first_column
 first-column s w r =
     let m = s.a in
-    let Goal : Pivot → Type 0 = λ p. Accepted (FirstCleared s) (clear_from p s) in
-    pick-cases (is_zero m.a) (pick (is_zero m.d) (pick (is_zero m.g) none (row 2)) (row 1)) (row 0) Goal
-    (λ x. pick-cases (is_zero m.d) (pick (is_zero m.g) none (row 2)) (row 1) Goal
-    (λ y. pick-cases (is_zero m.g) none (row 2) Goal
+    let Goal : Option ℕ → Type 0 = λ p. Accepted (FirstCleared s) (clear_from p s) in
+    pick-cases (is_zero m.a) (pick (is_zero m.d) (pick (is_zero m.g) None (Some 2)) (Some 1)) (Some 0) Goal
+    (λ x. pick-cases (is_zero m.d) (pick (is_zero m.g) None (Some 2)) (Some 1) Goal
+    (λ y. pick-cases (is_zero m.g) None (Some 2) Goal
     (λ z. absurd (first-not-zero m r (zero_test m.a x) (zero_test m.d y) (zero_test m.g z)))
     (λ z. clear-below s 2 (swapped-to-top 2 s (record { unit = refl }) (nonzero-by (ap (λ (k : Mat ℤ). k.a) (swap-02 m)) (nonzero-test m.g z)) (turned-02 s))))
     (λ y. clear-below s 1 (swapped-to-top 1 s (record { unit = refl }) (nonzero-by (ap (λ (k : Mat ℤ). k.a) (swap-01 m)) (nonzero-test m.d y)) (turned-01 s))))
@@ -224,7 +224,7 @@ second-not-zero m k r p q =
 
 -- by the tests of e and h
 second-to-top : (s : Pair) (x y : Bool) → Fits s.a → Block s.a → (T (not x) → zero < nat_abs s.a.e) → (T (not y) → zero < nat_abs s.a.h) → (T x → T y → ⊥)
-    → Accepted (SecondPivoted s) (pick (x && not y) (multiply (matrix_of (elementary_swap_rows 1 2)) s) (ok s))
+    → Accepted (SecondPivoted s) (pick (x && not y) (multiply (matrix_of (elementary_swap_rows 1 2)) s) (Some s))
 second-to-top s true true w k p q n = absurd (n tt tt)
 second-to-top s false y w k p q n = accepted (record { moves = moves-none s; fits = w; block = k; nonzero = p tt; gathers = record { each = λ d x y. (x, y); corner = refl } })
 second-to-top s true false w k p q n =

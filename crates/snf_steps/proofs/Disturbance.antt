@@ -6,6 +6,7 @@ use mathlib.Core.Logic.{◌⊎◌, ⊎_elim}
 use Prim.Native.Nat.{ℕ, zero, ◌<◌}
 use lib.Dec.{T}
 use lib.IntN.{ℤ, pos, neg_ℤ, nat_abs, ◌+ℤ◌, ◌*ℤ◌, zero-*ℤ}
+use Rattle.std.specs.Prelude.{Some, None}
 use Rattle.integer.specs.Checked.{is_zero, pick}
 use Rattle.integer.specs.Divides.{Divides}
 use Rattle.integer.proofs.Reify.{ring, reify}
@@ -15,9 +16,9 @@ use Rattle.integer.proofs.Divides.{divides-zero}
 use Rattle.common.specs.Matrix.{X, Y, Z, Vec, Mat, transpose, ◌·◌, diagonal}
 use Rattle.common.specs.Array.{matrix_of}
 use Rattle.common.proofs.Unimodular.{Regular}
-use Rattle.snf_steps.specs.Result.{ok, ◌then◌}
+use Rattle.snf_steps.specs.Then.{◌then◌}
 use Rattle.snf_steps.specs.Elementary.{elementary_swap_rows, below_first, below_second}
-use Rattle.snf_steps.specs.Columns.{Pair, multiply, make_zero, row, none, clear_from, zero_first_column, zero_second_column, first_column, second_column}
+use Rattle.snf_steps.specs.Columns.{Pair, multiply, make_zero, clear_from, zero_first_column, zero_second_column, first_column, second_column}
 use Rattle.snf_steps.specs.Stages.{Triple, rows_of, with_rows, on_rows, on_columns, one_loop, Outcome, through, again, first_end, first, second_end, second}
 use Rattle.snf_steps.proofs.Accepted.{Accepted, accepted, accepted-bind, accepted-map, accepted-both, accepted-pick}
 use Rattle.snf_steps.proofs.FittingEntries.{Fits, entry-size, transpose-fits}
@@ -40,7 +41,7 @@ abbrev pub Disturbance : (y z : ℤ) → Type 0
 Disturbance y z = (y ≡ pos 0) ⊎ (y ≡ z)
 
 -- ---- one column step
-make-zero-still : (i j : ℕ) (a b : ℤ) (s : Pair) → b ≡ pos 0 → make_zero i j a b s ≡ ok s
+make-zero-still : (i j : ℕ) (a b : ℤ) (s : Pair) → b ≡ pos 0 → make_zero i j a b s ≡ Some s
 unfolding make_zero
 make-zero-still i j a b s e = ap (λ b. make_zero i j a b s) e
 
@@ -71,7 +72,7 @@ unfolding first_column
 first-sweeps x y z w p f h =
     let m = first_disturbed x y z w in
     let s : Pair = record { a = m; p = p } in
-    subst (λ v. Accepted (FirstSwept x y z w) (clear_from v s)) (sym (second-picked (is_zero x) (pick (is_zero y) (pick (is_zero (pos 0)) none (row 2)) (row 1)) (row 0) (test-nonzero x h)))
+    subst (λ v. Accepted (FirstSwept x y z w) (clear_from v s)) (sym (second-picked (is_zero x) (pick (is_zero y) (pick (is_zero (pos 0)) None (Some 2)) (Some 1)) (Some 0) (test-nonzero x h)))
     (accepted-bind (zero_first_column 2) (make-zero-does 0 1 x y s refl h (entry-size f Y X) f) (λ u c.
     let b = c.by in
     let rows = ap (λ (v : Pair). v.a) c.is ∙ combine-01 b.s b.t (neg_ℤ b.v) b.u m in
@@ -106,7 +107,7 @@ unfolding second_column
 second-sweeps x y z w p f h =
     let m = second_disturbed x y z w in
     let s : Pair = record { a = m; p = p } in
-    subst (λ v. Accepted (SecondSwept x y z w) (v then zero_second_column)) (sym (no-swap (is_zero y) (not (is_zero z)) (multiply (matrix_of (elementary_swap_rows 1 2)) s) (ok s) (test-nonzero y h)))
+    subst (λ v. Accepted (SecondSwept x y z w) (v then zero_second_column)) (sym (no-swap (is_zero y) (not (is_zero z)) (multiply (matrix_of (elementary_swap_rows 1 2)) s) (Some s) (test-nonzero y h)))
     (accepted-map (make-zero-does 1 2 y z s refl h (entry-size f Z Y) f) (λ u c.
     let b = c.by in
     let rows = ap (λ (v : Pair). v.a) c.is ∙ combine-12 b.s b.t (neg_ℤ b.v) b.u m in
@@ -205,7 +206,7 @@ pub record RowsBy (l : Mat ℤ) (s t : Triple) : Type 0 where
   pub fits : Fits t.a
 
 pub rows_are : (l : Mat ℤ) (s : Triple) → Accepted (RowsBy l s) (on_rows (multiply l) s)
-rows_are l s = accepted-bind (λ u. ok (with_rows s u)) (multiply-does l (rows_of s)) (λ n r. accepted (record { is = ap (λ (v : Pair). v.a) r.is; fits = r.fits }))
+rows_are l s = accepted-bind (λ u. Some (with_rows s u)) (multiply-does l (rows_of s)) (λ n r. accepted (record { is = ap (λ (v : Pair). v.a) r.is; fits = r.fits }))
 
 pub record ThroughTo (v : Vec ℤ) (o : Outcome) : Type 0 where
   pub done : T o.done

@@ -6,14 +6,16 @@ use mathlib.Core.Logic.{⊎_elim}
 use native.Mathlib.Nat.{le_of_lt, lt_of_lt_of_le, eq-zero-or-pos}
 use native.Mathlib.Omega.{arith}
 use lib.IntN.{ℤ, nat_abs}
+use Rattle.std.specs.Prelude.{Option, Some, None}
 use Rattle.integer.specs.Checked.{is_zero, pick}
 use Rattle.integer.specs.Division.{rem_euclid}
 use Rattle.integer.proofs.Test.{pick-cases}
 use Rattle.integer.proofs.Order.{NonNeg}
 use Rattle.integer.proofs.Size.{abs-zero, nonzero-test}
 use Rattle.integer.proofs.Division.{rem-euclid-nonneg, rem-euclid-lt}
-use Rattle.snf_steps.specs.Result.{Result, ok, overflow, ◌then◌}
-use Rattle.snf_steps.specs.Gcd.{Euclid, step, euclid, extended_gcd, start, divisions, steps}
+use Rattle.snf_steps.specs.Then.{◌then◌}
+use Rattle.snf_steps.specs.declared.gcd.Euclid.{Euclid}
+use Rattle.snf_steps.specs.Gcd.{step, euclid, extended_gcd, start, divisions, steps}
 use Rattle.snf_steps.proofs.Accepted.{Accepted, accepted, overflowed, accepted-bind, accepted-pick}
 use Rattle.snf_steps.proofs.Halving.{rem-less-than-half, halved}
 use Rattle.snf_steps.proofs.Bezout.{divided, step-divides}
@@ -21,22 +23,22 @@ use Rattle.snf_steps.proofs.Bezout.{divided, step-divides}
 -- so many are enough
 module _ (n : ℕ) (e : Euclid) where
   abbrev more : ℕ
-  more = divisions n e.r' (rem_euclid e.r e.r')
+  more = divisions n e.r1 (rem_euclid e.r e.r1)
 
-  trimmed : ((f : Euclid) → euclid (divisions n f.r f.r') f ≡ euclid n f) → (m : Result Euclid) → Accepted (λ f. f ≡ divided e) m → (m then euclid more) ≡ (m then euclid n)
-  trimmed h (ok f) (accepted p) = ap (λ (g : Euclid). euclid (divisions n g.r g.r') f) (sym p) ∙ h f
-  trimmed h overflow overflowed = refl
+  trimmed : ((f : Euclid) → euclid (divisions n f.r f.r1) f ≡ euclid n f) → (m : Option Euclid) → Accepted (λ f. f ≡ divided e) m → (m then euclid more) ≡ (m then euclid n)
+  trimmed h (Some f) (accepted p) = ap (λ (g : Euclid). euclid (divisions n g.r g.r1) f) (sym p) ∙ h f
+  trimmed h None overflowed = refl
 
-  counted : ((m : Result Euclid) → Accepted (λ f. f ≡ divided e) m → (m then euclid more) ≡ (m then euclid n)) → (b : Bool) → is_zero e.r' ≡ b
-      → euclid (pick b 0 (suc more)) e ≡ pick b (ok e) (step e then euclid n)
+  counted : ((m : Option Euclid) → Accepted (λ f. f ≡ divided e) m → (m then euclid more) ≡ (m then euclid n)) → (b : Bool) → is_zero e.r1 ≡ b
+      → euclid (pick b 0 (suc more)) e ≡ pick b (Some e) (step e then euclid n)
   unfolding euclid
   counted h true p = refl
-  counted h false p = ap (λ (t : Bool). pick t (ok e) (step e then euclid more)) p ∙ h (step e) (step-divides e)
+  counted h false p = ap (λ (t : Bool). pick t (Some e) (step e then euclid more)) p ∙ h (step e) (step-divides e)
 
-pub divisions-enough : (n : ℕ) (e : Euclid) → euclid (divisions n e.r e.r') e ≡ euclid n e
+pub divisions-enough : (n : ℕ) (e : Euclid) → euclid (divisions n e.r e.r1) e ≡ euclid n e
 unfolding divisions euclid
 divisions-enough zero e = refl
-divisions-enough (suc n) e = counted n e (trimmed n e (divisions-enough n)) (is_zero e.r') refl
+divisions-enough (suc n) e = counted n e (trimmed n e (divisions-enough n)) (is_zero e.r1) refl
 
 -- ---- at most 127
 one_more : (n : ℕ) (r r' : ℤ) (k : ℕ) → (zero < nat_abs r' → divisions n r' (rem_euclid r r') ≤ k) → divisions (suc n) r r' ≤ suc k
@@ -76,15 +78,15 @@ none_at_all : (k : ℕ) (r r' : ℤ) → k < divisions zero r r' → ⊥
 unfolding divisions
 none_at_all k r r' h = omega arith
 
-pub no-fewer : (k n : ℕ) (e : Euclid) → k < divisions n e.r e.r' → Accepted (λ f. zero < nat_abs f.r') (euclid k e)
+pub no-fewer : (k n : ℕ) (e : Euclid) → k < divisions n e.r e.r1 → Accepted (λ f. zero < nat_abs f.r1) (euclid k e)
 unfolding euclid
-no-fewer zero n e h = accepted (some_left n e.r e.r' h)
-no-fewer (suc k) zero e h = absurd (none_at_all (suc k) e.r e.r' h)
+no-fewer zero n e h = accepted (some_left n e.r e.r1 h)
+no-fewer (suc k) zero e h = absurd (none_at_all (suc k) e.r e.r1 h)
 no-fewer (suc k) (suc n) e h =
-    accepted-pick (is_zero e.r') (ok e) (step e then euclid k)
-    (λ _. accepted (some_left (suc n) e.r e.r' (omega arith)))
+    accepted-pick (is_zero e.r1) (Some e) (step e then euclid k)
+    (λ _. accepted (some_left (suc n) e.r e.r1 (omega arith)))
     (λ _. accepted-bind (euclid k) (step-divides e) (λ f p.
-    subst (λ f. Accepted (λ g. zero < nat_abs g.r') (euclid k f)) (sym p) (no-fewer k n (divided e) (after_one k n e.r e.r' h))))
+    subst (λ f. Accepted (λ g. zero < nat_abs g.r1) (euclid k f)) (sym p) (no-fewer k n (divided e) (after_one k n e.r e.r1 h))))
 
 -- ---- of the extended gcd
 pub steps-enough : (a b : ℤ) → euclid (steps a b) (start a b) ≡ extended_gcd a b

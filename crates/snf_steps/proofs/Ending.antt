@@ -8,6 +8,7 @@ use native.Mathlib.Omega.{arith}
 use lib.Dec.{T, ltb→lt}
 use lib.IntN.{ℤ, pos, negsuc, neg_ℤ, nat_abs, ◌*ℤ◌}
 use lib.Signed.{lt_z}
+use Rattle.std.specs.Prelude.{Option}
 use Rattle.integer.proofs.Polynomial.{Expr, var, con, neg}
 use Rattle.integer.proofs.Divides.{nonzero-factors}
 use Rattle.common.specs.Matrix.{Axis, X, Y, Z, Vec, Mat, side, entry, transpose, ◌·◌, det, diagonal, negate}
@@ -15,7 +16,7 @@ use Rattle.common.specs.Array.{matrix_of}
 use Rattle.common.specs.IntegerMatrix.{det_fits, negation_fits}
 use Rattle.common.proofs.Matrix.{column, sides, diagonal_e, ◌⊡◌, solve_mat, negate-product, product-negate, negate-twice, det-diagonal, det-negate}
 use Rattle.common.proofs.Unimodular.{Regular, Unimodular, unimodular-negate}
-use Rattle.snf_steps.specs.Result.{Result, when}
+use Rattle.snf_steps.specs.Then.{when}
 use Rattle.snf_steps.specs.Elementary.{elementary_swap_rows, elementary_flip_sign_row, elementary_disturb_rows}
 use Rattle.snf_steps.specs.Columns.{multiply}
 use Rattle.snf_steps.specs.Stages.{Triple, on_rows, on_columns, Outcome, first, second}
@@ -211,7 +212,7 @@ module _ (A : Mat ℤ) (r : Regular A) where
         diagonal = v.diagonal;
       }))
 
-  left-diagonal : (f : Triple → Result Outcome) (s : Triple) → Accepted (λ o. SoundDiagonal A o.left) (f s) → Accepted (SoundDiagonal A) (leaving f s)
+  left-diagonal : (f : Triple → Option Outcome) (s : Triple) → Accepted (λ o. SoundDiagonal A o.left) (f s) → Accepted (SoundDiagonal A) (leaving f s)
   left-diagonal f s p = accepted-bind _ p (λ o v. accepted v)
 
   pub put-in-order : (s : Triple) → SoundDiagonal A s → Accepted (SoundDiagonal A) (put_in_order s)

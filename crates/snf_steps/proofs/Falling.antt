@@ -6,6 +6,7 @@ use Prim.Native.Nat.{ℕ, zero, suc, ◌+◌, ◌-◌, ◌*◌, ◌≤◌, ◌<�
 use native.Mathlib.Omega.{arith}
 use native.Mathlib.Nat.{eq-zero-or-pos}
 use lib.IntN.{ℤ, nat_abs, ◌*ℤ◌}
+use Rattle.std.specs.Prelude.{Some}
 use Rattle.integer.specs.Checked.{is_zero}
 use Rattle.integer.specs.Divides.{Divides}
 use Rattle.integer.proofs.Ring.{one-*ℤ, *ℤ-assoc}
@@ -14,7 +15,6 @@ use Rattle.integer.proofs.Divides.{divides-trans, divides-le, divides-half, unit
 use Rattle.common.specs.Matrix.{Mat, ◌·◌}
 use Rattle.common.specs.Array.{matrix_of}
 use Rattle.common.proofs.Unimodular.{Regular, regular-transpose}
-use Rattle.snf_steps.specs.Result.{ok}
 use Rattle.snf_steps.specs.Elementary.{below_first, below_second}
 use Rattle.snf_steps.specs.Columns.{Pair, multiply, first_column, second_column}
 use Rattle.snf_steps.specs.Pivot.{ProperDivisor}
@@ -39,7 +39,7 @@ pub record SecondFalls (s t : Triple) : Type 0 where
 
 -- ---- what a stage does at its end leaves the pivot
 rows_are : (l : Mat ℤ) (s : Triple) → Accepted (λ (n : Triple). n.a ≡ l · s.a) (on_rows (multiply l) s)
-rows_are l s = accepted-bind (λ u. ok (with_rows s u)) (multiply-does l (rows_of s)) (λ n r. accepted (ap (λ (v : Pair). v.a) r.is))
+rows_are l s = accepted-bind (λ u. Some (with_rows s u)) (multiply-does l (rows_of s)) (λ n r. accepted (ap (λ (v : Pair). v.a) r.is))
 
 first-end-keeps : (s : Triple) → Accepted (λ o. o.left.a.a ≡ s.a.a) (first_end s)
 first-end-keeps s =

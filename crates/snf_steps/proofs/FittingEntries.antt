@@ -1,6 +1,6 @@
 -- Matrices whose entries fit 64 signed bits: products that were accepted, transposes, and the matrix that is given.
 use mathlib.Core.Path.{sym, subst}
-use Prim.Native.Nat.{◌^◌, ◌≤◌, ◌<◌}
+use Prim.Native.Nat.{◌^◌, ◌≤◌}
 use native.Mathlib.Nat.{lt_of_le_of_lt}
 use lib.Dec.{T, lit<}
 use lib.IntN.{ℤ, nat_abs}

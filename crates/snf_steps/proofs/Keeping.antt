@@ -6,6 +6,7 @@ use Prim.Native.Nat.{zero, ◌<◌}
 use lib.Dec.{T}
 use lib.IntN.{ℤ, pos, neg_ℤ, nat_abs, ◌+ℤ◌, ◌*ℤ◌, ◌-ℤ◌}
 use lib.Signed.{quot_z, rem_z}
+use Rattle.std.specs.Prelude.{Some}
 use Rattle.integer.specs.Checked.{fits64, is_zero}
 use Rattle.integer.specs.Divides.{Divides}
 use Rattle.integer.proofs.Test.{and_l, and_r}
@@ -17,10 +18,9 @@ use Rattle.common.specs.Matrix.{Mat, Vec, transpose, ◌·◌, det, diagonal}
 use Rattle.common.specs.Array.{matrix_of}
 use Rattle.common.proofs.Matrix.{product-assoc, transpose-product, det-product, det-transpose}
 use Rattle.common.proofs.Unimodular.{Regular, Unimodular, regular-product, regular-transpose, unimodular-regular, unimodular-product, unimodular-transpose}
-use Rattle.snf_steps.specs.Result.{ok}
-use Rattle.snf_steps.specs.Elementary.{below_first, below_second, quotient_fits, neg_quotient_fits}
+use Rattle.snf_steps.specs.Elementary.{below_first, below_second, quotient_fits, neg_quotient_fits, is_multiple, neg_quotient}
 use Rattle.snf_steps.specs.Columns.{Pair, multiply, first_column, second_column}
-use Rattle.snf_steps.specs.Stages.{Triple, rows_of, columns_of, with_rows, with_columns, on_rows, on_columns, one_loop, Outcome, through, again, is_multiple, neg_quotient, first_end, first, second_end, second}
+use Rattle.snf_steps.specs.Stages.{Triple, rows_of, columns_of, with_rows, with_columns, on_rows, on_columns, one_loop, Outcome, through, again, first_end, first, second_end, second}
 use Rattle.snf_steps.proofs.Accepted.{Accepted, accepted, accepted-is, accepted-bind, accepted-provided, accepted-pick}
 use Rattle.snf_steps.proofs.FittingEntries.{Fits, transpose-fits}
 use Rattle.snf_steps.proofs.RowOperations.{below-first, below-second, unimodular-below-first, unimodular-below-second}
@@ -127,7 +127,7 @@ module _ (A : Mat ℤ) where
 
   pub rows-multiplied : (l : Mat ℤ) (s : Triple) → Unimodular l → Sound s → Accepted (ByRows l s) (on_rows (multiply l) s)
   rows-multiplied l s u v =
-      accepted-bind (λ u. ok (with_rows s u)) (multiply-does l (rows_of s)) (λ t q. accepted (record {
+      accepted-bind (λ u. Some (with_rows s u)) (multiply-does l (rows_of s)) (λ t q. accepted (record {
         sound = record { kept = rows-kept s t v.kept (record { by = l; unimodular = u; is = q.is }); fits = q.fits };
         is = ap (λ (x : Pair). x.a) q.is;
       }))
@@ -138,7 +138,7 @@ module _ (A : Mat ℤ) where
 
   pub columns-multiplied : (l : Mat ℤ) (s : Triple) → Unimodular l → Sound s → Accepted (ByColumns l s) (on_columns (multiply l) s)
   columns-multiplied l s u v =
-      accepted-bind (λ u. ok (with_columns s u)) (multiply-does l (columns_of s)) (λ t q. accepted (record {
+      accepted-bind (λ u. Some (with_columns s u)) (multiply-does l (columns_of s)) (λ t q. accepted (record {
         sound = record { kept = columns-kept s t v.kept (record { by = l; unimodular = u; is = q.is }); fits = transpose-fits q.fits };
         is = ap (λ (x : Pair). transpose x.a) q.is;
       }))
@@ -210,7 +210,7 @@ module _ (A : Mat ℤ) where
           c0 = p.g0;
         })))
 
-    pub first-pivot-nonzero : (s t : Triple) → Sound s → one_loop first_column s ≡ ok t → zero < nat_abs t.a.a
+    pub first-pivot-nonzero : (s t : Triple) → Sound s → one_loop first_column s ≡ Some t → zero < nat_abs t.a.a
     first-pivot-nonzero s t v e = (accepted-is (first-loop s v) e).nonzero
 
     first-end : (s : Triple) → FirstPivot s → Accepted FirstLeft (first_end s)
@@ -258,7 +258,7 @@ module _ (A : Mat ℤ) where
           f0 = p.h0;
         })))
 
-    pub second-pivot-nonzero : (s t : Triple) → Sound s → Block s.a → one_loop second_column s ≡ ok t → zero < nat_abs t.a.e
+    pub second-pivot-nonzero : (s t : Triple) → Sound s → Block s.a → one_loop second_column s ≡ Some t → zero < nat_abs t.a.e
     second-pivot-nonzero s t v k e = (accepted-is (second-loop s v k) e).nonzero
 
     second-end : (s : Triple) → SecondPivot s → Accepted SecondLeft (second_end s)

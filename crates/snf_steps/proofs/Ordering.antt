@@ -7,10 +7,11 @@ use lib.Dec.{T, ltb, ltb→lt, nltb→le}
 use lib.IntN.{ℤ, pos, negsuc, neg_ℤ, nat_abs}
 use lib.Signed.{lt_z}
 use borrow.Author.Tests.{le-ltb}
+use Rattle.std.specs.Prelude.{Option, Some}
 use Rattle.integer.specs.Checked.{pick}
 use Rattle.common.specs.Matrix.{Vec, Mat, transpose, ◌·◌, diagonal}
 use Rattle.common.specs.Array.{matrix_of}
-use Rattle.snf_steps.specs.Result.{Result, ok, when}
+use Rattle.snf_steps.specs.Then.{when}
 use Rattle.snf_steps.specs.Elementary.{elementary_swap_rows, elementary_flip_sign_row}
 use Rattle.snf_steps.specs.Columns.{Pair, multiply}
 use Rattle.snf_steps.specs.Stages.{Triple, columns_of, with_columns, on_rows, on_columns}
@@ -47,7 +48,7 @@ pub record ColumnsBy (l m : Mat ℤ) (t : Triple) : Type 0 where
 
 pub columns-by : (l : Mat ℤ) (s : Triple) → Accepted (ColumnsBy l s.a) (on_columns (multiply l) s)
 columns-by l s =
-    accepted-bind (λ u. ok (with_columns s u)) (multiply-does l (columns_of s)) (λ u p.
+    accepted-bind (λ u. Some (with_columns s u)) (multiply-does l (columns_of s)) (λ u p.
     accepted (record { is = ap (λ (t : Pair). transpose t.a) p.is; fits = transpose-fits p.fits }))
 
 -- ---- signs
@@ -104,7 +105,7 @@ already {a} {b} h = let e = le-ltb b a h in (ap (λ (t : Bool). pick t b a) e, a
 
 -- ---- order
 module _ (a b : ℕ) where
-  exchanged : (P : ℕ → ℕ → Triple → Type 0) (swap : Triple → Result Triple) (s : Triple) → P a b s → Accepted (P b a) (swap s) → Accepted (P (lesser a b) (greater a b)) (when (ltb b a) swap s)
+  exchanged : (P : ℕ → ℕ → Triple → Type 0) (swap : Triple → Option Triple) (s : Triple) → P a b s → Accepted (P b a) (swap s) → Accepted (P (lesser a b) (greater a b)) (when (ltb b a) swap s)
   exchanged P swap s k e = go (ltb b a)
     where
       go : (t : Bool) → Accepted (P (pick t b a) (pick t a b)) (when t swap s)

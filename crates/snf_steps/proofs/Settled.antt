@@ -6,14 +6,16 @@ use lib.Dec.{T, leb→le}
 use lib.IntN.{ℤ, pos, negsuc}
 use borrow.Author.Tests.{le-ltb}
 use lib.Signed.{lt_z, le_z, rem_z}
+use Rattle.std.specs.Prelude.{Option, Some, None}
 use Rattle.integer.proofs.Test.{is_true, and_l, and_r}
 use Rattle.integer.proofs.Size.{zero_test}
 use Rattle.integer.specs.Checked.{is_zero, pick}
 use Rattle.common.specs.Array.{matrix_of}
-use Rattle.snf_steps.specs.Result.{Result, ok, ◌then◌, provided, when}
+use Rattle.snf_steps.specs.Then.{◌then◌, provided, when}
 use Rattle.snf_steps.specs.Gcd.{extended_gcd}
 use Rattle.snf_steps.specs.Elementary.{elementary_swap_rows, elementary_disturb_rows, quotient_fits}
-use Rattle.snf_steps.specs.Columns.{Pair, row, none, multiply, Combination, combination, combine_by, make_zero, clear_from, first_column, second_column, zero_second_column}
+use Rattle.snf_steps.specs.declared.columns.Combination.{Combination}
+use Rattle.snf_steps.specs.Columns.{Pair, multiply, combination, combine_by, make_zero, clear_from, first_column, second_column, zero_second_column}
 use Rattle.snf_steps.specs.Stages.{Triple, rows_of, columns_of, with_rows, with_columns, on_columns, one_loop, through, first_tests, first_end, first, second_tests, second_end, second}
 use Rattle.snf_steps.specs.Finalize.{swap_diag_elems, order01, order12, finalize_sort, finalize_disturb, disturb01, disturb12, leaving, put_in_order}
 use Rattle.snf_steps.specs.Settled.{divides, in_order, off_diagonal_zero, settled}
@@ -24,28 +26,28 @@ not-below (pos a) (negsuc b) t = absurd t
 not-below (negsuc a) (pos b) t = refl
 not-below (negsuc a) (negsuc b) t = le-ltb a b (leb→le b a t)
 
-pub zero-kept : (i j : ℕ) (a : ℤ) {b : ℤ} (s : Pair) → b ≡ pos 0 → make_zero i j a b s ≡ ok s
+pub zero-kept : (i j : ℕ) (a : ℤ) {b : ℤ} (s : Pair) → b ≡ pos 0 → make_zero i j a b s ≡ Some s
 unfolding make_zero
 zero-kept i j a s e = ap (λ b. make_zero i j a b s) e
 
 -- and where b is not 0, the step is that of the gcd
-pub zero-made : (i j : ℕ) (a b : ℤ) (s : Pair) {c : Result Combination} → is_zero b ≡ false → c ≡ (extended_gcd a b then combination a b) → combine_by i j c s ≡ make_zero i j a b s
+pub zero-made : (i j : ℕ) (a b : ℤ) (s : Pair) {c : Option Combination} → is_zero b ≡ false → c ≡ (extended_gcd a b then combination a b) → combine_by i j c s ≡ make_zero i j a b s
 unfolding make_zero
-zero-made i j a b s n e = λ k. pick (sym n k) (ok s) (combine_by i j (e k) s)
+zero-made i j a b s n e = λ k. pick (sym n k) (Some s) (combine_by i j (e k) s)
 
-first-column-kept : (s : Pair) → s.a.d ≡ pos 0 → s.a.g ≡ pos 0 → first_column s ≡ ok s
+first-column-kept : (s : Pair) → s.a.d ≡ pos 0 → s.a.g ≡ pos 0 → first_column s ≡ Some s
 unfolding first_column
-first-column-kept s d0 g0 = ap₂ (λ d g. clear_from (pick (is_zero s.a.a) (pick (is_zero d) (pick (is_zero g) none (row 2)) (row 1)) (row 0)) s) d0 g0 ∙ from (is_zero s.a.a)
+first-column-kept s d0 g0 = ap₂ (λ d g. clear_from (pick (is_zero s.a.a) (pick (is_zero d) (pick (is_zero g) None (Some 2)) (Some 1)) (Some 0)) s) d0 g0 ∙ from (is_zero s.a.a)
   where
-    from : (t : Bool) → clear_from (pick t none (row 0)) s ≡ ok s
+    from : (t : Bool) → clear_from (pick t None (Some 0)) s ≡ Some s
     from true = refl
     from false = ap (λ r. r then λ s. make_zero 0 2 s.a.a s.a.g s) (zero-kept 0 1 s.a.a s d0) ∙ zero-kept 0 2 s.a.a s g0
 
-second-column-kept : (s : Pair) → s.a.h ≡ pos 0 → second_column s ≡ ok s
+second-column-kept : (s : Pair) → s.a.h ≡ pos 0 → second_column s ≡ Some s
 unfolding second_column
 second-column-kept s h0 =
-    ap (λ h. pick (is_zero s.a.e && not (is_zero h)) (multiply (matrix_of (elementary_swap_rows 1 2)) s) (ok s) then zero_second_column) h0
-    ∙ ap (λ (t : Bool). pick t (multiply (matrix_of (elementary_swap_rows 1 2)) s) (ok s) then zero_second_column) (and-false (is_zero s.a.e)) ∙ zero-kept 1 2 s.a.e s h0
+    ap (λ h. pick (is_zero s.a.e && not (is_zero h)) (multiply (matrix_of (elementary_swap_rows 1 2)) s) (Some s) then zero_second_column) h0
+    ∙ ap (λ (t : Bool). pick t (multiply (matrix_of (elementary_swap_rows 1 2)) s) (Some s) then zero_second_column) (and-false (is_zero s.a.e)) ∙ zero-kept 1 2 s.a.e s h0
   where
     and-false : (b : Bool) → (b && false) ≡ false
     and-false true = refl
@@ -54,33 +56,33 @@ second-column-kept s h0 =
 pub first-kept : (s : Triple) → s.a.b ≡ pos 0 → s.a.c ≡ pos 0 → s.a.d ≡ pos 0 → s.a.g ≡ pos 0 → first s ≡ through s
 unfolding first one_loop
 first-kept s b0 c0 d0 g0 =
-    ap (λ r. r then (λ u. ok (with_rows s u)) then on_columns first_column then first_end) (first-column-kept (rows_of s) d0 g0)
-    ∙ ap (λ r. r then (λ u. ok (with_columns s u)) then first_end) (first-column-kept (columns_of s) b0 c0)
+    ap (λ r. r then (λ u. Some (with_rows s u)) then on_columns first_column then first_end) (first-column-kept (rows_of s) d0 g0)
+    ∙ ap (λ r. r then (λ u. Some (with_columns s u)) then first_end) (first-column-kept (columns_of s) b0 c0)
     ∙ ap₂ (λ d g. first_tests s.a.a d g s) d0 g0
 
 pub second-kept : (s : Triple) → s.a.f ≡ pos 0 → s.a.h ≡ pos 0 → second s ≡ through s
 unfolding second one_loop
 second-kept s f0 h0 =
-    ap (λ r. r then (λ u. ok (with_rows s u)) then on_columns second_column then second_end) (second-column-kept (rows_of s) h0)
-    ∙ ap (λ r. r then (λ u. ok (with_columns s u)) then second_end) (second-column-kept (columns_of s) f0)
+    ap (λ r. r then (λ u. Some (with_rows s u)) then on_columns second_column then second_end) (second-column-kept (rows_of s) h0)
+    ∙ ap (λ r. r then (λ u. Some (with_columns s u)) then second_end) (second-column-kept (columns_of s) f0)
     ∙ ap (λ h. second_tests s.a.e h s) h0
 
 -- ---- a settled diagonal
 module _ (s : Triple) where
-  disturb-kept : (i j : ℕ) (x y : ℤ) → T (divides x y) → finalize_disturb i j x y s ≡ ok s
+  disturb-kept : (i j : ℕ) (x y : ℤ) → T (divides x y) → finalize_disturb i j x y s ≡ Some s
   unfolding finalize_disturb
   disturb-kept i j x y t =
       (λ k. provided (is_true (quotient_fits y x) (and_l (quotient_fits y x) (is_zero (rem_z y x)) t) k) (is_true (is_zero (rem_z y x)) (and_r (quotient_fits y x) (is_zero (rem_z y x)) t) k)
       then λ b. when (not b) (on_columns (multiply (matrix_of (elementary_disturb_rows i j)))) s)
 
-  sort-kept : T (le_z s.a.a s.a.e) → T (le_z s.a.e s.a.i) → finalize_sort s ≡ ok s
+  sort-kept : T (le_z s.a.a s.a.e) → T (le_z s.a.e s.a.i) → finalize_sort s ≡ Some s
   unfolding finalize_sort
   sort-kept t u =
       let p = not-below s.a.a s.a.e t in
       let q = not-below s.a.e s.a.i u in
       ap (λ (t : Bool). when t (swap_diag_elems 0 1) s then order12 then order01) p ∙ ap (λ (t : Bool). when t (swap_diag_elems 1 2) s then order01) q ∙ ap (λ (t : Bool). when t (swap_diag_elems 0 1) s) p
 
-  pub settled-kept : T (settled s.a) → put_in_order s ≡ ok s
+  pub settled-kept : T (settled s.a) → put_in_order s ≡ Some s
   unfolding put_in_order
   settled-kept t =
       let m = s.a in
@@ -99,10 +101,10 @@ module _ (s : Triple) where
       let g = second-kept s (zero-l m.f m.h fh) (zero-r m.f m.h fh) in
       ap (λ r. r then disturb01 then leaving first then finalize_sort then disturb12 then leaving second) sorted
       ∙ ap (λ r. r then leaving first then finalize_sort then disturb12 then leaving second) one
-      ∙ ap (λ r. (r then λ o. ok o.left) then finalize_sort then disturb12 then leaving second) f
+      ∙ ap (λ r. (r then λ o. Some o.left) then finalize_sort then disturb12 then leaving second) f
       ∙ ap (λ r. r then disturb12 then leaving second) sorted
       ∙ ap (λ r. r then leaving second) two
-      ∙ ap (λ r. r then λ o. ok o.left) g
+      ∙ ap (λ r. r then λ o. Some o.left) g
     where
       zero-l : (y z : ℤ) → T (is_zero y && is_zero z) → y ≡ pos 0
       zero-l y z t = zero_test y (and_l (is_zero y) (is_zero z) t)

@@ -6,6 +6,7 @@ use Prim.Native.Nat.{ℕ, zero, suc, ◌≤◌}
 use lib.Dec.{T, leb→le, lit≤}
 use lib.IntN.{ℤ, pos, nat_abs, ◌+ℤ◌, ◌*ℤ◌}
 use lib.ListN.{get_or, set}
+use Rattle.std.specs.Prelude.{Some}
 use Rattle.integer.proofs.Test.{and_l, and_r, and_in, is_true}
 use Rattle.integer.proofs.Fits.{held}
 use Rattle.common.specs.Matrix.{Axis, X, Y, Z, Mat, entry, vector, ◌·◌}
@@ -14,9 +15,10 @@ use Rattle.common.specs.IntegerMatrix.{product_fits}
 use Rattle.common.proofs.Bounds.{entry-within, matrix-sizes}
 use Rattle.common.proofs.Matrix.{axes-of, entry-matrix}
 use Rattle.common.proofs.Whole.{sized-product}
-use Rattle.snf_steps.specs.Result.{ok, provided}
+use Rattle.snf_steps.specs.Then.{provided}
 use Rattle.snf_steps.specs.Elementary.{put, unit, combining}
-use Rattle.snf_steps.specs.Columns.{Pair, multiply, Combination, combination_matrix, small, small_row, small_matrix, small_combination}
+use Rattle.snf_steps.specs.declared.columns.Combination.{Combination}
+use Rattle.snf_steps.specs.Columns.{Pair, multiply, combination_matrix, small, small_row, small_matrix, small_combination}
 
 -- ---- what the locals hold
 pub held_small : {x y : ℤ} → held x ≡ x → held y ≡ y → T (small x && small y) → T (small (held x) && small (held y))
@@ -39,9 +41,6 @@ module _ (s t : ℤ) (x y : List ℤ) where
 
   pub held-row : {r : List ℤ} → held s ≡ s → held t ≡ t → r ≡ items (vector (λ k. held s *ℤ along x k +ℤ held t *ℤ along y k)) → r ≡ items (vector (λ k. s *ℤ along x k +ℤ t *ℤ along y k))
   held-row es et e = e ∙ (λ i. items (vector (λ k. es i *ℤ along x k +ℤ et i *ℤ along y k)))
-
-pub held-mix : {r s s' x x' t t' y y' : ℤ} → held r ≡ r → r ≡ s' *ℤ x' +ℤ t' *ℤ y' → s' ≡ s → x' ≡ x → t' ≡ t → y' ≡ y → held r ≡ s *ℤ x +ℤ t *ℤ y
-held-mix h e es ex et ey = h ∙ e ∙ (λ i. es i *ℤ ex i +ℤ et i *ℤ ey i)
 
 -- ---- nothing leaves 64 bits
 -- one item of a list replaced
@@ -85,7 +84,7 @@ module _ (i j : ℕ) (c : Combination) (t : T (small_combination c)) where
   small-fits : (m : Mat ℤ) → T (small_matrix m) → T (product_fits (combination_matrix i j c) m)
   small-fits m u = sized-product (combination_matrix i j c) m 0x3fffffff 0x3fffffff combining-sizes (matrix-sizes 0x3fffffff m u) (lit≤ tt)
 
-  pub small-step : (s : Pair) → T (small_matrix s.a) → T (small_matrix s.p) → multiply (combination_matrix i j c) s ≡ ok (record { a = combination_matrix i j c · s.a; p = combination_matrix i j c · s.p })
+  pub small-step : (s : Pair) → T (small_matrix s.a) → T (small_matrix s.p) → multiply (combination_matrix i j c) s ≡ Some (record { a = combination_matrix i j c · s.a; p = combination_matrix i j c · s.p })
   unfolding multiply
   small-step s u v =
       let l = combination_matrix i j c in

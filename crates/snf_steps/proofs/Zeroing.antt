@@ -5,6 +5,7 @@ use mathlib.Core.Logic.{◌⊎◌, inl, inr}
 use Prim.Native.Nat.{ℕ, zero, ◌^◌, ◌≤◌, ◌<◌}
 use lib.Dec.{T}
 use lib.IntN.{ℤ, pos, neg_ℤ, nat_abs}
+use Rattle.std.specs.Prelude.{Some}
 use Rattle.integer.specs.Checked.{is_zero}
 use Rattle.integer.proofs.Test.{and_l}
 use Rattle.integer.proofs.Ring.{neg-*ℤ}
@@ -16,10 +17,11 @@ use Rattle.common.specs.Array.{matrix_of}
 use Rattle.common.specs.IntegerMatrix.{product_fits}
 use Rattle.common.proofs.Matrix.{product-assoc, identity-product}
 use Rattle.common.proofs.Unimodular.{Unimodular, unimodular-product}
-use Rattle.snf_steps.specs.Result.{ok, ◌then◌}
+use Rattle.snf_steps.specs.Then.{◌then◌}
 use Rattle.snf_steps.specs.Gcd.{extended_gcd}
 use Rattle.snf_steps.specs.Elementary.{combining, set_zero_fits}
-use Rattle.snf_steps.specs.Columns.{Pair, multiply, Combination, combination, combination_matrix, make_zero}
+use Rattle.snf_steps.specs.declared.columns.Combination.{Combination}
+use Rattle.snf_steps.specs.Columns.{Pair, multiply, combination, combination_matrix, make_zero}
 use Rattle.snf_steps.proofs.Accepted.{Accepted, accepted, accepted-bind, accepted-map, accepted-both, accepted-provided, accepted-pick}
 use Rattle.snf_steps.proofs.FittingEntries.{Fits, product-fits}
 use Rattle.snf_steps.proofs.Bezout.{extended-gcd, Bezout, bezout, bezout-zero}
@@ -91,7 +93,7 @@ pub make-zero-does : (i j : ℕ) (a b : ℤ) (s : Pair) → rows.combining i j (
     → Accepted (Zeroed i j a b s) (make_zero i j a b s)
 unfolding make_zero bezout-zero
 make-zero-does i j a b s same ha hb w =
-    accepted-pick (is_zero b) (ok s) _
+    accepted-pick (is_zero b) (Some s) _
     (λ t. accepted (record { by = bezout-zero a b ha (zero_test b t); is = sym (ap (λ l. multiplied l s) same ∙ identity-multiplied s); fits = w; still = λ _. refl; sign = inl (zero_test b t, refl) }))
     (λ n. accepted-bind _ (combination-does i j a b (nonzero-test b n) hb) (λ c z.
     accepted-map (multiply-does (combination_matrix i j c) s) (λ t q. record {

@@ -1,24 +1,15 @@
--- What the code's pairs, pivots and combinations stand for.
-use Rattle.common.specs.Array.{matrix_at}
+-- What the code's pairs stand for.
+use Rattle.std.specs.Prelude.{[], ℕ, ℤ, pos, get_or, Option, option_map}
+use Rattle.common.specs.Array.{matrix_of}
 use Rattle.snf_steps.specs.declared.columns.Pair as code
-use Rattle.snf_steps.specs.declared.columns.Pivot as found
-use Rattle.snf_steps.specs.declared.columns.Combination as step
-use Rattle.snf_steps.specs.declared.columns.Pivot.TheVariants.{Row, Nothing}
-use Rattle.snf_steps.specs.Result.{Result, provided, fitting}
-use Rattle.snf_steps.specs.Columns.{Pair, Pivot, row, none, Combination}
+use Rattle.snf_steps.specs.Columns.{Pair}
 
 abbrev pub matrices_of : code.Pair → Pair
-matrices_of s = record { a = matrix_at s.a 0; p = matrix_at s.p 0 }
+matrices_of s = record { a = matrix_of s.a; p = matrix_of s.p }
 
-abbrev pub pair_of : code.Pair → Result Pair
-pair_of s = provided (fitting s.fits) (matrices_of s)
+abbrev pub pair_of : Option code.Pair → Option Pair
+pair_of s = option_map matrices_of s
 
-abbrev pub pivot_of : found.Pivot → Pivot
-pivot_of (Row i) = row i
-pivot_of Nothing = none
-
-abbrev pub numbers_of : step.Combination → Combination
-numbers_of c = record { s = c.s; t = c.t; v = c.v; u = c.u }
-
-abbrev pub combination_of : step.Combination → Result Combination
-combination_of c = provided c.fits (numbers_of c)
+-- at row i, column j
+abbrev pub entry_of : code.Pair → ℕ → ℕ → ℤ
+entry_of s i j = get_or (get_or s.a i []) j (pos 0)

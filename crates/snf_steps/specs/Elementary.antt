@@ -1,9 +1,10 @@
 -- The elementary matrices, written entry by entry as in the Rust.
-use Rattle.std.specs.Prelude.{Bool, not, ◌&&◌, List, [], ℕ, ℤ, pos, negsuc, neg_ℤ, get_or, set}
-use Rattle.std.specs.Int.Signed.{quot_z}
+use Rattle.std.specs.Prelude.{Bool, not, ◌&&◌, List, [], ℕ, ℤ, pos, negsuc, neg_ℤ, get_or, set, Option}
+use Rattle.std.specs.Int.Signed.{quot_z, rem_z}
 use Rattle.integer.specs.Checked.{fits64, is_zero}
 use Rattle.common.specs.Matrix.{identity}
 use Rattle.common.specs.Array.{rows}
+use Rattle.snf_steps.specs.Then.{provided}
 
 -- x at row i, column j
 abbrev pub put : ℕ → ℕ → ℤ → List (List ℤ) → List (List ℤ)
@@ -41,9 +42,19 @@ below_second v = put 2 1 v unit
 abbrev pub quotient_fits : ℤ → ℤ → Bool
 quotient_fits a d = not (is_zero d) && fits64 (quot_z a d)
 
+abbrev pub quotient : ℤ → ℤ → Option ℤ
+quotient a d = provided (quotient_fits a d) (quot_z a d)
+
 -- -z / d
 abbrev pub neg_quotient_fits : ℤ → ℤ → Bool
 neg_quotient_fits z d = fits64 (neg_ℤ z) && quotient_fits (neg_ℤ z) d
+
+abbrev pub neg_quotient : ℤ → ℤ → Option ℤ
+neg_quotient z d = provided (neg_quotient_fits z d) (quot_z (neg_ℤ z) d)
+
+-- is z a multiple of d
+abbrev pub is_multiple : ℤ → ℤ → Option Bool
+is_multiple z d = provided (quotient_fits z d) (is_zero (rem_z z d))
 
 abbrev pub set_zero_fits : (a b r : ℤ) → Bool
 set_zero_fits a b r = neg_quotient_fits b r && quotient_fits a r

@@ -1,6 +1,5 @@
-pub mod Result
+pub mod Then
 pub mod Gcd
-pub mod GcdView
 pub mod Elementary
 pub mod Columns
 pub mod ColumnsView

@@ -1,11 +1,10 @@
 -- `first` and `second`: rows with p, columns with q, then what the pivot divides.
-use Rattle.std.specs.Prelude.{Bool, true, false, ◌&&◌, ℤ, neg_ℤ}
-use Rattle.std.specs.Int.Signed.{quot_z, rem_z}
+use Rattle.std.specs.Prelude.{Bool, true, false, ◌&&◌, ℤ, Option, Some}
 use Rattle.integer.specs.Checked.{is_zero, pick}
 use Rattle.common.specs.Matrix.{Mat, transpose}
 use Rattle.common.specs.Array.{matrix_of}
-use Rattle.snf_steps.specs.Result.{Result, ok, ◌then◌, provided}
-use Rattle.snf_steps.specs.Elementary.{below_first, below_second, quotient_fits, neg_quotient_fits}
+use Rattle.snf_steps.specs.Then.{◌then◌}
+use Rattle.snf_steps.specs.Elementary.{below_first, below_second, is_multiple, neg_quotient}
 use Rattle.snf_steps.specs.Columns.{Pair, multiply, first_column, second_column}
 
 -- q is held transposed
@@ -26,14 +25,14 @@ with_rows s u = record { a = u.a; p = u.p; q = s.q }
 abbrev pub with_columns : Triple → Pair → Triple
 with_columns s u = record { a = transpose u.a; p = s.p; q = u.p }
 
-abbrev pub on_rows : (Pair → Result Pair) → Triple → Result Triple
-on_rows f s = f (rows_of s) then λ u. ok (with_rows s u)
+abbrev pub on_rows : (Pair → Option Pair) → Triple → Option Triple
+on_rows f s = f (rows_of s) then λ u. Some (with_rows s u)
 
-abbrev pub on_columns : (Pair → Result Pair) → Triple → Result Triple
-on_columns f s = f (columns_of s) then λ u. ok (with_columns s u)
+abbrev pub on_columns : (Pair → Option Pair) → Triple → Option Triple
+on_columns f s = f (columns_of s) then λ u. Some (with_columns s u)
 
 -- a column step on the rows, then on the columns
-unfoldable pub one_loop : (Pair → Result Pair) → Triple → Result Triple
+unfoldable pub one_loop : (Pair → Option Pair) → Triple → Option Triple
 one_loop f s = on_rows f s then on_columns f
 
 -- what a stage leaves, and whether it is through
@@ -41,44 +40,36 @@ pub record Outcome : Type 0 where
   pub done : Bool
   pub left : Triple
 
-abbrev pub through : Triple → Result Outcome
-through s = ok (record { done = true; left = s })
+abbrev pub through : Triple → Option Outcome
+through s = Some (record { done = true; left = s })
 
-abbrev pub again : Triple → Result Outcome
-again s = ok (record { done = false; left = s })
-
--- is z a multiple of d
-abbrev pub is_multiple : ℤ → ℤ → Result Bool
-is_multiple z d = provided (quotient_fits z d) (is_zero (rem_z z d))
-
--- -z / d
-abbrev pub neg_quotient : ℤ → ℤ → Result ℤ
-neg_quotient z d = provided (neg_quotient_fits z d) (quot_z (neg_ℤ z) d)
+abbrev pub again : Triple → Option Outcome
+again s = Some (record { done = false; left = s })
 
 -- ---- first
-abbrev pub first_finalize : (d y z : ℤ) → Triple → Result Outcome
+abbrev pub first_finalize : (d y z : ℤ) → Triple → Option Outcome
 first_finalize d y z s = neg_quotient y d then λ u. neg_quotient z d then λ v. on_rows (multiply (matrix_of (below_first u v))) s then through
 
-abbrev pub first_tests : (d y z : ℤ) → Triple → Result Outcome
+abbrev pub first_tests : (d y z : ℤ) → Triple → Option Outcome
 first_tests d y z s =
     pick (is_zero y && is_zero z) (through s)
     (is_multiple y d then λ b. pick b (is_multiple z d then λ c. pick c (first_finalize d y z s) (again s)) (again s))
 
-abbrev pub first_end : Triple → Result Outcome
+abbrev pub first_end : Triple → Option Outcome
 first_end s = first_tests s.a.a s.a.d s.a.g s
 
-unfoldable pub first : Triple → Result Outcome
+unfoldable pub first : Triple → Option Outcome
 first s = one_loop first_column s then first_end
 
 -- ---- second
-abbrev pub second_finalize : (d z : ℤ) → Triple → Result Outcome
+abbrev pub second_finalize : (d z : ℤ) → Triple → Option Outcome
 second_finalize d z s = neg_quotient z d then λ v. on_rows (multiply (matrix_of (below_second v))) s then through
 
-abbrev pub second_tests : (d z : ℤ) → Triple → Result Outcome
+abbrev pub second_tests : (d z : ℤ) → Triple → Option Outcome
 second_tests d z s = pick (is_zero z) (through s) (is_multiple z d then λ b. pick b (second_finalize d z s) (again s))
 
-abbrev pub second_end : Triple → Result Outcome
+abbrev pub second_end : Triple → Option Outcome
 second_end s = second_tests s.a.e s.a.h s
 
-unfoldable pub second : Triple → Result Outcome
+unfoldable pub second : Triple → Option Outcome
 second s = one_loop second_column s then second_end

@@ -1,7 +1,7 @@
 // The extended gcd.
-ghost use Rattle.std.specs.Prelude.{◌≡◌, ◌<◌, T, nat_abs, ◌*ℤ◌, ◌-ℤ◌};
+ghost use Rattle.std.specs.Prelude.{◌≡◌, ◌<◌, nat_abs, ◌*ℤ◌, ◌-ℤ◌};
+ghost use Rattle.snf_steps.specs.Then.{provided};
 ghost use Rattle.snf_steps.specs.Gcd.{less_fits, step, extended_gcd, counted_gcd};
-ghost use Rattle.snf_steps.specs.GcdView.{euclid_of, division_of, counted_of};
 
 // Two remainders after each other: r = s·a + t·b and r1 = s1·a + t1·b.
 #[derive(Clone, Copy)]
@@ -14,64 +14,39 @@ pub struct Euclid {
     pub t1: i64,
 }
 
+// How the walk ends, and after how many divisions.
 #[derive(Clone, Copy)]
-pub enum Division {
-    Done(Euclid),
-    Overflow,
+pub struct Counted {
+    pub last: Euclid,
+    pub count: usize,
 }
 
-fn less_fits(x: i64, q: i64, y: i64) -> bool
-    ensures { result ≡ less_fits x q y }
+// x - q·y
+fn less(x: i64, q: i64, y: i64) -> Option<i64>
+    ensures { result ≡ provided (less_fits x q y) (x -ℤ q *ℤ y) }
 {
-    if !integer::mul_fits(q, y) {
-        return false;
-    }
-    integer::sub_fits(x, q * y)
+    x.checked_sub(q.checked_mul(y)?)
 }
 
-fn less(x: i64, q: i64, y: i64) -> i64
-    requires { T (less_fits x q y) }
-    ensures { result ≡ x -ℤ q *ℤ y }
-{
-    x - q * y
-}
-
-fn step(e: Euclid) -> Division
+// One division.
+fn step(e: Euclid) -> Option<Euclid>
     requires { 0 < nat_abs e.r1 }
-    ensures { division_of result ≡ step (euclid_of e) }
+    ensures { result ≡ step e }
 {
-    let r = e.r;
-    let r1 = e.r1;
-    if !integer::quot_fits(r, r1) {
-        return Division::Overflow;
-    }
-    let q = integer::div_euclid(r, r1);
-    if !less_fits(e.s, q, e.s1) {
-        return Division::Overflow;
-    }
-    if !less_fits(e.t, q, e.t1) {
-        return Division::Overflow;
-    }
-    Division::Done(Euclid {
-        r: r1,
-        r1: integer::rem_euclid(r, r1),
+    let q = e.r.checked_div_euclid(e.r1)?;
+    Some(Euclid {
+        r: e.r1,
+        r1: e.r.rem_euclid(e.r1),
         s: e.s1,
-        s1: less(e.s, q, e.s1),
+        s1: less(e.s, q, e.s1)?,
         t: e.t1,
-        t1: less(e.t, q, e.t1),
+        t1: less(e.t, q, e.t1)?,
     })
 }
 
-// How the walk ends, and after how many divisions.
-#[derive(Clone, Copy)]
-pub enum Counted {
-    Done(Euclid, usize),
-    Overflow,
-}
-
 // r = s·a + t·b, where r divides a and b.
-pub fn counted_gcd(a: i64, b: i64) -> Counted
-    ensures { counted_of result ≡ counted_gcd a b }
+pub fn counted_gcd(a: i64, b: i64) -> Option<Counted>
+    ensures { result ≡ counted_gcd a b }
 {
     let mut e = Euclid {
         r: a,
@@ -81,26 +56,20 @@ pub fn counted_gcd(a: i64, b: i64) -> Counted
         t: 0,
         t1: 1,
     };
-    let mut i: usize = 0;
-    while i < 1000 {
-        let r1 = e.r1;
-        if r1 == 0 {
-            return Counted::Done(e, i);
+    for i in 0..1000 {
+        if e.r1 == 0 {
+            return Some(Counted { last: e, count: i });
         }
-        let Division::Done(n) = step(e) else {
-            return Counted::Overflow;
-        };
-        e = n;
-        i += 1;
+        e = step(e)?;
     }
-    Counted::Done(e, i)
+    Some(Counted {
+        last: e,
+        count: 1000,
+    })
 }
 
-pub fn extended_gcd(a: i64, b: i64) -> Division
-    ensures { division_of result ≡ extended_gcd a b }
+pub fn extended_gcd(a: i64, b: i64) -> Option<Euclid>
+    ensures { result ≡ extended_gcd a b }
 {
-    let Counted::Done(e, _) = counted_gcd(a, b) else {
-        return Division::Overflow;
-    };
-    Division::Done(e)
+    Some(counted_gcd(a, b)?.last)
 }

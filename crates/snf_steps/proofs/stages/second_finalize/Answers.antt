@@ -1,0 +1,18 @@
+use Rattle.std.proofs.Common.{◌≡◌, Some, ◌∙◌, ap, rules}
+use Rattle.common.specs.Array.{matrix_of}
+use Rattle.snf_steps.specs.Then.{◌then◌}
+use Rattle.snf_steps.specs.Elementary.{below_second, neg_quotient}
+use Rattle.snf_steps.specs.Columns.{multiply}
+use Rattle.snf_steps.specs.Stages.{on_rows, through}
+use Rattle.snf_steps.specs.StagesView.{three_of}
+use Rattle.snf_steps.proofs.stages.second_finalize.Goals as goal
+
+pub returns : goal.returns
+returns c =
+    let a = c.args in
+    let s = three_of a.s in
+    let v = c.in_ok-v.v in
+    let ev : Some v ≡ neg_quotient a.z a.d = search rules in
+    let l : c.elementary_add_rows.result ≡ below_second v = search rules in
+    let et = c.in_ok-t.ensures ∙ ap (λ l. on_rows (multiply (matrix_of l)) s) l in
+    ap (λ r. r then through) et ∙ ap (λ r. r then λ v. on_rows (multiply (matrix_of (below_second v))) s then through) ev

@@ -1,9 +1,10 @@
 // Of the diagonalising.
 ghost use Rattle.std.specs.Prelude.{◌≡◌, [], ◌∷◌, length};
-ghost use Rattle.common.specs.Tested.{answer_of};
+ghost use Rattle.common.specs.Tested.{answer_of, told_of};
 ghost use Rattle.answers.specs.Diagonals.{result_lengths, diagonal_lengths, smith_lengths};
 
-use crate::number;
+use crate::tell;
+use common::Refusal;
 use smith3x3::Smith;
 use snf3x3::Snf;
 
@@ -25,53 +26,58 @@ pub fn smith_lengths(a: usize, d: usize, p: usize, q: usize) -> bool
     a == 9 && result_lengths(d, p, q)
 }
 
-fn copy_three(
-    diagonal: [i64; 3],
-    left: [i64; 9],
-    right: [i64; 9],
+pub fn tell_diagonal(
+    answer: Result<Snf, Refusal>,
     d: &mut [i64],
     p: &mut [i64],
     q: &mut [i64],
-)
-    requires { (length d.old ≡ 3) × (length p.old ≡ 9) × (length q.old ≡ 9) }
-    ensures d_after { d.new ≡ diagonal }
-    ensures p_after { p.new ≡ left }
-    ensures q_after { q.new ≡ right }
-{
-    d.copy_from_slice(&diagonal);
-    p.copy_from_slice(&left);
-    q.copy_from_slice(&right);
-}
-
-pub fn tell_diagonal(s: Snf, d: &mut [i64], p: &mut [i64], q: &mut [i64], told: &mut [i64]) -> i64
+    told: &mut [i64],
+) -> i64
     requires { (length d.old ≡ 3) × (length p.old ≡ 9) × (length q.old ≡ 9) × (length told.old ≡ 1) }
-    ensures value { result ≡ answer_of s.tested }
-    ensures d_after { d.new ≡ s.d_diag }
-    ensures p_after { p.new ≡ s.p }
-    ensures q_after { q.new ≡ s.q }
-    ensures told_after { told.new ≡ s.rounds ∷ [] }
+    ensures value { result ≡ answer_of answer }
+    ensures d_after { d.new ≡ told_of (λ s. s.d_diag) 3 answer }
+    ensures p_after { p.new ≡ told_of (λ s. s.p) 9 answer }
+    ensures q_after { q.new ≡ told_of (λ s. s.q) 9 answer }
+    ensures told_after { told.new ≡ told_of (λ s. s.rounds ∷ []) 1 answer }
 {
-    let diagonal = s.d_diag;
-    let left = s.p;
-    let right = s.q;
-    copy_three(diagonal, left, right, d, p, q);
-    let rounds = s.rounds;
-    told[0] = rounds;
-    let t = s.tested;
-    number(t)
+    match answer {
+        Ok(s) => {
+            tell(Ok(s.d_diag), d);
+            tell(Ok(s.p), p);
+            tell(Ok(s.q), q);
+            tell(Ok([s.rounds]), told)
+        }
+        Err(r) => {
+            tell::<3>(Err(r), d);
+            tell::<9>(Err(r), p);
+            tell::<9>(Err(r), q);
+            tell::<1>(Err(r), told)
+        }
+    }
 }
 
-pub fn tell_smith(s: Smith, d: &mut [i64], p: &mut [i64], q: &mut [i64]) -> i64
+pub fn tell_smith(
+    answer: Result<Smith, Refusal>,
+    d: &mut [i64],
+    p: &mut [i64],
+    q: &mut [i64],
+) -> i64
     requires { (length d.old ≡ 3) × (length p.old ≡ 9) × (length q.old ≡ 9) }
-    ensures value { result ≡ answer_of s.tested }
-    ensures d_after { d.new ≡ s.d_diag }
-    ensures p_after { p.new ≡ s.p }
-    ensures q_after { q.new ≡ s.q }
+    ensures value { result ≡ answer_of answer }
+    ensures d_after { d.new ≡ told_of (λ s. s.d_diag) 3 answer }
+    ensures p_after { p.new ≡ told_of (λ s. s.p) 9 answer }
+    ensures q_after { q.new ≡ told_of (λ s. s.q) 9 answer }
 {
-    let diagonal = s.d_diag;
-    let left = s.p;
-    let right = s.q;
-    copy_three(diagonal, left, right, d, p, q);
-    let t = s.tested;
-    number(t)
+    match answer {
+        Ok(f) => {
+            tell(Ok(f.d_diag), d);
+            tell(Ok(f.p), p);
+            tell(Ok(f.q), q)
+        }
+        Err(r) => {
+            tell::<3>(Err(r), d);
+            tell::<9>(Err(r), p);
+            tell::<9>(Err(r), q)
+        }
+    }
 }

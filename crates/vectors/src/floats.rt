@@ -1,8 +1,9 @@
 // A float stands in a line as the two 32-bit words of its bits, the high one first; several, as their
 // count and the words of each.
-ghost use Rattle.std.specs.Prelude.{◌≡◌};
+ghost use Rattle.std.specs.Prelude.{◌≡◌, ◌+◌, ◌*◌, length, drop, IfSome};
 ghost use Rattle.std.specs.Float.{binary64};
 ghost use Rattle.std.specs.Float.Ieee.{to_bits};
+ghost use Rattle.vectors.specs.Line.{size};
 
 use crate::slices;
 
@@ -23,7 +24,9 @@ pub fn bits_of(x: f64) -> u64
 }
 
 // The floats that a line starts with, read into `held`, and the rest of the line.
-pub fn read<'a, 'b>(line: &'a [i64], held: &'b mut [f64]) -> Option<(&'b [f64], &'a [i64])> {
+pub fn read<'a, 'b>(line: &'a [i64], held: &'b mut [f64]) -> Option<(&'b [f64], &'a [i64])>
+    ensures { IfSome result (λ r. (length r.0.now ≡ size line.now) × (r.1.now ≡ drop (size line.now * 2 + 1) line.now)) }
+{
     let (words, rest) = slices::split_pairs(line)?;
     let floats = held.get_mut(..words.len())?;
     for (x, [high, low]) in floats.iter_mut().zip(words) {

@@ -1,6 +1,6 @@
 // A slice stands in a line as its length and its items; one that a call wrote and that has over LISTED
 // places, as its length and a sum.
-ghost use Rattle.std.specs.Prelude.{◌≡◌, ◌≤◌, ◌<◌, min, length, drop};
+ghost use Rattle.std.specs.Prelude.{◌≡◌, ◌≤◌, ◌<◌, ◌+◌, ◌*◌, min, length, drop, IfSome};
 ghost use Rattle.vectors.specs.Line.{size, items, beyond, beyond_output};
 ghost use Rattle.vectors.specs.Words.{term_of, sum_from};
 
@@ -45,7 +45,9 @@ pub fn split(line: &[i64]) -> (&[i64], &[i64])
 }
 
 // The pairs that a line starts with, their count and two numbers each, and the rest of the line.
-pub fn split_pairs(line: &[i64]) -> Option<(&[[i64; 2]], &[i64])> {
+pub fn split_pairs(line: &[i64]) -> Option<(&[[i64; 2]], &[i64])>
+    ensures { IfSome result (λ r. (length r.0.now ≡ size line.now) × (r.1.now ≡ drop (size line.now * 2 + 1) line.now)) }
+{
     let (count, rest) = line.split_first()?;
     let numbers = (count.unsigned_abs() as usize).checked_mul(2)?;
     let (words, rest) = rest.split_at_checked(numbers)?;

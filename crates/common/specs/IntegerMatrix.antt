@@ -2,7 +2,8 @@
 use Rattle.std.specs.Prelude.{Bool, ℕ, max, ℤ, nat_abs, neg_ℤ}
 use Rattle.integer.specs.Checked.{fits64}
 use Rattle.common.specs.Matrix.{Axis, X, Y, Z, all_axes, Vec, Mat, entry, integers}
-use Rattle.common.specs.Fitting.{products_fit_over, dot_fits_over, product_fits_over, apply_fits_over, cross_fits_over, expand_fits_over, minors_fit_over, det_fits_over}
+use Rattle.common.specs.Fitting.{products_fit_over, dot_fits_over, product_fits_over, apply_fits_over}
+use Rattle.common.specs.Fitting.{cross_fits_over, expand_fits_over, minors_fit_over, det_fits_over}
 
 abbrev pub products_fit : (u v : Axis → ℤ) → Bool
 products_fit = products_fit_over integers fits64

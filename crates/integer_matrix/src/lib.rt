@@ -139,6 +139,7 @@ pub fn matmul_fits(l: [[i64; 3]; 3], a: [[i64; 3]; 3], b: [[i64; 3]; 3]) -> bool
     rows_fit(l, a) && rows_fit(l, b)
 }
 
+// Under the name of its test, which the proofs above keep folded.
 #[tactic(auto, unfolding(common::specs::IntegerMatrix::product_fits))]
 pub fn matmul_i(a: [[i64; 3]; 3], b: [[i64; 3]; 3]) -> [[i64; 3]; 3]
     requires { T (product_fits (matrix_of a) (matrix_of b)) }
@@ -182,6 +183,7 @@ pub fn det_fits(m: [[i64; 3]; 3]) -> bool
     minors_fit(y, z) && expand_fits(x, common::minors(y, z))
 }
 
+// As matmul_i.
 #[tactic(auto, unfolding(common::specs::IntegerMatrix::det_fits))]
 pub fn det_i(m: [[i64; 3]; 3]) -> i64
     requires { T (det_fits (matrix_of m)) }

@@ -17,6 +17,8 @@ returns-then-mul_fits-2 c =
       | then-mul_fits w ↦
           let main = sym (rw (a, d) at c.mul_fits.ensures) ∙ w.if-mul_fits.true in
           let other = sym (rw (b, k) at w.mul_fits-then-mul_fits.ensures) ∙ sym w.value-is ∙ c.if-mul_fits-2.true in
-          (rw (a, b, k, d, held_of {v = c.args.a *ℤ c.args.d} refl (holds main), held_of {v = c.args.b *ℤ c.args.c} refl (holds other)) at c.sub_fits.ensures) ∙ first_holds _ other ∙ first_holds _ main
+          let ad = held_of {v = c.args.a *ℤ c.args.d} refl (holds main) in
+          let bc = held_of {v = c.args.b *ℤ c.args.c} refl (holds other) in
+          (rw (a, b, k, d, ad, bc) at c.sub_fits.ensures) ∙ first_holds _ other ∙ first_holds _ main
       | else-mul_fits w ↦ cc
     ]

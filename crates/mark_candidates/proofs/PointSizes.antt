@@ -4,7 +4,7 @@ use Prim.Native.Nat.{ℕ, zero, suc, ◌*◌, ◌-◌, ◌/◌, ◌%◌, ◌<◌
 use native.Mathlib.Nat.{div-le_self, div-mul-le_self, mod-le, mod-lt, mul-le-mul, le_of_eq, le_trans}
 use native.Mathlib.Omega.{arith}
 use lib.Dec.{T, lit≤, lit<}
-use lib.IntN.{ℤ, pos, nat_abs, ◌+ℤ◌, ◌*ℤ◌, ◌-ℤ◌}
+use lib.IntN.{ℤ, pos, nat_abs, ◌+ℤ◌, ◌*ℤ◌}
 use lib.ListN.{get_or}
 use Rattle.integer.proofs.Size.{abs-mul}
 use Rattle.integer.proofs.Plain.{plain, p_atom, plain-within}

@@ -34,10 +34,6 @@ module _ {w lowest highest : List ℤ} (f : Sized 214748364800 w) (g : Sized 100
   pub width-size : (k : ℕ) → nat_abs (width_at w lowest highest k) ≤ 429496729600000000
   width-size k = plain-within {v = width_at w lowest highest k} (search (plain, p-sized) depth 12) tt
 
-pub length-size : {w l : List ℤ} → Sized 214748364800 w → Sized 1000000 l → nat_abs (length_by w l) ≤ 1288490188800000000
-unfolding length_by
-length-size {w} {l} f k = plain-within {v = length_by w l} (search (plain, p-sized) depth 14) tt
-
 -- six numbers by a rule
 pub six-sized : {n : ℕ} (x : ℕ → ℤ) → ((k : ℕ) → nat_abs (x k) ≤ n) → Sized n (x 0 ∷ x 1 ∷ x 2 ∷ x 3 ∷ x 4 ∷ x 5 ∷ [])
 six-sized {n} x h = record { each = at }

@@ -5,7 +5,7 @@ use Rattle.bzsearch.specs.SearchView.{numbers_view, axes_view}
 use Rattle.bzsearch.proofs.Rows.{turn, finished, three-sized, held-small}
 use Rattle.bzgrid.specs.Writing.{tables}
 use Rattle.bzgrid.proofs.Kept.{keeping}
-use Rattle.bzgrid.proofs.tables.keep_box.Goals as goal
+use Rattle.bzgrid.proofs.tables.Keeping.keep_box.Goals as goal
 
 pub keep_one-t-requires-clause-fact_1 : goal.keep_one-t-requires-clause-fact_1
 keep_one-t-requires-clause-fact_1 c =
@@ -18,7 +18,7 @@ loop-k-preserved c =
     record {
       low = omega arith;
       high = omega arith;
-      kept = turn (keeping a.bz a.p a.bound) (line_at a.rest (numbers_view a.b.z) (held c.at-x.result) (held c.at-y.result)) c.loop-k.k (tables l.addresses l.grg l.t.at l.t.next) c.loop-k.invariant.kept c.keep_one-t.ensures.next_after
+      kept = turn (keeping a.self.now.bz a.self.now.p a.self.now.bound) (line_at a.rest (numbers_view a.b.z) (held c.at-x.result) (held c.at-y.result)) c.loop-k.k (tables l.addresses l.grg l.t.at l.t.next) c.loop-k.invariant.kept c.keep_one-t.ensures.next_after
           (ap (λ (z : ℤ). chosen a.rest (record { x = held c.at-x.result; y = held c.at-y.result; z = z })) (held-is c.at.result c.at.type_inv ∙ c.at.ensures.value));
     }
 
@@ -28,7 +28,7 @@ loop-j-preserved c =
     let l = c.loop-i in
     let m = c.loop-j in
     let z = numbers_view a.b.z in
-    let f = keeping a.bz a.p a.bound in
+    let f = keeping a.self.now.bz a.self.now.p a.self.now.bound in
     record {
       low = omega arith;
       high = omega (arith, a.b.z.room.few);
@@ -43,7 +43,7 @@ loop-i-preserved c =
     let l = c.loop-i in
     let y = numbers_view a.b.y in
     let z = numbers_view a.b.z in
-    let f = keeping a.bz a.p a.bound in
+    let f = keeping a.self.now.bz a.self.now.p a.self.now.bound in
     record {
       low = omega arith;
       high = omega (arith, a.b.y.room.few);

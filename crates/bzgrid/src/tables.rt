@@ -78,75 +78,73 @@ fn store(i: usize, a: [i64; 3], addresses: &mut [i64], grg: &mut [i64], c: Curso
     }
 }
 
-// A candidate under the bound is kept as an image.
-fn keep(
-    bz: BzSearch,
-    p: Point,
-    m: [i64; 3],
-    bound: f64,
-    addresses: &mut [i64],
-    grg: &mut [i64],
-    c: Cursor,
-) -> Cursor
-    requires fact_1 { Sized 16 m }
-    requires fact_2 { c.next < 1099511627776 }
-    ensures next_after { tables addresses.new grg.new result.at result.next ≡ keep (search_of bz) p.index (vector_of p.address) (point_split p) bound (tables addresses.old grg.old c.at c.next) (vector_of m) }
-    ensures at_le_next { (c.next ≤ result.next) × (result.next ≤ c.next + 1) }
-{
-    if bz.distance(p.s0, m) < bound {
-        let a = bz.set_bz_address(m, p.address, p.nint);
-        return store(p.index, a, addresses, grg, c);
-    }
-    c
+// A point, and the bound under which its candidates are kept as images.
+#[derive(Clone, Copy)]
+pub struct Keeping {
+    pub bz: BzSearch,
+    pub p: Point,
+    pub bound: f64,
 }
 
-fn keep_one(
-    bz: BzSearch,
-    p: Point,
-    m: [i64; 3],
-    rest: bool,
-    bound: f64,
-    addresses: &mut [i64],
-    grg: &mut [i64],
-    c: Cursor,
-) -> Cursor
-    requires fact_1 { Sized 16 m }
-    requires fact_2 { c.next < 1099511627776 }
-    ensures next_after { tables addresses.new grg.new result.at result.next ≡ kept (search_of bz) p.index (vector_of p.address) (point_split p) bound (tables addresses.old grg.old c.at c.next) (chosen rest (vector_of m)) }
-    ensures at_le_next { (c.next ≤ result.next) × (result.next ≤ c.next + 1) }
-{
-    if rest && !candidates::is_outside(m) {
-        return c;
+impl Keeping {
+    fn keep(&self, m: [i64; 3], addresses: &mut [i64], grg: &mut [i64], c: Cursor) -> Cursor
+        requires fact_1 { Sized 16 m }
+        requires fact_2 { c.next < 1099511627776 }
+        ensures next_after { let k = self.now in tables addresses.new grg.new result.at result.next ≡ keep (search_of k.bz) k.p.index (vector_of k.p.address) (point_split k.p) k.bound (tables addresses.old grg.old c.at c.next) (vector_of m) }
+        ensures at_le_next { (c.next ≤ result.next) × (result.next ≤ c.next + 1) }
+    {
+        if self.bz.distance(self.p.s0, m) < self.bound {
+            let a = self.bz.set_bz_address(m, self.p.address, self.p.nint);
+            return store(self.p.index, a, addresses, grg, c);
+        }
+        c
     }
-    keep(bz, p, m, bound, addresses, grg, c)
-}
 
-fn keep_box(
-    bz: BzSearch,
-    p: Point,
-    b: Axes,
-    rest: bool,
-    bound: f64,
-    addresses: &mut [i64],
-    grg: &mut [i64],
-    c: Cursor,
-) -> Cursor
-    requires { c.next + 35937 ≤ 1099511627776 }
-    ensures next_after { tables addresses.new grg.new result.at result.next ≡ kept (search_of bz) p.index (vector_of p.address) (point_split p) bound (tables addresses.old grg.old c.at c.next) (box rest (axes_view b)) }
-    ensures at_le_next { (c.next ≤ result.next) × (result.next ≤ c.next + 35937) }
-{
-    let mut t = c;
-    for i in 0..b.x.n {
-        let x = b.x.at(i);
-        for j in 0..b.y.n {
-            let y = b.y.at(j);
-            for k in 0..b.z.n {
-                let m = [x, y, b.z.at(k)];
-                t = keep_one(bz, p, m, rest, bound, &mut *addresses, &mut *grg, t);
+    fn keep_one(
+        &self,
+        m: [i64; 3],
+        rest: bool,
+        addresses: &mut [i64],
+        grg: &mut [i64],
+        c: Cursor,
+    ) -> Cursor
+        requires fact_1 { Sized 16 m }
+        requires fact_2 { c.next < 1099511627776 }
+        ensures next_after { let k = self.now in tables addresses.new grg.new result.at result.next ≡ kept (search_of k.bz) k.p.index (vector_of k.p.address) (point_split k.p) k.bound (tables addresses.old grg.old c.at c.next) (chosen rest (vector_of m)) }
+        ensures at_le_next { (c.next ≤ result.next) × (result.next ≤ c.next + 1) }
+    {
+        if rest && !candidates::is_outside(m) {
+            return c;
+        }
+        self.keep(m, addresses, grg, c)
+    }
+
+    // The loops of bzsearch's least_box, which says why there are two.
+    fn keep_box(
+        &self,
+        b: Axes,
+        rest: bool,
+        addresses: &mut [i64],
+        grg: &mut [i64],
+        c: Cursor,
+    ) -> Cursor
+        requires { c.next + 35937 ≤ 1099511627776 }
+        ensures next_after { let k = self.now in tables addresses.new grg.new result.at result.next ≡ kept (search_of k.bz) k.p.index (vector_of k.p.address) (point_split k.p) k.bound (tables addresses.old grg.old c.at c.next) (box rest (axes_view b)) }
+        ensures at_le_next { (c.next ≤ result.next) × (result.next ≤ c.next + 35937) }
+    {
+        let mut t = c;
+        for i in 0..b.x.n {
+            let x = b.x.at(i);
+            for j in 0..b.y.n {
+                let y = b.y.at(j);
+                for k in 0..b.z.n {
+                    let m = [x, y, b.z.at(k)];
+                    t = self.keep_one(m, rest, &mut *addresses, &mut *grg, t);
+                }
             }
         }
+        t
     }
-    t
 }
 
 // The images of point i, in the order of the candidates. There are none where the range of the search leaves -16..16.
@@ -162,11 +160,15 @@ fn write_point(bz: BzSearch, i: usize, addresses: &mut [i64], grg: &mut [i64], c
         return c;
     }
     let b = candidates::boxes_of(r);
-    let bound = bz.bound(p.s0, b);
-    let t = keep_box(bz, p, b.first, false, bound, &mut *addresses, &mut *grg, c);
+    let keeping = Keeping {
+        bz: bz,
+        p: p,
+        bound: bz.bound(p.s0, b),
+    };
+    let t = keeping.keep_box(b.first, false, &mut *addresses, &mut *grg, c);
     match b.rest {
         None => t,
-        Some(whole) => keep_box(bz, p, whole, true, bound, addresses, grg, t),
+        Some(whole) => keeping.keep_box(whole, true, addresses, grg, t),
     }
 }
 

@@ -191,6 +191,8 @@ impl BzSearch {
         self.lower(s0, m, least)
     }
 
+    // bzgrid's keep_box has the same three loops. A walk that takes a closure can only ask that it may be called in any state, and keeping may only while
+    // there is room; a trait that says so is longer than the loops.
     fn least_box(self, s0: [f64; 3], b: Axes, rest: bool, from: f64) -> f64
         ensures { result ≡ least_of (search_of self) (float_vector s0) from (box rest (axes_view b)) }
     {

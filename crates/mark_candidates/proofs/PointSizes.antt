@@ -4,7 +4,7 @@ use Prim.Native.Nat.{ℕ, zero, suc, ◌*◌, ◌-◌, ◌/◌, ◌%◌, ◌<◌
 use native.Mathlib.Nat.{div-le_self, div-mul-le_self, mod-le, mod-lt, mul-le-mul, le_of_eq, le_trans}
 use native.Mathlib.Omega.{arith}
 use lib.Dec.{T, lit≤, lit<}
-use lib.IntN.{ℤ, pos, nat_abs, ◌+ℤ◌, ◌*ℤ◌, ◌-ℤ◌}
+use lib.IntN.{ℤ, pos, nat_abs, ◌+ℤ◌, ◌*ℤ◌}
 use lib.ListN.{get_or}
 use Rattle.integer.proofs.Size.{abs-mul}
 use Rattle.integer.proofs.Plain.{plain, p_atom, plain-within}
@@ -109,27 +109,3 @@ weights-small {v} h = record { each = at }
     at (suc (suc (suc (suc (suc (suc n)))))) = zero-le
 
 -- ---- the candidates
-translation-small : (i : ℕ) → i < 5 → nat_abs (translation i) ≤ 2
-translation-small zero h = lit≤ tt
-translation-small (suc zero) h = lit≤ tt
-translation-small (suc (suc zero)) h = lit≤ tt
-translation-small (suc (suc (suc zero))) h = lit≤ tt
-translation-small (suc (suc (suc (suc zero)))) h = lit≤ tt
-translation-small (suc (suc (suc (suc (suc i))))) h = omega arith
-
-moved-small : (x m : ℤ) (n : ℕ) → nat_abs x ≤ 65536 → n ≤ 65536 → nat_abs m ≤ 2 → nat_abs (x +ℤ pos (2 * n) *ℤ m) ≤ 327680
-moved-small x m n f few g = of x (pos (2 * n)) m f (omega arith) g
-  where
-    of : (x y m : ℤ) → nat_abs x ≤ 65536 → nat_abs y ≤ 131072 → nat_abs m ≤ 2 → nat_abs (x +ℤ y *ℤ m) ≤ 327680
-    of x y m f g h = plain-within {v = x +ℤ y *ℤ m} (search (plain, p_atom) depth 12) tt
-
-position-small : {s : List ℤ} → Sized 65536 s → (n : ℕ) → n ≤ 65536 → (i : ℕ) → i < 125 → Sized 327680 (items (position n (vector_of s) (candidate_at i)))
-unfolding candidate_at
-position-small {s} f n few i h =
-    sized-items (position n (vector_of s) (candidate_at i))
-    (moved-small (get_or s 0 (pos 0)) (translation (i / 25)) n (f.each 0) few (translation-small (i / 25) (omega (arith, div-mul-le_self i 25))))
-    (moved-small (get_or s 1 (pos 0)) (translation (i / 5 % 5)) n (f.each 1) few (translation-small (i / 5 % 5) (mod-lt (i / 5) (lit< tt))))
-    (moved-small (get_or s 2 (pos 0)) (translation (i % 5)) n (f.each 2) few (translation-small (i % 5) (mod-lt i (lit< tt))))
-
-pub candidate-weights : {s : List ℤ} → Sized 65536 s → (n : ℕ) → n ≤ 65536 → (i : ℕ) → i < 125 → Sized 214748364800 (weights (position n (vector_of s) (candidate_at i)))
-candidate-weights {s} f n few i h = weights-small {v = items (position n (vector_of s) (candidate_at i))} (position-small f n few i h)

@@ -1,141 +1,91 @@
--- The marks by the table of a point: the walk over the candidates j, and that it gives the marks of the definition.
-use mathlib.Core.Path.{◌≡◌, refl, sym, ◌∙◌, ap, ap₂}
+-- The marks by a table are those of the definition, and the walk over a table, turn by turn.
+use mathlib.Core.Path.{◌≡◌, refl, sym, ap₂}
 use mathlib.Core.Bool.{Bool, true, false, ◌&&◌, ◌||◌}
 use mathlib.Core.List.{List, [], ◌∷◌, map}
-use Prim.Native.Nat.{ℕ, zero, suc, ◌+◌, ◌-◌, ◌≤◌, ◌<◌}
-use native.Mathlib.Numerals.{add-one}
-use native.Mathlib.Omega.{arith}
-use lib.Dec.{T, eqb}
+use Prim.Native.Nat.{ℕ}
+use lib.Dec.{T}
 use lib.IntN.{ℤ, pos}
-use lib.Signed.{le_z, lt_z}
 use Rattle.integer.specs.Checked.{pick}
 use Rattle.common.specs.Every.{every, some}
 use Rattle.common.specs.Matrix.{Vec}
 use Rattle.common.specs.Array.{vector_of}
-use Rattle.bzsearch.specs.Search.{numbers_from}
 use Rattle.mark_candidates.specs.declared.table.Ranges.{Ranges}
-use Rattle.mark_candidates.specs.InnerProducts.{ordered, never_longer, shorter}
+use Rattle.mark_candidates.specs.declared.marks.Against.TheVariants.{Longer, NeverLonger, Open}
+use Rattle.mark_candidates.specs.InnerProducts as inner
 use Rattle.mark_candidates.specs.ScaledCoordinates.{position, candidates125}
 use Rattle.mark_candidates.specs.MarkCandidates.{ranges_of, nearest, beaten, mark}
-use Rattle.mark_candidates.specs.Code.Numbered.{candidate_at}
-use Rattle.mark_candidates.specs.Code.Table.{Table, least_of, most_of, verdict, against, is_beaten, is_nearest, from, mark_of}
-use Rattle.mark_candidates.proofs.Listed.{candidates-listed}
+use Rattle.mark_candidates.specs.Code.Table.{Compared, compared_at}
+use Rattle.mark_candidates.specs.Code.Marks.{longer, never_longer, verdict, against, mark_of}
 use Rattle.mark_candidates.proofs.TableEntries.{nearest-test, beaten-test}
 
--- ---- from candidate j on
-abbrev pub rest : ℕ → List ℕ
-rest j = from j (125 - j)
+-- past the end of a table
+abbrev pub nothing : Compared
+nothing = record { widths = []; lowest = pos 0; highest = pos 0 }
 
-at_place : (j : ℕ) → j < 125 → rest j ≡ j ∷ rest (j + 1)
-at_place j h = ap (from j) (one_more j h) ∙ ap (λ k. j ∷ from k (125 - (j + 1))) (sym (add-one j))
-  where
-    one_more : (j : ℕ) → j < 125 → 125 - j ≡ suc (125 - (j + 1))
-    one_more j h = omega arith
-
-no_more : (j : ℕ) → 125 ≤ j → rest j ≡ []
-no_more j h = ap (from j) (none j h)
-  where
-    none : (j : ℕ) → 125 ≤ j → 125 - j ≡ 0
-    none j h = omega arith
-
--- ---- one turn of the walk: `against` is 2 where j beats i, and 1 where i is never longer
-module _ (t : List ℤ) (i : ℕ) where
-  two-of : (b n : Bool) → verdict b n ≡ 2 → b ≡ true
-  two-of true n e = refl
-  two-of false true e = absurd (never e)
-    where
-      never : ◌≡◌ {A = ℕ} 1 2 → ⊥
-      never e = omega arith
-  two-of false false e = absurd (never e)
-    where
-      never : ◌≡◌ {A = ℕ} 0 2 → ⊥
-      never e = omega arith
-
-  else-of : (b n : Bool) → (verdict b n ≡ 2 → ⊥) → (b ≡ false) × (eqb (verdict b n) 1 ≡ n)
-  else-of true n e = absurd (e refl)
-  else-of false true e = (refl, refl)
-  else-of false false e = (refl, refl)
-
-  pub beaten-here : (j : ℕ) → j < 125 → against t i j ≡ 2 → is_beaten t i (rest j) ≡ true
+-- ---- one turn of the walk
+module _ (a o : Compared) where
+  pub is-longer : Longer ≡ against a o → longer a o ≡ true
   unfolding against
-  beaten-here j h e =
-      ap (is_beaten t i) (at_place j h)
-      ∙ ap (λ b. b || is_beaten t i (rest (j + 1))) (two-of (lt_z (pos 0) (least_of t i j)) (le_z (most_of t i j) (pos 0)) e)
-
-  pub beaten-on : (j : ℕ) → j < 125 → (against t i j ≡ 2 → ⊥) → is_beaten t i (rest (j + 1)) ≡ is_beaten t i (rest j)
-  unfolding against
-  beaten-on j h e =
-      sym (ap (is_beaten t i) (at_place j h)
-      ∙ ap (λ b. b || is_beaten t i (rest (j + 1))) (else-of (lt_z (pos 0) (least_of t i j)) (le_z (most_of t i j) (pos 0)) e).0)
-
-  pub nearest-on : (j : ℕ) → j < 125 → (against t i j ≡ 2 → ⊥) → (b : Bool) → (b && eqb (against t i j) 1) && is_nearest t i (rest (j + 1)) ≡ b && is_nearest t i (rest j)
-  unfolding against
-  nearest-on j h e b =
-      assoc b (eqb (against t i j) 1) (is_nearest t i (rest (j + 1)))
-      ∙ ap (λ n. b && (n && is_nearest t i (rest (j + 1)))) (else-of (lt_z (pos 0) (least_of t i j)) (le_z (most_of t i j) (pos 0)) e).1
-      ∙ ap (λ l. b && is_nearest t i l) (sym (at_place j h))
+  is-longer = by (longer a o) (never_longer a o)
     where
-      assoc : (a b c : Bool) → (a && b) && c ≡ a && (b && c)
-      assoc true b c = refl
-      assoc false b c = refl
+      by : (l n : Bool) → Longer ≡ verdict l n → l ≡ true
+      by true n e = refl
+      by false true e = cc
+      by false false e = cc
 
-  pub beaten-end : (j : ℕ) → 125 ≤ j → is_beaten t i (rest j) ≡ false
-  beaten-end j h = ap (is_beaten t i) (no_more j h)
-
-  pub nearest-end : (j : ℕ) → 125 ≤ j → (b : Bool) → b && is_nearest t i (rest j) ≡ b
-  nearest-end j h b = ap (λ l. b && is_nearest t i l) (no_more j h) ∙ with-true b
+  pub is-never-longer : NeverLonger ≡ against a o → (longer a o ≡ false) × (never_longer a o ≡ true)
+  unfolding against
+  is-never-longer = by (longer a o) (never_longer a o)
     where
-      with-true : (b : Bool) → b && true ≡ b
-      with-true true = refl
-      with-true false = refl
+      by : (l n : Bool) → NeverLonger ≡ verdict l n → (l ≡ false) × (n ≡ true)
+      by true n e = (cc, cc)
+      by false true e = (refl, refl)
+      by false false e = (cc, cc)
 
-  -- the mark, as the walk ends
-  pub marked_by : {b n : Bool} → is_beaten t i (from 0 125) ≡ b → is_nearest t i (from 0 125) ≡ n → pick b (pos 2) (pick n (pos 1) (pos 0)) ≡ mark_of t i
-  unfolding mark_of
-  marked_by e f = sym (ap₂ (λ b n. pick b (pos 2) (pick n (pos 1) (pos 0))) e f)
+  pub is-open : Open ≡ against a o → (longer a o ≡ false) × (never_longer a o ≡ false)
+  unfolding against
+  is-open = by (longer a o) (never_longer a o)
+    where
+      by : (l n : Bool) → Open ≡ verdict l n → (l ≡ false) × (n ≡ false)
+      by true n e = (cc, cc)
+      by false true e = (cc, cc)
+      by false false e = (refl, refl)
 
--- ---- numbers and candidates
-module _ {A : Type 0} (f : ℕ → A) (g : Vec ℤ → A) where
-  same_map : (j n : ℕ) → ((i : ℕ) → i < j + n → f i ≡ g (candidate_at i)) → map f (from j n) ≡ map g (numbers_from candidate_at j n)
-  same_map j zero e = refl
-  same_map j (suc n) e = ap₂ ◌∷◌ (e j (omega arith)) (same_map (suc j) n (λ i h. e i (omega arith)))
+-- the mark, as the walk ends
+pub marked_by : (t : List Compared) (a : Compared) {b n : Bool} → some (longer a) t ≡ b → every (never_longer a) t ≡ n → pick b (pos 2) (pick n (pos 1) (pos 0)) ≡ mark_of t a
+unfolding mark_of
+marked_by t a e f = sym (ap₂ (λ b n. pick b (pos 2) (pick n (pos 1) (pos 0))) e f)
 
-every_map : {A : Type 0} (p : A → Bool) (l : List A) → every p l ≡ every (λ b. b) (map p l)
-every_map p [] = refl
-every_map p (a ∷ l) = ap (λ t. p a && t) (every_map p l)
+-- ---- the marks of all
+module _ {A B : Type 0} (g : A → B) where
+  pub map-on : {C : Type 0} (f : B → C) (h : A → C) → ((a : A) → f (g a) ≡ h a) → (l : List A) → map f (map g l) ≡ map h l
+  map-on f h e [] = refl
+  map-on f h e (a ∷ l) = ap₂ ◌∷◌ (e a) (map-on f h e l)
 
-some-map : {A : Type 0} (p : A → Bool) (l : List A) → some p l ≡ some (λ b. b) (map p l)
-some-map p [] = refl
-some-map p (a ∷ l) = ap (λ t. p a || t) (some-map p l)
+  every-on : (p : B → Bool) (q : A → Bool) → ((a : A) → p (g a) ≡ q a) → (l : List A) → every p (map g l) ≡ every q l
+  every-on p q e [] = refl
+  every-on p q e (a ∷ l) = ap₂ ◌&&◌ (e a) (every-on p q e l)
 
-module _ {s : List ℤ} {n : ℕ} {r : Ranges} {t : List ℤ} (table : Table s n r t) (o : T (ordered (ranges_of r.lowest r.highest))) where
+  some-on : (p : B → Bool) (q : A → Bool) → ((a : A) → p (g a) ≡ q a) → (l : List A) → some p (map g l) ≡ some q l
+  some-on p q e [] = refl
+  some-on p q e (a ∷ l) = ap₂ ◌||◌ (e a) (some-on p q e l)
+
+module _ (s : List ℤ) (n : ℕ) (r : Ranges) (o : T (inner.ordered (ranges_of r.lowest r.highest))) where
+  abbrev table : List Compared
+  table = map (compared_at s n r) candidates125
+
+  abbrev at : Vec ℤ → Vec ℤ
+  at = position n (vector_of s)
+
   abbrev marking : Vec ℤ → ℤ
-  marking = mark (ranges_of r.lowest r.highest) (position n (vector_of s)) candidates125
+  marking = mark (ranges_of r.lowest r.highest) at candidates125
 
-  abbrev placed_at : Vec ℤ → Vec ℤ
-  placed_at = position n (vector_of s)
-
-  mark-is : (i : ℕ) → i < 125 → mark_of t i ≡ marking (candidate_at i)
+  mark-is : (m : Vec ℤ) → mark_of table (compared_at s n r m) ≡ marking m
   unfolding mark_of mark nearest beaten
-  mark-is i h = ap₂ (λ b n. pick b (pos 2) (pick n (pos 1) (pos 0))) some_same every-same
-    where
-      shorter-than : Vec ℤ → Bool
-      shorter-than m = shorter (ranges_of r.lowest r.highest) (placed_at m) (placed_at (candidate_at i))
+  mark-is m =
+      ap₂ (λ b n. pick b (pos 2) (pick n (pos 1) (pos 0)))
+      (some-on (compared_at s n r) (longer (compared_at s n r m)) (λ p. inner.shorter (ranges_of r.lowest r.highest) (at p) (at m)) (λ p. beaten-test s n r o m p) candidates125)
+      (every-on (compared_at s n r) (never_longer (compared_at s n r m)) (λ p. inner.never_longer (ranges_of r.lowest r.highest) (at m) (at p)) (λ p. nearest-test s n r o m p) candidates125)
 
-      never-longer-than : Vec ℤ → Bool
-      never-longer-than m = never_longer (ranges_of r.lowest r.highest) (placed_at (candidate_at i)) (placed_at m)
-
-      some_same : is_beaten t i (from 0 125) ≡ some shorter-than candidates125
-      some_same =
-          some-map (λ j. lt_z (pos 0) (least_of t i j)) (from 0 125)
-          ∙ ap (some (λ b. b)) (same_map (λ j. lt_z (pos 0) (least_of t i j)) shorter-than 0 125 (λ j l. beaten-test table o i j h l) ∙ ap (map shorter-than) (sym candidates-listed))
-          ∙ sym (some-map shorter-than candidates125)
-
-      every-same : is_nearest t i (from 0 125) ≡ every never-longer-than candidates125
-      every-same =
-          every_map (λ j. le_z (most_of t i j) (pos 0)) (from 0 125)
-          ∙ ap (every (λ b. b)) (same_map (λ j. le_z (most_of t i j) (pos 0)) never-longer-than 0 125 (λ j l. nearest-test table o i j h l) ∙ ap (map never-longer-than) (sym candidates-listed))
-          ∙ sym (every_map never-longer-than candidates125)
-
-  pub marks-are : map (mark_of t) (from 0 125) ≡ map marking candidates125
-  marks-are = same_map (mark_of t) marking 0 125 mark-is ∙ ap (map marking) (sym candidates-listed)
+  pub marks-are : map (mark_of table) table ≡ map marking candidates125
+  marks-are = map-on (compared_at s n r) (mark_of table) marking mark-is candidates125

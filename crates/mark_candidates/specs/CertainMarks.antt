@@ -4,7 +4,7 @@ use Rattle.common.specs.Tested.{Accepted}
 use Rattle.common.specs.Matrix.{Vec, origin}
 use Rattle.mark_candidates.specs.InnerProducts.{Ranges, ordered, Narrower, NeverLonger, Shorter, never_longer, shorter}
 use Rattle.mark_candidates.specs.ScaledCoordinates.{candidates125}
-use Rattle.mark_candidates.specs.MarkCandidates.{NearestForCertain, BeatenForCertain, ranges_of, placed, Marked, mark_candidates}
+use Rattle.mark_candidates.specs.MarkCandidates.{NearestForCertain, BeatenForCertain, ranges_of, placed, mark_candidates}
 
 abbrev pub mark_at : List ℤ → ℕ → ℤ
 mark_at l i = get_or l i (pos 0)

@@ -3,6 +3,7 @@
 
 mod candidates;
 mod coordinates;
+mod entry;
 mod marks;
 mod table;
 
@@ -20,29 +21,21 @@ fn ordered_at(r: Ranges, k: usize) -> bool
     requires { k < 6 }
     ensures { result ≡ le_z (get_or r.lowest k (pos 0)) (get_or r.highest k (pos 0)) }
 {
-    let lowest = r.lowest;
-    let highest = r.highest;
-    lowest[k] <= highest[k]
+    r.lowest[k] <= r.highest[k]
 }
 
 // No lowest lies above its highest.
 fn is_ordered(r: Ranges) -> bool
     ensures { result ≡ ordered (ranges_of r.lowest r.highest) }
 {
-    if !common::all_three(ordered_at(r, 0), ordered_at(r, 1), ordered_at(r, 2)) {
-        return false;
-    }
-    common::all_three(ordered_at(r, 3), ordered_at(r, 4), ordered_at(r, 5))
+    (ordered_at(r, 0) && ordered_at(r, 1) && ordered_at(r, 2))
+        && (ordered_at(r, 3) && ordered_at(r, 4) && ordered_at(r, 5))
 }
 
 fn grid_fits(d: [i64; 3], q: [[i64; 3]; 3], ps: [i64; 3]) -> bool
     ensures { result ≡ grid_fits d q ps }
 {
-    common::all_three(
-        common::diagonal_fits(d),
-        common::matrix_within(q, 1000),
-        common::shift_fits(ps),
-    )
+    common::diagonal_fits(d) && common::matrix_within(q, 1000) && common::shift_fits(ps)
 }
 
 fn within_limits(d: [i64; 3], q: [[i64; 3]; 3], ps: [i64; 3], r: Ranges, point: i64) -> bool
@@ -51,14 +44,11 @@ fn within_limits(d: [i64; 3], q: [[i64; 3]; 3], ps: [i64; 3], r: Ranges, point: 
     if !grid_fits(d, q, ps) {
         return false;
     }
+    let n = grgrid::points(grgrid::grid_of(d));
     let lowest = r.lowest;
     let highest = r.highest;
-    let n = grgrid::points(grgrid::grid_of(d));
-    common::all_three(
-        common::all_within(&lowest, 1000000),
-        common::all_within(&highest, 1000000),
-        common::point_fits(point, n as i64),
-    )
+    common::all_within(&lowest, 1000000)
+        && (common::all_within(&highest, 1000000) && common::point_fits(point, n as i64))
 }
 
 fn mark_tests(
@@ -92,7 +82,8 @@ fn mark_point(d: [i64; 3], q: [[i64; 3]; 3], ps: [i64; 3], r: Ranges, point: i64
 {
     let g = grgrid::grid_of(d);
     let s = coordinates::rests_of(point as usize, g, ps, q);
-    marks::write_marks(s, grgrid::points(g), r, out);
+    let table = table::table(s, grgrid::points(g), r);
+    marks::mark_all(&table, out);
 }
 
 // For each candidate 1 if it is nearest for certain, 2 if it is beaten for certain, 0 if neither.
@@ -113,7 +104,7 @@ pub fn mark_candidates(
             Ok(())
         }
         Err(e) => {
-            common::fill(marks, -1);
+            marks.fill(-1);
             Err(e)
         }
     }

@@ -1,9 +1,11 @@
-// The table of a point: eight numbers of each candidate, by which any two are compared.
-ghost use Rattle.std.specs.Prelude.{◌≡◌, ◌≤◌, ◌<◌, pos, nat_abs, ◌*ℤ◌, length, get_or};
-ghost use Rattle.common.specs.Array.{Sized};
-ghost use Rattle.mark_candidates.specs.Code.Table.{length_by, entry_of, cell, RangesFit, Table};
+// The table of a point: of each candidate what is compared.
+ghost use Rattle.std.specs.Prelude.{◌≡◌, ◌≤◌, ◌<◌, nat_abs, map};
+ghost use Rattle.common.specs.Array.{vector_of, Sized};
+ghost use Rattle.mark_candidates.specs.ScaledCoordinates.{candidates125};
+ghost use Rattle.mark_candidates.specs.Code.Table.{length_by, compared, entry_view, compared_at, RangesFit};
 
 use crate::candidates::weights_at;
+use crate::entry::Entry;
 
 // The lowest and highest of the six inner products 00, 01, 02, 11, 12, 22.
 #[derive(Clone, Copy)]
@@ -12,54 +14,46 @@ pub struct Ranges {
     pub highest: [i64; 6],
 }
 
-fn term(w: [i64; 6], g: [i64; 6], k: usize) -> i64
-    requires fact_1 { Sized 214748364800 w }
-    requires fact_2 { Sized 1000000 g }
-    requires fact_3 { k < 6 }
-    ensures value { result ≡ get_or w k (pos 0) *ℤ get_or g k (pos 0) }
-    ensures result_bound { nat_abs result ≤ 214748364800000000 }
-{
-    w[k] * g[k]
-}
-
 // The squared length with the weights w.
 fn length_by(w: [i64; 6], g: [i64; 6]) -> i64
     requires fact_1 { Sized 214748364800 w }
     requires fact_2 { Sized 1000000 g }
-    ensures { result ≡ length_by w g }
+    ensures value { result ≡ length_by w g }
+    ensures small { nat_abs result ≤ 1288490188800000000 }
 {
-    term(w, g, 0) + term(w, g, 1) + term(w, g, 2) + term(w, g, 3) + term(w, g, 4) + term(w, g, 5)
+    let mut sum = 0;
+    for k in 0..6 {
+        sum += w[k] * g[k];
+    }
+    sum
 }
 
-// Number k of the eight: a weight times the width of its range, or the squared length for the lowest (6) or the highest (7) inner products.
-fn entry(w: [i64; 6], r: Ranges, k: usize) -> i64
+fn entry(w: [i64; 6], r: Ranges) -> Entry
     requires fact_1 { Sized 214748364800 w }
     requires fact_2 { RangesFit r }
-    requires fact_3 { k < 8 }
-    ensures { result ≡ entry_of w r.lowest r.highest k }
+    ensures { entry_view result ≡ compared w r.lowest r.highest }
 {
-    let lowest = r.lowest;
-    let highest = r.highest;
-    if k == 6 {
-        return length_by(w, lowest);
+    let mut widths = [0; 6];
+    for k in 0..6 {
+        widths[k] = w[k] * (r.highest[k] - r.lowest[k]);
     }
-    if k == 7 {
-        return length_by(w, highest);
+    Entry {
+        widths: widths,
+        lowest: length_by(w, r.lowest),
+        highest: length_by(w, r.highest),
     }
-    w[k] * (highest[k] - lowest[k])
 }
 
-pub fn fill_table(s: [i64; 3], n: usize, r: Ranges, table: &mut [i64])
+// The weights of a candidate are worked out once, not for each of the 125 by 125 pairs.
+pub fn table(s: [i64; 3], n: usize, r: Ranges) -> [Entry; 125]
     requires fact_1 { Sized 65536 s }
     requires fact_2 { n ≤ 65536 }
     requires fact_3 { RangesFit r }
-    requires fact_4 { length table.old ≡ 1000 }
-    ensures { Table s n r table.new }
+    ensures { map entry_view result ≡ map (compared_at s n r) candidates125 }
 {
-    let mut p = 0;
-    while p < table.len() {
-        let x = entry(weights_at(s, n, p / 8), r, p % 8);
-        table[p] = x;
-        p += 1;
+    let mut t = [entry(weights_at(s, n, 0), r); 125];
+    for i in 0..125 {
+        t[i] = entry(weights_at(s, n, i), r);
     }
+    t
 }

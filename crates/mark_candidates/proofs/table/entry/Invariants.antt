@@ -1,0 +1,9 @@
+use Rattle.std.proofs.Common.{ℕ, ◌≡◌, ◌<◌, pos, length, get_or}
+use Rattle.mark_candidates.specs.Code.Table.{width_at}
+use Rattle.mark_candidates.proofs.table.entry.Given as goal
+
+abbrev pub invariant-loop-k : goal.invariant-loop-k
+invariant-loop-k l = record {
+  places : length l.widths ≡ 6;
+  each : (i : ℕ) → i < l.k → get_or l.widths i (pos 0) ≡ width_at l.w l.r.lowest l.r.highest i;
+}

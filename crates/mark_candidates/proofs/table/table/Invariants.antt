@@ -1,0 +1,12 @@
+use Rattle.std.proofs.Common.{ℕ, ◌≡◌, ◌<◌, length, get_or}
+use Rattle.std.specs.Prelude.{map}
+use Rattle.mark_candidates.specs.Code.Numbered.{candidate_at}
+use Rattle.mark_candidates.specs.Code.Table.{entry_view, compared_at}
+use Rattle.mark_candidates.proofs.TableMarks.{nothing}
+use Rattle.mark_candidates.proofs.table.table.Given as goal
+
+abbrev pub invariant-loop-i : goal.invariant-loop-i
+invariant-loop-i l = record {
+  places : length l.t ≡ 125;
+  each : (k : ℕ) → k < l.i → get_or (map entry_view l.t) k nothing ≡ compared_at l.s l.n l.r (candidate_at k);
+}

@@ -5,13 +5,13 @@ use Prim.Native.Nat.{ℕ, ◌^◌, ◌≤◌}
 use lib.Dec.{T}
 use lib.IntN.{ℤ, pos, neg_ℤ, nat_abs}
 use lib.Signed.{lt_z}
+use Rattle.std.specs.Prelude.{Some}
 use Rattle.integer.specs.Checked.{fits64, is_zero}
 use Rattle.integer.specs.Division.{div_euclid}
 use Rattle.integer.proofs.Size.{zero_test, nonzero-test}
 use Rattle.common.specs.Matrix.{Mat, ◌·◌}
 use Rattle.common.specs.Array.{matrix_of}
 use Rattle.common.specs.IntegerMatrix.{product_fits}
-use Rattle.snf_steps.specs.Result.{ok}
 use Rattle.snf_steps.specs.Elementary.{elementary_flip_sign_row, elementary_add_rows, quotient_fits}
 use Rattle.snf_steps.specs.Columns.{combination_matrix}
 use Rattle.snf_steps.proofs.Accepted.{Accepted, accepted, accepted-bind, accepted-map, accepted-provided, accepted-pick, accepted-when}
@@ -34,7 +34,7 @@ module _ (Q : Mat ℤ → Type 0) (i j : ℕ) where
   pub clear-does : (x y : ℤ) (m : Mat ℤ) → nat_abs y ≤ 2 ^ 63 → (y ≡ pos 0 → Q m) → ((z : Bezout x y) (t : Mat ℤ) → Product (combining_by i j z) m t → Q t) → Accepted Q (clear i j x y m)
   unfolding clear
   clear-does x y m h stay go =
-      accepted-pick (is_zero y) (ok m) _
+      accepted-pick (is_zero y) (Some m) _
       (λ t. accepted (stay (zero_test y t)))
       (λ n. accepted-bind _ (combination-does i j x y (nonzero-test y n) h) (λ c z.
       accepted-map (row-step-does (combination_matrix i j c) m) (λ t p. go z.by t (record { is = p.is ∙ ap (λ l. l · m) z.is; fits = p.fits }))))
@@ -42,7 +42,7 @@ module _ (Q : Mat ℤ → Type 0) (i j : ℕ) where
   pub reduce-does : (x p : ℤ) (m : Mat ℤ) → (x ≡ pos 0 → Q m) → ((t : Mat ℤ) → t ≡ matrix_of (elementary_add_rows i j (neg_ℤ (div_euclid x p))) · m → Q t) → Accepted Q (reduce i j x p m)
   unfolding reduce
   reduce-does x p m stay go =
-      accepted-pick (is_zero x) (ok m) _
+      accepted-pick (is_zero x) (Some m) _
       (λ t. accepted (stay (zero_test x t)))
       (λ n. accepted-bind {P = λ q. q ≡ neg_ℤ (div_euclid x p)} _ (accepted-provided (quotient_fits x p && fits64 (neg_ℤ (div_euclid x p))) (neg_ℤ (div_euclid x p)) (λ _. refl)) (λ q e.
       accepted-map (row-step-does (matrix_of (elementary_add_rows i j q)) m) (λ t s. go t (s.is ∙ ap (λ q. matrix_of (elementary_add_rows i j q) · m) e))))

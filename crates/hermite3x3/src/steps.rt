@@ -1,145 +1,92 @@
 // The steps to the Hermite form: each multiplies from the left.
-ghost use Rattle.std.specs.Prelude.{◌≡◌, ◌<◌, T, neg_ℤ};
-ghost use Rattle.integer.specs.Division.{div_euclid};
+ghost use Rattle.std.specs.Prelude.{◌≡◌, ◌<◌};
 ghost use Rattle.common.specs.Array.{matrix_of};
-ghost use Rattle.snf_steps.specs.Result.{overflow, ◌then◌};
-ghost use Rattle.snf_steps.specs.ColumnsView.{combination_of};
 ghost use Rattle.hermite3x3.specs.Hermite3x3 as walk;
-ghost use Rattle.hermite3x3.specs.Hermite3x3.{neg_floor_fits};
-ghost use Rattle.hermite3x3.specs.StepsView.{rows_of};
+ghost use Rattle.hermite3x3.specs.StepsView.{rows_of, entry_of};
 
-use snf_steps::columns::Combination;
 use snf_steps::{columns, elementary};
 
-// `fits` is 1, or 0 once a number left 64 bits; the matrix then says nothing.
-#[derive(Clone, Copy)]
-pub struct Rows {
-    pub m: [i64; 9],
-    pub fits: u64,
-}
-
-fn overflowed() -> Rows
-    ensures { rows_of result ≡ overflow }
+#[tactic(auto, unfolding(crate::specs::Hermite3x3::row_step))]
+fn row_step(l: [[i64; 3]; 3], m: [[i64; 3]; 3]) -> Option<[[i64; 3]; 3]>
+    ensures { rows_of result ≡ walk.row_step (matrix_of l) (matrix_of m) }
 {
-    Rows { m: [0; 9], fits: 0 }
-}
-
-fn row_step(l: [[i64; 3]; 3], s: Rows) -> Rows
-    ensures { rows_of result ≡ (rows_of s then walk.row_step (matrix_of l)) }
-{
-    if s.fits == 0 {
-        return s;
-    }
-    let f = s.m;
-    let m = integer_matrix::nested(f);
     if !integer_matrix::product_fits(l, m) {
-        return overflowed();
+        return None;
     }
-    let t = integer_matrix::flat(integer_matrix::matmul_i(l, m));
-    Rows { m: t, fits: 1 }
+    Some(integer_matrix::matmul_i(l, m))
 }
 
-fn combine(i: usize, j: usize, c: Combination, s: Rows) -> Rows
+// Row j becomes 0 in column i by the pivot in row i.
+#[tactic(auto, unfolding(crate::specs::Hermite3x3::clear))]
+fn clear(i: usize, j: usize, m: [[i64; 3]; 3]) -> Option<[[i64; 3]; 3]>
     requires { (i < 3) × (j < 3) }
-    ensures { rows_of result ≡ (rows_of s then walk.combine_by i j (combination_of c)) }
+    ensures { rows_of result ≡ walk.clear i j (entry_of m i i) (entry_of m j i) (matrix_of m) }
 {
-    if !c.fits {
-        return overflowed();
-    }
-    row_step(elementary::elementary_set_zero(i, j, c.s, c.t, c.v, c.u), s)
-}
-
-// y in row j becomes 0 by the pivot x in row i.
-fn clear(i: usize, j: usize, x: i64, y: i64, s: Rows) -> Rows
-    requires { (i < 3) × (j < 3) }
-    ensures { rows_of result ≡ (rows_of s then walk.clear i j x y) }
-{
+    let y = m[j][i];
     if y == 0 {
-        return s;
+        return Some(m);
     }
-    combine(i, j, columns::combined(x, y), s)
+    let c = columns::combined(m[i][i], y)?;
+    row_step(elementary::elementary_set_zero(i, j, c.s, c.t, c.v, c.u), m)
 }
 
-// Of row i, which has x on the diagonal.
-#[tactic(auto, using(crate::proofs::Stepping::sign_turned, crate::proofs::Stepping::sign_kept))]
-fn sign(i: usize, x: i64, s: Rows) -> Rows
+// Row i, by the number on the diagonal.
+#[tactic(auto, unfolding(crate::specs::Hermite3x3::sign))]
+fn sign(i: usize, m: [[i64; 3]; 3]) -> Option<[[i64; 3]; 3]>
     requires { i < 3 }
-    ensures { rows_of result ≡ (rows_of s then walk.sign i x) }
+    ensures { rows_of result ≡ walk.sign i (entry_of m i i) (matrix_of m) }
 {
-    if x < 0 {
-        return row_step(elementary::elementary_flip_sign_row(i), s);
+    if m[i][i] < 0 {
+        return row_step(elementary::elementary_flip_sign_row(i), m);
     }
-    s
+    Some(m)
 }
 
-fn neg_floor_fits(x: i64, p: i64) -> bool
-    ensures { result ≡ neg_floor_fits x p }
+fn neg_floor(x: i64, p: i64) -> Option<i64>
+    ensures { result ≡ walk.neg_floor x p }
 {
-    if !elementary::quotient_fits(x, p) {
-        return false;
-    }
-    let q = integer::div_euclid(x, p);
-    integer::sub_fits(0, q)
+    x.checked_div_euclid(p)?.checked_neg()
 }
 
-fn neg_floor(x: i64, p: i64) -> i64
-    requires { T (neg_floor_fits x p) }
-    ensures { result ≡ neg_ℤ (div_euclid x p) }
-{
-    let q = integer::div_euclid(x, p);
-    -q
-}
-
-// x in row i becomes its remainder by the pivot p in row j.
-fn reduce(i: usize, j: usize, x: i64, p: i64, s: Rows) -> Rows
+// Row i becomes its remainder in column j by the pivot in row j.
+#[tactic(auto, unfolding(crate::specs::Hermite3x3::reduce))]
+fn reduce(i: usize, j: usize, m: [[i64; 3]; 3]) -> Option<[[i64; 3]; 3]>
     requires { (i < 3) × (j < 3) }
-    ensures { rows_of result ≡ (rows_of s then walk.reduce i j x p) }
+    ensures { rows_of result ≡ walk.reduce i j (entry_of m i j) (entry_of m j j) (matrix_of m) }
 {
+    let x = m[i][j];
     if x == 0 {
-        return s;
+        return Some(m);
     }
-    if !neg_floor_fits(x, p) {
-        return overflowed();
-    }
-    row_step(elementary::elementary_add_rows(i, j, neg_floor(x, p)), s)
+    let q = neg_floor(x, m[j][j])?;
+    row_step(elementary::elementary_add_rows(i, j, q), m)
 }
 
 // ---- the steps in order
-fn columns(s: Rows) -> Rows
-    ensures { rows_of result ≡ (rows_of s then walk.columns) }
+#[tactic(auto, unfolding(crate::specs::Hermite3x3::columns))]
+fn columns(m: [[i64; 3]; 3]) -> Option<[[i64; 3]; 3]>
+    ensures { rows_of result ≡ walk.columns (matrix_of m) }
 {
-    let a = s.m;
-    let t = clear(0, 1, a[0], a[3], s);
-    let b = t.m;
-    let u = clear(0, 2, b[0], b[6], t);
-    let c = u.m;
-    clear(1, 2, c[4], c[7], u)
+    clear(1, 2, clear(0, 2, clear(0, 1, m)?)?)
 }
 
-fn signs(s: Rows) -> Rows
-    ensures { rows_of result ≡ (rows_of s then walk.signs) }
+#[tactic(auto, unfolding(crate::specs::Hermite3x3::signs))]
+fn signs(m: [[i64; 3]; 3]) -> Option<[[i64; 3]; 3]>
+    ensures { rows_of result ≡ walk.signs (matrix_of m) }
 {
-    let a = s.m;
-    let t = sign(0, a[0], s);
-    let b = t.m;
-    let u = sign(1, b[4], t);
-    let c = u.m;
-    sign(2, c[8], u)
+    sign(2, sign(1, sign(0, m)?)?)
 }
 
-fn above(s: Rows) -> Rows
-    ensures { rows_of result ≡ (rows_of s then walk.above) }
+#[tactic(auto, unfolding(crate::specs::Hermite3x3::above))]
+fn above(m: [[i64; 3]; 3]) -> Option<[[i64; 3]; 3]>
+    ensures { rows_of result ≡ walk.above (matrix_of m) }
 {
-    let a = s.m;
-    let t = reduce(0, 1, a[1], a[4], s);
-    let b = t.m;
-    let u = reduce(0, 2, b[2], b[8], t);
-    let c = u.m;
-    reduce(1, 2, c[5], c[8], u)
+    reduce(1, 2, reduce(0, 2, reduce(0, 1, m)?)?)
 }
 
-pub fn steps(s: Rows) -> Rows
-    ensures { rows_of result ≡ (rows_of s then walk.steps) }
+#[tactic(auto, unfolding(crate::specs::Hermite3x3::steps))]
+pub fn steps(m: [[i64; 3]; 3]) -> Option<[[i64; 3]; 3]>
+    ensures { rows_of result ≡ walk.steps (matrix_of m) }
 {
-    above(signs(columns(s)))
+    above(signs(columns(m)?)?)
 }

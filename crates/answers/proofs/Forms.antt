@@ -7,19 +7,19 @@ use lib.Dec.{eqb}
 use lib.IntN.{ℤ, pos, negsuc}
 use lib.ListN.{length, replicate}
 use borrow.Author.Tests.{eqb-true}
+use Rattle.std.specs.Prelude.{Bool, Result}
+use Rattle.std.specs.declared.cmp.Ordering.{Ordering}
+use Rattle.common.specs.declared.Refusal.{Refusal}
 use Rattle.common.specs.declared.Refusal.TheVariants.{WrongLength}
 use Rattle.common.specs.Refusal.{number_of}
-use Rattle.common.specs.Tested.{answer_of}
+use Rattle.common.specs.Tested.{answer_of, told_of}
 use Rattle.common.specs.Matrix.{entries}
 use Rattle.common.specs.Array.{matrix_of, rows, matrix_at}
 use Rattle.common.proofs.Nine.{nine-entries}
-use Rattle.hermite3x3.specs.declared.Hermite.{Hermite}
-use Rattle.hermite3x3.specs.declared.Order.{Order}
-use Rattle.hermite3x3.specs.declared.SameGrid.{SameGrid}
 use Rattle.hermite3x3.specs.Hermite3x3.{hermite3x3}
 use Rattle.hermite3x3.specs.OrderForms.{order_forms}
 use Rattle.hermite3x3.specs.SameGrid.{same_grid}
-use Rattle.answers.specs.Forms.{form_lengths, form_answer, Hermite3x3Told, two_lengths, order_told, OrderFormsTold, same_number, same_told, comparison, SameGridTold}
+use Rattle.answers.specs.Forms.{form_lengths, form_answer, Hermite3x3Told, two_lengths, order_told, OrderFormsTold, same_told, comparison, SameGridTold}
 use Rattle.answers.proofs.Lengths.{taken, left, both, three-lengths}
 
 pub form-lengths : (a h : ℕ) → form_lengths a h ≡ true → (a ≡ 9) × (h ≡ 9)
@@ -33,16 +33,16 @@ unwritten n = replicate n (negsuc 0)
 
 module _ (a : List ℤ) (n : ℕ) {r : ℤ} {h : List ℤ} where
   pub form-unsized : form_lengths (length a) n ≡ false → r ≡ wrong → h ≡ unwritten n → Hermite3x3Told a n r h
-  form-unsized e er eh = let s = form_answer a in record { answer = er ∙ left (answer_of s.tested) wrong e; form = eh ∙ left s.h (unwritten n) e }
+  form-unsized e er eh = let s = form_answer a in record { answer = er ∙ left (answer_of s) wrong e; form = eh ∙ left (told_of (λ h. h) 9 s) (unwritten n) e }
 
   -- the library's call has the rows of the matrix
-  pub form-passed : form_lengths (length a) n ≡ true → {m : List (List ℤ)} {t : Hermite} → m ≡ rows (matrix_at a 0) → t ≡ hermite3x3 (matrix_of m)
-      → r ≡ answer_of t.tested → h ≡ t.h → Hermite3x3Told a n r h
+  pub form-passed : form_lengths (length a) n ≡ true → {m : List (List ℤ)} {t : Result (List ℤ) Refusal} → m ≡ rows (matrix_at a 0) → t ≡ hermite3x3 (matrix_of m)
+      → r ≡ answer_of t → h ≡ told_of (λ h. h) 9 t → Hermite3x3Told a n r h
   form-passed e em es er eh =
       let s = form_answer a in
       let same : _ ≡ s = es ∙ ap (λ m. hermite3x3 (matrix_of m)) em in record {
-        answer = er ∙ ap (λ t. answer_of t.tested) same ∙ taken (answer_of s.tested) wrong e;
-        form = eh ∙ ap (λ t. t.h) same ∙ taken s.h (unwritten n) e;
+        answer = er ∙ ap answer_of same ∙ taken (answer_of s) wrong e;
+        form = eh ∙ ap (told_of (λ h. h) 9) same ∙ taken (told_of (λ h. h) 9 s) (unwritten n) e;
       }
 
 module _ (g h : List ℤ) (n : ℕ) {r : ℤ} {told : List ℤ} where
@@ -50,7 +50,7 @@ module _ (g h : List ℤ) (n : ℕ) {r : ℤ} {told : List ℤ} where
   order-unsized e er et = record { answer = er ∙ left (pos 0) wrong e; value = et ∙ left (order_told (order_forms g h)) (unwritten n) e }
 
   -- the library's call has the nine numbers of each
-  pub order-passed : two_lengths (length g) (length h) n ≡ true → {l m : List (List ℤ)} {u v : List ℤ} {o : Order} → l ≡ rows (matrix_at g 0) → m ≡ rows (matrix_at h 0)
+  pub order-passed : two_lengths (length g) (length h) n ≡ true → {l m : List (List ℤ)} {u v : List ℤ} {o : Ordering} → l ≡ rows (matrix_at g 0) → m ≡ rows (matrix_at h 0)
       → u ≡ entries (matrix_of l) [] → v ≡ entries (matrix_of m) [] → o ≡ order_forms u v → r ≡ pos 0 → told ≡ order_told o → OrderFormsTold g h n r told
   order-passed e el em eu ev eo er et =
       let k = three-lengths (length g) 9 (length h) 9 n 1 e in
@@ -62,12 +62,12 @@ module _ (g h : List ℤ) (n : ℕ) {r : ℤ} {told : List ℤ} where
 
 module _ (a b : List ℤ) (n : ℕ) {r : ℤ} {told : List ℤ} where
   pub same-unsized : two_lengths (length a) (length b) n ≡ false → r ≡ wrong → told ≡ unwritten n → SameGridTold a b n r told
-  same-unsized e er et = record { answer = er ∙ left (same_number (comparison a b)) wrong e; value = et ∙ left (same_told (comparison a b)) (unwritten n) e }
+  same-unsized e er et = record { answer = er ∙ left (answer_of (comparison a b)) wrong e; value = et ∙ left (same_told (comparison a b)) (unwritten n) e }
 
-  pub same-passed : two_lengths (length a) (length b) n ≡ true → {l m : List (List ℤ)} {t : SameGrid} → l ≡ rows (matrix_at a 0) → m ≡ rows (matrix_at b 0)
-      → t ≡ same_grid (matrix_of l) (matrix_of m) → r ≡ same_number t → told ≡ same_told t → SameGridTold a b n r told
+  pub same-passed : two_lengths (length a) (length b) n ≡ true → {l m : List (List ℤ)} {t : Result Bool Refusal} → l ≡ rows (matrix_at a 0) → m ≡ rows (matrix_at b 0)
+      → t ≡ same_grid (matrix_of l) (matrix_of m) → r ≡ answer_of t → told ≡ same_told t → SameGridTold a b n r told
   same-passed e el em es er et =
       let same : _ ≡ comparison a b = es ∙ ap₂ (λ l m. same_grid (matrix_of l) (matrix_of m)) el em in record {
-        answer = er ∙ ap same_number same ∙ taken (same_number (comparison a b)) wrong e;
+        answer = er ∙ ap answer_of same ∙ taken (answer_of (comparison a b)) wrong e;
         value = et ∙ ap same_told same ∙ taken (same_told (comparison a b)) (unwritten n) e;
       }

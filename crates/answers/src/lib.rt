@@ -19,7 +19,7 @@ ghost use Rattle.common.specs.Tested.{answer_of, told_of};
 
 use common::Refusal;
 pub use diagonal::{diagonal_lengths, smith_lengths, tell_diagonal, tell_smith};
-pub use form::{form_lengths, tell_form, tell_order, tell_same};
+pub use form::{form_lengths, tell_order, tell_same};
 pub use grid::{class_lengths, tell_classes};
 pub use images::{image_lengths, lattice_at, rotate_lengths, tell_lengths, tell_rotated};
 pub use marks::{mark_lengths, ranges_at};
@@ -40,7 +40,7 @@ pub fn number(answer: Result<(), Refusal>) -> i64
 }
 
 // What is told beside: the numbers of an accepted call, or -1 in every place.
-fn tell<const N: usize>(answer: Result<[i64; N], Refusal>, told: &mut [i64]) -> i64
+pub fn tell<const N: usize>(answer: Result<[i64; N], Refusal>, told: &mut [i64]) -> i64
     requires { length told.old ≡ N }
     ensures value { result ≡ answer_of answer.entry }
     ensures told_after { told.new ≡ told_of (λ a. a) N answer.entry }

@@ -11,14 +11,14 @@ pub fn zone_hermite3x3(a: &[i64], h: &mut [i64]) -> i64
         common::fill(h, -1);
         return Refusal::WrongLength.answer();
     }
-    answers::tell_form(hermite3x3::hermite3x3(common::matrix_at(a, 0)), h)
+    answers::tell(hermite3x3::hermite3x3(common::matrix_at(a, 0)), h)
 }
 
 // Whether the first comes before the second (0), is equal to it (1), or comes after it (2).
 pub fn zone_order_forms(g: &[i64], h: &[i64], told: &mut [i64]) -> i64
     ensures { OrderFormsTold g.now h.now (length told.old) result told.new }
 {
-    if !common::all_three(g.len() == 9, h.len() == 9, told.len() == 1) {
+    if g.len() != 9 || h.len() != 9 || told.len() != 1 {
         common::fill(told, -1);
         return Refusal::WrongLength.answer();
     }
@@ -30,7 +30,7 @@ pub fn zone_order_forms(g: &[i64], h: &[i64], told: &mut [i64]) -> i64
 pub fn zone_same_grid(a: &[i64], b: &[i64], told: &mut [i64]) -> i64
     ensures { SameGridTold a.now b.now (length told.old) result told.new }
 {
-    if !common::all_three(a.len() == 9, b.len() == 9, told.len() == 1) {
+    if a.len() != 9 || b.len() != 9 || told.len() != 1 {
         common::fill(told, -1);
         return Refusal::WrongLength.answer();
     }

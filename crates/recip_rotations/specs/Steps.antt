@@ -1,10 +1,17 @@
 -- What the steps of the code answer, and leave in the output.
-use Rattle.std.specs.Prelude.{◌≡◌, List, ℕ, ◌+◌, leb, ℤ, pos, length, get_or, set, Result}
+use Rattle.std.specs.Prelude.{◌≡◌, Bool, ◌&&◌, List, ℕ, ◌+◌, leb, ℤ, pos, length, get_or, set, Result}
 use Rattle.common.specs.declared.Refusal.{Refusal}
 use Rattle.common.specs.Tested.{require, Tested, Accepted, giving}
 use Rattle.common.specs.declared.Refusal.TheVariants.{TooManyRotations}
 use Rattle.common.specs.Matrix.{Mat}
+use Rattle.integer.specs.Same.{same}
 use Rattle.recip_rotations.specs.Flat.{laid}
+
+-- three numbers from place i of a list are those from place j of another
+abbrev pub same_row : List ℤ → ℕ → List ℤ → ℕ → Bool
+same_row a i b j =
+    same (get_or a i (pos 0)) (get_or b j (pos 0))
+    && (same (get_or a (i + 1) (pos 0)) (get_or b (j + 1) (pos 0)) && same (get_or a (i + 2) (pos 0)) (get_or b (j + 2) (pos 0)))
 
 -- places i and j exchanged
 abbrev pub swapped : List ℤ → ℕ → ℕ → List ℤ

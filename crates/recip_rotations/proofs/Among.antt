@@ -1,11 +1,12 @@
 -- The search for a matrix in a list, from matrix k on.
-use mathlib.Core.Path.{◌≡◌, sym, ◌∙◌, ap}
-use mathlib.Core.Bool.{true, false}
+use mathlib.Core.Path.{◌≡◌, refl, sym, ◌∙◌, ap}
+use mathlib.Core.Bool.{Bool, true, false, ◌||◌}
 use mathlib.Core.List.{List, ◌∷◌}
-use Prim.Native.Nat.{ℕ, suc, ◌+◌, ◌-◌, ◌<◌, ◌≤◌}
+use Prim.Native.Nat.{ℕ, zero, suc, ◌+◌, ◌-◌, ◌<◌, ◌≤◌}
 use native.Mathlib.Numerals.{add-one}
 use native.Mathlib.Omega.{arith}
 use lib.IntN.{ℤ}
+use Rattle.std.specs.List.{list_any, range_with_len}
 use Rattle.common.specs.Matrix.{Mat}
 use Rattle.common.specs.Array.{matrix_at, matrices_from}
 use Rattle.recip_rotations.specs.Unique.{same_matrix, among}
@@ -29,3 +30,13 @@ module _ (l : List ℤ) (k n : ℕ) where
       where
         none : n ≤ k → n - k ≡ 0
         none h = omega arith
+
+-- ---- by the numbers of the matrices
+module _ (m : Mat ℤ) (l : List ℤ) where
+  pub any-among : (n k : ℕ) → list_any (λ i. same_matrix m (matrix_at l i)) (range_with_len n k) ≡ among m (matrices_from l n k)
+  any-among n zero = refl
+  any-among n (suc k) = step (same_matrix m (matrix_at l n)) (any-among (n + 1) k ∙ ap (λ i. among m (matrices_from l i k)) (add-one n))
+    where
+      step : (b : Bool) {x y : Bool} → x ≡ y → (b || x) ≡ elim b [ true ↦ true | false ↦ y ]
+      step true e = refl
+      step false e = e

@@ -3,7 +3,6 @@ use mathlib.Core.Path.{◌≡◌, refl, sym, ◌∙◌, ap, subst}
 use mathlib.Core.Bool.{Bool}
 use mathlib.Core.List.{List}
 use Prim.Native.Nat.{ℕ, ◌≤◌}
-use native.Mathlib.Omega.{arith}
 use lib.Dec.{T, leb, leb→le, eqb}
 use lib.IntN.{ℤ, negsuc}
 use lib.ListN.{length, replicate}
@@ -25,16 +24,10 @@ use Rattle.recip_rotations.proofs.Outcomes.{refused}
 -- the tests, from the answer
 pub was-accepted : (t : Tested) (m k : ℕ) → Ok k ≡ giving t m → t ≡ Accepted
 was-accepted (Ok _) m k e = refl
-was-accepted (Err r) m k e = let z : ◌≡◌ {A = ℕ} 0 1 = cc in absurd (never z)
-  where
-    never : ◌≡◌ {A = ℕ} 0 1 → ⊥
-    never z = omega arith
+was-accepted (Err r) m k e = cc
 
 pub was-refused : (t : Tested) (m : ℕ) {r : Refusal} → Err r ≡ giving t m → t ≡ Err r
-was-refused (Ok _) m e = let z : ◌≡◌ {A = ℕ} 0 1 = cc in absurd (never z)
-  where
-    never : ◌≡◌ {A = ℕ} 0 1 → ⊥
-    never z = omega arith
+was-refused (Ok _) m e = cc
 was-refused (Err x) m e = cc
 
 -- what accepted input is

@@ -1,7 +1,8 @@
 -- What the steps of the code answer, and leave in the output.
-use Rattle.std.specs.Prelude.{◌≡◌, Bool, ◌&&◌, List, ℕ, ◌+◌, ◌≤◌, ◌<◌, ℤ, pos, length, get_or, set, Result}
+use Rattle.std.specs.Prelude.{◌≡◌, Bool, ◌&&◌, List, ℕ, ◌+◌, leb, ℤ, pos, length, get_or, set, Result}
 use Rattle.common.specs.declared.Refusal.{Refusal}
-use Rattle.common.specs.Tested.{Tested, Accepted, giving}
+use Rattle.common.specs.Tested.{require, Tested, Accepted, giving}
+use Rattle.common.specs.declared.Refusal.TheVariants.{TooManyRotations}
 use Rattle.common.specs.Matrix.{Mat}
 use Rattle.integer.specs.Same.{same}
 use Rattle.recip_rotations.specs.Flat.{laid}
@@ -20,11 +21,9 @@ swapped l i j = set (set l i (get_or l j (pos 0))) j (get_or l i (pos 0))
 abbrev pub transposed_at : List ℤ → ℕ → List ℤ
 transposed_at l i = swapped (swapped (swapped l (i + 1) (i + 3)) (i + 2) (i + 6)) (i + 5) (i + 7)
 
--- the count r of u, which stands at the front of the output as far as 48 have room in it
-pub record Counted (u : List (Mat ℤ)) (before after : List ℤ) (r : ℕ) : Type 0 where
-  pub count : r ≤ 48 → r ≡ length u
-  pub held : r ≤ 48 → after ≡ laid u before
-  pub over : 48 < r → 48 < length u
+-- room for 48
+abbrev pub few : List (Mat ℤ) → Tested
+few l = require (leb (length l) 48) TooManyRotations Accepted
 
 -- l at the front of the output, so far as the tests t accept it
 pub record Grouped (t : Tested) (l : List (Mat ℤ)) (before after : List ℤ) (r : Result ℕ Refusal) : Type 0 where

@@ -8,21 +8,16 @@ ghost use Rattle.common.specs.Limits.{all_within};
 ghost use Rattle.recip_rotations.specs.Unique.{same_matrix, among, kept, unique};
 ghost use Rattle.recip_rotations.specs.Flat.{laid};
 ghost use Rattle.recip_rotations.specs.PointGroup.{turned, joined, join_tests, room_tests, input_tests, group_tests, point_group, point_group_answer, point_group_written};
-ghost use Rattle.recip_rotations.specs.Steps.{same_row, swapped, transposed_at, Counted, Grouped};
+ghost use Rattle.recip_rotations.specs.Steps.{same_row, transposed_at, few, Grouped};
 
 use common::Refusal;
 
+// Number by number, since `==` of the two slices takes twice as long in the search below, and of two rows a tenth longer.
 fn same_row(a: &[i64], i: usize, b: &[i64], j: usize) -> bool
     requires { (i + 3 ≤ length a.now) × (j + 3 ≤ length b.now) }
     ensures { result ≡ same_row a.now i b.now j }
 {
-    if a[i] != b[j] {
-        return false;
-    }
-    if a[i + 1] != b[j + 1] {
-        return false;
-    }
-    a[i + 2] == b[j + 2]
+    a[i] == b[j] && a[i + 1] == b[j + 1] && a[i + 2] == b[j + 2]
 }
 
 // Matrix m of one list and matrix n of another.
@@ -32,13 +27,7 @@ pub fn same_matrix(a: &[i64], m: usize, b: &[i64], n: usize) -> bool
 {
     let i = m * 9;
     let j = n * 9;
-    if !same_row(a, i, b, j) {
-        return false;
-    }
-    if !same_row(a, i + 3, b, j + 3) {
-        return false;
-    }
-    same_row(a, i + 6, b, j + 6)
+    same_row(a, i, b, j) && same_row(a, i + 3, b, j + 3) && same_row(a, i + 6, b, j + 6)
 }
 
 // Whether matrix n of one list is among the first `count` of another.
@@ -46,77 +35,47 @@ pub fn contains(a: &[i64], n: usize, list: &[i64], count: usize) -> bool
     requires { (n * 9 + 9 ≤ length a.now) × (count * 9 ≤ length list.now) }
     ensures { result ≡ among (matrix_at a.now n) (matrices_from list.now 0 count) }
 {
-    let mut k = 0;
-    while k < count {
-        if same_matrix(a, n, list, k) {
-            return true;
-        }
-        k += 1;
-    }
-    false
-}
-
-// Nine numbers, from place `at` of one list to place `to` of another.
-fn copy_matrix(from: &[i64], at: usize, out: &mut [i64], to: usize)
-    requires { (at + 9 ≤ length from.now) × (to + 9 ≤ length out.old) }
-    ensures { out.new ≡ paste out.old to (drop at from.now) 9 }
-{
-    let mut k = 0;
-    while k < 9 {
-        out[to + k] = from[at + k];
-        k += 1;
-    }
-}
-
-fn swap(list: &mut [i64], i: usize, j: usize)
-    requires { (i < length list.old) × (j < length list.old) }
-    ensures { list.new ≡ swapped list.old i j }
-{
-    let x = list[i];
-    list[i] = list[j];
-    list[j] = x;
+    (0..count).any(|k| same_matrix(a, n, list, k))
 }
 
 fn transpose_at(list: &mut [i64], at: usize)
     requires { at + 9 ≤ length list.old }
     ensures { list.new ≡ transposed_at list.old at }
 {
-    swap(list, at + 1, at + 3);
-    swap(list, at + 2, at + 6);
-    swap(list, at + 5, at + 7);
+    list.swap(at + 1, at + 3);
+    list.swap(at + 2, at + 6);
+    list.swap(at + 5, at + 7);
 }
 
-// Rotation n after the first `found` matrices of the output, unless it is among them: how many there are then, or 49 where there is no room.
-fn keep(rotations: &[i64], n: usize, out: &mut [i64], found: usize) -> usize
+// Rotation n after the first `found` matrices of the output, unless it is among them: how many there are then.
+fn keep(rotations: &[i64], n: usize, out: &mut [i64], found: usize) -> Result<usize, Refusal>
     requires { (n * 9 + 9 ≤ length rotations.now) × (found ≤ 48) × (length out.old ≡ 432) }
-    ensures { Counted (kept (matrices_from out.old 0 found) (matrix_at rotations.now n)) out.old out.new result }
+    ensures { let list = kept (matrices_from out.old 0 found) (matrix_at rotations.now n) in
+        Grouped (few list) list out.old out.new result }
 {
     if contains(rotations, n, out, found) {
-        return found;
+        return Ok(found);
     }
     if found == 48 {
-        return 49;
+        return Err(Refusal::TooManyRotations);
     }
-    copy_matrix(rotations, n * 9, out, found * 9);
-    found + 1
+    let at = n * 9;
+    let to = found * 9;
+    out[to..to + 9].copy_from_slice(&rotations[at..at + 9]);
+    Ok(found + 1)
 }
 
-// How many distinct rotations there are, which the output then holds; 49 at a 49th.
-fn collect(rotations: &[i64], out: &mut [i64]) -> usize
+// How many distinct rotations there are, which the output then holds.
+fn collect(rotations: &[i64], out: &mut [i64]) -> Result<usize, Refusal>
     requires { length out.old ≡ 432 }
-    ensures { Counted (unique (matrices rotations.now)) out.old out.new result }
+    ensures { let list = unique (matrices rotations.now) in
+        Grouped (few list) list out.old out.new result }
 {
-    let count = rotations.len() / 9;
     let mut found = 0;
-    let mut n = 0;
-    while n < count {
-        found = keep(rotations, n, out, found);
-        if 48 < found {
-            return found;
-        }
-        n += 1;
+    for n in 0..rotations.len() / 9 {
+        found = keep(rotations, n, out, found)?;
     }
-    found
+    Ok(found)
 }
 
 // The first `count` matrices, transposed where asked for.
@@ -124,13 +83,10 @@ fn turn(out: &mut [i64], count: usize, is_transpose: bool)
     requires { count * 9 ≤ length out.old }
     ensures { out.new ≡ laid (turned is_transpose (matrices_from out.old 0 count)) out.old }
 {
-    if !is_transpose {
-        return;
-    }
-    let mut k = 0;
-    while k < count {
-        transpose_at(out, k * 9);
-        k += 1;
+    if is_transpose {
+        for k in 0..count {
+            transpose_at(out, k * 9);
+        }
     }
 }
 
@@ -141,10 +97,8 @@ fn negatives(out: &mut [i64], count: usize)
     ensures { out.new ≡ paste out.old (count * 9) (map neg_ℤ out.old) (count * 9) }
 {
     let half = count * 9;
-    let mut i = 0;
-    while i < half {
+    for i in 0..half {
         out[half + i] = -out[i];
-        i += 1;
     }
 }
 
@@ -168,27 +122,8 @@ fn join(out: &mut [i64], count: usize, is_time_reversal: bool) -> Result<usize, 
     Ok(count * 2)
 }
 
-// The group of rotations within the limits.
-fn distinct_group(
-    rotations: &[i64],
-    is_time_reversal: bool,
-    is_transpose: bool,
-    out: &mut [i64],
-) -> Result<usize, Refusal>
-    requires fact_1 { length out.old ≡ 432 }
-    requires fact_2 { T (all_within 100000 rotations.now) }
-    ensures { Grouped (room_tests (matrices rotations.now) is_time_reversal is_transpose) (point_group (matrices rotations.now) is_time_reversal is_transpose) (replicate (length out.old) (negsuc 0)) out.new result }
-{
-    common::fill(out, -1);
-    let count = collect(rotations, out);
-    if 48 < count {
-        return Err(Refusal::TooManyRotations);
-    }
-    turn(out, count, is_transpose);
-    join(out, count, is_time_reversal)
-}
-
 // Of the list, and of the places for its group.
+#[tactic(auto, unfolding(crate::specs::PointGroup::input_tests))]
 pub fn input_tests(rotations: &[i64], places: usize) -> Result<(), Refusal>
     ensures { result ≡ input_tests rotations.now places }
 {
@@ -213,10 +148,11 @@ fn group_of(
 ) -> Result<usize, Refusal>
     ensures { Grouped (group_tests rotations.now is_time_reversal is_transpose (length out.old)) (point_group (matrices rotations.now) is_time_reversal is_transpose) (replicate (length out.old) (negsuc 0)) out.new result }
 {
-    match input_tests(rotations, out.len()) {
-        Ok(()) => distinct_group(rotations, is_time_reversal, is_transpose, out),
-        Err(r) => Err(r),
-    }
+    input_tests(rotations, out.len())?;
+    out.fill(-1);
+    let count = collect(rotations, out)?;
+    turn(out, count, is_transpose);
+    join(out, count, is_time_reversal)
 }
 
 // The distinct rotations in order, transposed where asked for, and under time reversal their negatives after them, unless the inversion is among them.
@@ -232,7 +168,7 @@ pub fn get_reciprocal_point_group(
     match group_of(rotations, is_time_reversal, is_transpose, out) {
         Ok(n) => Ok(n),
         Err(r) => {
-            common::fill(out, -1);
+            out.fill(-1);
             Err(r)
         }
     }

@@ -1,5 +1,5 @@
 -- Refusal 18 is given exactly to a list within the limits that is no group.
-use mathlib.Core.Path.{◌≡◌, refl, sym, ◌∙◌, ap, ap₂}
+use mathlib.Core.Path.{◌≡◌, refl, sym, ap, ap₂}
 use mathlib.Core.Logic.{◌↔◌, ◌⊎◌, inl, inr, ⊎_elim}
 use mathlib.Core.Bool.{Bool, true, false, not, ◌||◌}
 use mathlib.Core.List.{List}
@@ -9,7 +9,7 @@ use lib.Dec.{T, leb, eqb, not_T}
 use lib.IntN.{ℤ}
 use lib.ListN.{length}
 use Rattle.std.specs.Prelude.{Ok, Err}
-use Rattle.integer.proofs.Test.{holds, is_false}
+use Rattle.integer.proofs.Test.{is_false}
 use Rattle.common.specs.Array.{matrices}
 use Rattle.common.specs.Limits.{whole_matrices, rotations_fit}
 use Rattle.common.specs.Refusal.{number_of}

@@ -8,6 +8,7 @@ use lib.IntN.{ℤ}
 use lib.ListN.{get_or, set, replicate}
 use lib.Seq.{get_or-set_other}
 use borrow.Author.Tests.{eqb-true, eqb-false}
+use Rattle.std.proofs.lemmas.Bool.{false≢true}
 use Rattle.common.specs.Matrix.{Mat, ◌·◌}
 use Rattle.common.specs.Array.{matrix_at, matrices}
 use Rattle.common.proofs.Matrix.{product-assoc}
@@ -24,17 +25,17 @@ row-product l A B s t =
     subst (λ M. T (among M l)) (sym (product-assoc A B C))
     (every_of (λ n. among (A · n) l) l s (B · C) (among_in (B · C) l (every_of (λ n. among (B · n) l) l t C k))))
 
-zeros : (n k : ℕ) → ◌≡◌ {A = ℕ} (get_or (replicate n 0) k 0) 0
-zeros zero k = refl
-zeros (suc n) zero = refl
-zeros (suc n) (suc k) = zeros n k
-
-pub known-none : (l : List ℤ) (n : ℕ) → Known l (replicate n 0)
-known-none l n = record { inside = λ k h. absurd (h (zeros n k)) }
-
-pub known-set : {l : List ℤ} {marks : List ℕ} (k x : ℕ) → Known l marks → T (row_inside (matrices l) (matrix_at l k)) → Known l (set marks k x)
-known-set {l} {marks} k x m t = record { inside = λ j. go j (eqb j k) refl }
+pub known-none : (l : List ℤ) (n : ℕ) → Known l (replicate n false)
+known-none l n = record { inside = λ k h. absurd (unset n k h) }
   where
-    go : (j : ℕ) (b : Bool) → eqb j k ≡ b → ¬ (get_or (set marks k x) j 0 ≡ 0) → T (row_inside (matrices l) (matrix_at l j))
+    unset : (n k : ℕ) → get_or (replicate n false) k false ≡ true → ⊥
+    unset zero k h = absurd (false≢true h)
+    unset (suc n) zero h = absurd (false≢true h)
+    unset (suc n) (suc k) h = unset n k h
+
+pub known-set : {l : List ℤ} {marks : List Bool} (k : ℕ) → Known l marks → T (row_inside (matrices l) (matrix_at l k)) → Known l (set marks k true)
+known-set {l} {marks} k m t = record { inside = λ j. go j (eqb j k) refl }
+  where
+    go : (j : ℕ) (b : Bool) → eqb j k ≡ b → get_or (set marks k true) j false ≡ true → T (row_inside (matrices l) (matrix_at l j))
     go j true e h = subst (λ i. T (row_inside (matrices l) (matrix_at l i))) (sym (eqb-true j k e)) t
-    go j false e h = m.inside j (λ z. h (get_or-set_other marks k j x 0 (eqb-false j k e) ∙ z))
+    go j false e h = m.inside j (sym (get_or-set_other marks k j true false (eqb-false j k e)) ∙ h)

@@ -3,6 +3,7 @@
 
 mod members;
 mod products;
+mod rotations;
 
 ghost use Rattle.std.specs.Prelude.{◌≡◌, ◌≤◌, T, length};
 ghost use Rattle.common.specs.Array.{matrices};
@@ -11,52 +12,48 @@ ghost use Rattle.rotation_group.specs.Group.{is_group};
 ghost use Rattle.rotation_group.specs.ReciprocalGroup.{given_tests, reciprocal_answer, reciprocal_written};
 
 use common::Refusal;
+use rotations::Rotations;
 
 // Within the limits; a part of a matrix at the end does not count.
+#[tactic(auto, unfolding(crate::specs::Group::is_group))]
 pub fn is_group(rotations: &[i64]) -> bool
     requires fact_1 { length rotations.now ≤ 1728 }
     requires fact_2 { T (all_within 100000 rotations.now) }
     ensures { result ≡ is_group (matrices rotations.now) }
 {
     let identity = [1, 0, 0, 0, 1, 0, 0, 0, 1];
-    if !recip_rotations::contains(&identity, 0, rotations, rotations.len() / 9) {
-        return false;
-    }
-    if !members::no_repeats(rotations) {
-        return false;
-    }
-    if !members::units(rotations) {
-        return false;
-    }
-    products::products_inside(rotations)
+    let l = Rotations { list: rotations };
+    recip_rotations::contains(&identity, 0, rotations, l.count())
+        && l.no_repeats()
+        && l.units()
+        && l.products_inside()
 }
 
 // Of the list as given.
+#[tactic(auto, unfolding(crate::specs::ReciprocalGroup::given_tests))]
 fn given_tests(rotations: &[i64], places: usize) -> Result<(), Refusal>
     ensures { result ≡ given_tests rotations.now places }
 {
-    match recip_rotations::input_tests(rotations, places) {
-        Ok(()) => {
-            if is_group(rotations) {
-                return Ok(());
-            }
-            Err(Refusal::NotGroup)
-        }
-        Err(r) => Err(r),
+    recip_rotations::input_tests(rotations, places)?;
+    if !is_group(rotations) {
+        return Err(Refusal::NotGroup);
     }
+    Ok(())
 }
 
 // `reciprocal_rotations` of a list that must be a group as given: the reciprocal step of the chain.
-pub fn reciprocal_group(rotations: &[i64], is_time_reversal: bool, out: &mut [i64]) -> Result<usize, Refusal>
+pub fn reciprocal_group(
+    rotations: &[i64],
+    is_time_reversal: bool,
+    out: &mut [i64],
+) -> Result<usize, Refusal>
     ensures value { result ≡ reciprocal_answer rotations.now is_time_reversal (length out.old) }
     ensures out_after { out.new ≡ reciprocal_written rotations.now is_time_reversal (length out.old) }
 {
     match given_tests(rotations, out.len()) {
-        Ok(()) => {
-            recip_rotations::reciprocal_rotations(rotations, is_time_reversal, out)
-        }
+        Ok(()) => recip_rotations::reciprocal_rotations(rotations, is_time_reversal, out),
         Err(r) => {
-            common::fill(out, -1);
+            out.fill(-1);
             Err(r)
         }
     }

@@ -1,8 +1,6 @@
 use Rattle.integer.proofs.Fits.{held-is}
-use mir.Syntax.{w64}
 use mathlib.Core.Path.{refl}
 use native.Mathlib.Omega.{arith}
-use mir.Facts.{to_z-of_z}
 use Rattle.numbers_c.proofs.Answers.{wrong-length, value-told, overflow-told, zero-divisor-told}
 use borrow.Author.Rules.{rules}
 use Rattle.numbers_c.proofs.tell.Statement.{statement}

@@ -1,12 +1,10 @@
--- A limit that fits is a number from 1 to 1,000,000, and gets the pair that is found.
+-- A limit that fits is a number from 1 to 1,000,000.
 use Prim.Native.Nat.{◌≤◌}
 use lib.Dec.{T, leb→le}
 use lib.IntN.{ℤ, pos, negsuc, nat_abs}
 use lib.Signed.{le_z, non_neg}
 use Rattle.integer.proofs.Test.{and_l, and_r}
-use Rattle.worst_pair.specs.declared.WorstPair.{WorstPair}
-use Rattle.worst_pair.specs.declared.WorstPair.TheVariants.{Found, Refused}
-use Rattle.worst_pair.specs.WorstPair.{limit_fits, Finds, Answers}
+use Rattle.worst_pair.specs.WorstPair.{limit_fits}
 
 pub record Limit (z : ℤ) : Type 0 where
   pub sign : T (non_neg z)
@@ -18,7 +16,3 @@ limit-of (pos n) t =
     let z = pos n in
     record { sign = tt; low = leb→le 1 n (and_l (le_z (pos 1) z) (le_z z (pos 1000000)) t); high = leb→le n 1000000 (and_r (le_z (pos 1) z) (le_z z (pos 1000000)) t) }
 limit-of (negsuc n) t = absurd t
-
-pub answered : (z : ℤ) (w : WorstPair) → T (limit_fits z) → Finds (nat_abs z) w → Answers z w
-answered z (Found a b n) t f = (t, f)
-answered z (Refused r) t f = absurd f

@@ -6,11 +6,12 @@ ghost use Rattle.worst_pair.specs.WorstPair.{limit_fits, Finds, Answers};
 
 use common::Refusal;
 
-// The first number, the second, and their steps.
+// Two numbers, and their steps.
 #[derive(Clone, Copy)]
-pub enum WorstPair {
-    Found(usize, usize, usize),
-    Refused(Refusal),
+pub struct WorstPair {
+    pub a: usize,
+    pub b: usize,
+    pub steps: usize,
 }
 
 fn limit_fits(limit: i64) -> bool
@@ -25,24 +26,24 @@ fn neighbours(limit: usize) -> WorstPair
     requires limit_bound { limit ≤ 1000000 }
     ensures { Finds limit result }
 {
-    let mut x: usize = 1;
-    let mut y: usize = 1;
-    let mut n: usize = 1;
-    while x + y <= limit {
-        let z = x + y;
-        x = y;
-        y = z;
-        n += 1;
+    let mut a: usize = 1;
+    let mut b: usize = 1;
+    let mut steps: usize = 1;
+    while a + b <= limit {
+        let next = a + b;
+        a = b;
+        b = next;
+        steps += 1;
     }
-    WorstPair::Found(x, y, n)
+    WorstPair { a, b, steps }
 }
 
 // A limit outside 1 to 1,000,000 is refused.
-pub fn worst_pair(limit: i64) -> WorstPair
+pub fn worst_pair(limit: i64) -> Result<WorstPair, Refusal>
     ensures { Answers limit result }
 {
     if !limit_fits(limit) {
-        return WorstPair::Refused(Refusal::OutsideLimits);
+        return Err(Refusal::OutsideLimits);
     }
-    neighbours(limit as usize)
+    Ok(neighbours(limit as usize))
 }

@@ -17,7 +17,7 @@ use Rattle.common.specs.FloatMatrix.{float_matrix}
 use Rattle.common.specs.Tested.{require, output_of, Tested, Accepted}
 use Rattle.common.specs.declared.Refusal.{Refusal}
 use Rattle.common.specs.declared.Refusal.TheVariants.{SearchFailed, WrongLength}
-use Rattle.common.proofs.Tests.{passed}
+use Rattle.common.proofs.Tests.{passed, same-ok, refused-not-ok}
 use Rattle.grgrid.specs.Grid.{size}
 use Rattle.grgrid.proofs.Accepted.{grid-fits, few-points}
 use Rattle.bzgrid.specs.declared.Lengths.{Lengths}
@@ -48,12 +48,6 @@ pub record CallAccepted (d : List ℤ) (q : List (List ℤ)) (ps : List ℤ) (la
   pub map : map_written d q ps lattice t a b c ≡ padded (map_of (grid_type_of t) (sides_of d) (images_at (search_of d q ps lattice))) b
   pub points : grg_written d q ps lattice t a b c ≡ padded (point_list (table_of (grid_type_of t) (images_at (search_of d q ps lattice)) (size (sides_of d)))) c
 
-not-built : (r : Refusal) (l : Lengths) → Err r ≡ Ok l → ⊥
-not-built r l e = let z : ◌≡◌ {A = ℕ} 0 1 = cc in omega arith
-
-built-lengths : (l m : Lengths) → Ok l ≡ Ok m → l ≡ m
-built-lengths l m e = cc
-
 module _ (d : List ℤ) (q : List (List ℤ)) (ps : List ℤ) (lattice : List (List Float)) (t : ℤ) (a b c : ℕ) where
   abbrev s : Search
   s = search_of d q ps lattice
@@ -71,7 +65,7 @@ module _ (d : List ℤ) (q : List (List ℤ)) (ps : List ℤ) (lattice : List (L
       where
         go : (x : Tested) → input_tests d q ps lattice kind ≡ x → answer_after d q ps lattice t a b c x ≡ Ok l → input_tests d q ps lattice kind ≡ Accepted
         go (Ok _) p e = p
-        go (Err r) p e = absurd (not-built r l e)
+        go (Err r) p e = absurd (refused-not-ok e)
 
     built : build_answer kind s a b c ≡ Ok l
     unfolding bz_answer
@@ -82,8 +76,8 @@ module _ (d : List ℤ) (q : List (List ℤ)) (ps : List ℤ) (lattice : List (L
     build-passed = go (build_tests kind s a b c) refl built
       where
         go : (x : Tested) → build_tests kind s a b c ≡ x → answer_for x lengths ≡ Ok l → (build_tests kind s a b c ≡ Accepted) × (l ≡ lengths)
-        go (Ok _) p e = (p, sym (built-lengths lengths l e))
-        go (Err r) p e = absurd (not-built r l e)
+        go (Ok _) p e = (p, sym (same-ok e))
+        go (Err r) p e = absurd (refused-not-ok e)
 
     -- what an output then holds
     kept : (n : ℕ) (x : List ℤ) → output_of (input_tests d q ps lattice kind) n (output_of (build_tests kind s a b c) n x) ≡ x

@@ -30,11 +30,19 @@ module _ {r t : Bool} (e : r ≡ t) where
   pub goes_on : {b c : Bool} → not r ≡ false → c ≡ b → c ≡ t && b
   goes_on {b} h f = f ∙ first_holds b (yes h)
 
-pub not-accepted : {r : Refusal} → Err r ≡ Accepted → ⊥
-not-accepted e = let z : ◌≡◌ {A = ℕ} 0 1 = cc in omega arith
+-- ---- results that are the same
+module _ {A : Type 0} where
+  pub same-ok : {a b : A} → ◌≡◌ {A = Result A Refusal} (Ok a) (Ok b) → a ≡ b
+  same-ok e = cc
 
-pub same-ok : {A : Type 0} {a b : A} → ◌≡◌ {A = Result A Refusal} (Ok a) (Ok b) → a ≡ b
-same-ok e = cc
+  pub same-refusal : {r s : Refusal} → ◌≡◌ {A = Result A Refusal} (Err r) (Err s) → r ≡ s
+  same-refusal e = cc
+
+  pub refused-not-ok : {r : Refusal} {a : A} → ◌≡◌ {A = Result A Refusal} (Err r) (Ok a) → ⊥
+  refused-not-ok e = let z : ◌≡◌ {A = ℕ} 0 1 = cc in omega arith
+
+pub not-accepted : {r : Refusal} → Err r ≡ Accepted → ⊥
+not-accepted = refused-not-ok
 
 pub passed : (t : Bool) (r : Refusal) (rest : Tested) → require t r rest ≡ Accepted → (t ≡ true) × (rest ≡ Accepted)
 passed true r rest e = (refl, e)

@@ -25,6 +25,11 @@ abbrev pub giving : {A : Type 0} → Tested → A → Result A Refusal
 giving (Ok _) a = Ok a
 giving (Err r) a = Err r
 
+-- a call's answer without its value
+abbrev pub without_value : {A : Type 0} → Result A Refusal → Tested
+without_value (Ok _) = Accepted
+without_value (Err r) = Err r
+
 -- an output of n places: l, or -1 everywhere
 abbrev pub output_of : Tested → ℕ → List ℤ → List ℤ
 output_of (Ok _) n l = l

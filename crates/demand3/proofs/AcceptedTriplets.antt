@@ -10,7 +10,7 @@ use native.Mathlib.Omega.{arith}
 use lib.IntN.{ℤ, nat_abs}
 use lib.Ieee.{Float}
 use lib.ListN.{length}
-use Rattle.std.specs.Prelude.{Ok, Err}
+use Rattle.std.specs.Prelude.{Ok, Err, Result}
 use Rattle.common.specs.Matrix.{Vec}
 use Rattle.common.specs.Array.{sides_of, matrices}
 use Rattle.common.specs.Tested.{output_of, after, Tested, Accepted}
@@ -38,15 +38,15 @@ use Rattle.demand3.specs.FinishedList.{Starts}
 use Rattle.demand3.proofs.TableWalks.{Counts, not-got, then-got, place-got, address-got}
 
 -- ---- the class call takes a point of the grid
-module _ (q0 : ℤ) (d rotations : List ℤ) (time_reversal swappable : Bool) (n m : ℕ) {k : ℤ} (e : ir_triplets_answer q0 d rotations time_reversal swappable n m ≡ class-answer.Classes k) where
+module _ (q0 : ℤ) (d rotations : List ℤ) (time_reversal swappable : Bool) (n m : ℕ) {k : ℤ} (e : ir_triplets_answer q0 d rotations time_reversal swappable n m ≡ Ok k) where
   tests-accepted : triplet_tests q0 d rotations time_reversal n m ≡ Accepted
   unfolding ir_triplets_answer
   tests-accepted = go (triplet_tests q0 d rotations time_reversal n m) refl e
     where
-      never : (r : Refusal) → class-answer.Refused r ≡ class-answer.Classes k → ⊥
+      never : (r : Refusal) → ◌≡◌ {A = Result ℤ Refusal} (Err r) (Ok k) → ⊥
       never r e = let z : ◌≡◌ {A = ℕ} 0 1 = cc in omega arith
 
-      go : (t : Tested) → triplet_tests q0 d rotations time_reversal n m ≡ t → class.answer_for t (kept (map_triplets_of swappable (sides_of d) (nat_abs q0) (classes_at (nat_abs q0) (sides_of d) (matrices rotations) time_reversal)) (size (sides_of d))) ≡ class-answer.Classes k → triplet_tests q0 d rotations time_reversal n m ≡ Accepted
+      go : (t : Tested) → triplet_tests q0 d rotations time_reversal n m ≡ t → class.answer_for t (kept (map_triplets_of swappable (sides_of d) (nat_abs q0) (classes_at (nat_abs q0) (sides_of d) (matrices rotations) time_reversal)) (size (sides_of d))) ≡ Ok k → triplet_tests q0 d rotations time_reversal n m ≡ Accepted
       go (Ok _) p e = p
       go (Err r) p e = absurd (never r e)
 

@@ -16,7 +16,7 @@ use Rattle.common.specs.Limits.{diagonal_fits}
 use Rattle.common.specs.Tested.{output_of, Accepted}
 use Rattle.common.specs.declared.Refusal.{Refusal}
 use Rattle.common.proofs.Unimodular.{Unimodular}
-use Rattle.common.proofs.Tests.{passed-by, both-accepted}
+use Rattle.common.proofs.Tests.{passed-by, both-accepted, refused-not-ok}
 use Rattle.grgrid.specs.ClassMap.{kept}
 use Rattle.grgrid.specs.Picked.{Rising}
 use Rattle.grgrid.specs.Own.{own_points}
@@ -42,9 +42,6 @@ use Rattle.demand3.specs.FinishedList.{Calls, grid, points, number, carries, par
 use Rattle.demand3.proofs.JoinedList.{list-distinct, told_is, given-joined, transformed-joined}
 
 -- ---- accepted calls
-not-classed : {k : ℤ} (r : Refusal) → ¬ (Err r ≡ Ok k)
-not-classed r e = let z : ◌≡◌ {A = ℕ} 0 1 = cc in omega arith
-
 module _ (c : Calls) where
   transform-passed : transform_tests c.rotations (items c.d) (rows c.q) c.room ≡ Accepted
   transform-passed = written-tests c.rotations (items c.d) (rows c.q) c.room c.transforms
@@ -56,7 +53,7 @@ module _ (c : Calls) where
   class-tests : triplet_tests (pos c.q0) (items c.d) c.transformed c.time_reversal c.class-room c.point-room ≡ Accepted
   unfolding ir_triplets_answer
   class-tests =
-      passed-by (λ t. classing.answer_for t (kept numbers (points c))) not-classed (triplet_tests (pos c.q0) (items c.d) c.transformed c.time_reversal c.class-room c.point-room) c.classifies
+      passed-by (λ t. classing.answer_for t (kept numbers (points c))) (λ _. refused-not-ok) (triplet_tests (pos c.q0) (items c.d) c.transformed c.time_reversal c.class-room c.point-room) c.classifies
 
   class-input : outcome.InputAccepted (pos c.q0) (items c.d) c.transformed c.class-room c.point-room
   unfolding triplet_tests

@@ -2,8 +2,8 @@
 use mathlib.Core.Path.{◌≡◌, refl}
 use mathlib.Core.List.{List, [], ◌∷◌}
 use lib.IntN.{ℤ, pos, negsuc}
+use Rattle.common.specs.Tested.{Accepted}
 use Rattle.common.specs.declared.Refusal.TheVariants.{Singular, OutsideLimits, Overflow}
-use Rattle.common.specs.declared.Tested.TheVariants.{Accepted}
 use Rattle.common.specs.Matrix.{Mat, diagonal}
 use Rattle.common.specs.Array.{matrix_of}
 use Rattle.common.specs.IntegerMatrix.{product_fits}

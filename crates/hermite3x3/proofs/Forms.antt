@@ -4,13 +4,13 @@ use mathlib.Core.Logic.{◌↔◌}
 use mathlib.Core.List.{List, []}
 use lib.IntN.{ℤ}
 use lib.ListN.{length}
+use Rattle.std.specs.Prelude.{Ok, Err}
+use Rattle.common.specs.Tested.{Tested, Accepted}
 use Rattle.integer.specs.Checked.{is_zero, pick}
 use Rattle.integer.proofs.Test.{pick-cases}
 use Rattle.integer.proofs.Size.{nonzero-test}
 use Rattle.common.specs.declared.Refusal.{Refusal}
 use Rattle.common.specs.declared.Refusal.TheVariants.{Singular, OutsideLimits, Overflow}
-use Rattle.common.specs.declared.Tested.{Tested}
-use Rattle.common.specs.declared.Tested.TheVariants.{Accepted, Refused}
 use Rattle.common.specs.Limits.{matrix_within}
 use Rattle.common.specs.Matrix.{Mat, entries, det}
 use Rattle.common.specs.Array.{matrix_at}
@@ -114,9 +114,9 @@ same-grid-says A B = by (hermite3x3 A).tested (hermite3x3 B).tested refl refl
 
     by : (t u : Tested) → (hermite3x3 A).tested ≡ t → (hermite3x3 B).tested ≡ u
         → Says A B (unless_refused t (unless_refused u (same_by (order_forms (hermite3x3 A).h (hermite3x3 B).h))))
-    by (Refused r) u e f = tt
-    by Accepted (Refused r) e f = tt
-    by Accepted Accepted e f = ordered (order_forms (hermite3x3 A).h (hermite3x3 B).h) (order-equal A B e f)
+    by (Err r) u e f = tt
+    by (Ok _) (Err r) e f = tt
+    by (Ok _) (Ok _) e f = ordered (order_forms (hermite3x3 A).h (hermite3x3 B).h) (order-equal A B e f)
 
 -- of what the code returns
 pub returned-says : (A B : Mat ℤ) {r : SameGrid} → r ≡ same_grid A B → (r ≡ same_grid A B) × Says A B r

@@ -1,11 +1,11 @@
 -- The walk to the Hermite form: every step is the Rust's matrix product from the left.
-use Rattle.std.specs.Prelude.{◌≡◌, Bool, ◌&&◌, [], ℕ, ℤ, pos, negsuc, neg_ℤ, replicate}
+use Rattle.std.specs.Prelude.{◌≡◌, Bool, ◌&&◌, [], ℕ, ℤ, pos, negsuc, neg_ℤ, replicate, Err}
 use Rattle.std.specs.Int.Signed.{lt_z}
+use Rattle.common.specs.Tested.{Accepted}
 use Rattle.integer.specs.Checked.{fits64, is_zero, pick}
 use Rattle.integer.specs.Division.{div_euclid}
 use Rattle.common.specs.declared.Refusal.{Refusal}
 use Rattle.common.specs.declared.Refusal.TheVariants.{Singular, OutsideLimits, Overflow}
-use Rattle.common.specs.declared.Tested.TheVariants.{Accepted, Refused}
 use Rattle.common.specs.Limits.{matrix_within}
 use Rattle.common.specs.Matrix.{Mat, entries, ◌·◌, det}
 use Rattle.common.specs.Array.{matrix_of, matrix_at}
@@ -60,7 +60,7 @@ steps m = columns m then signs then above
 
 -- ---- the call
 abbrev pub refused : Refusal → Hermite
-refused r = record { tested = Refused r; h = replicate 9 (negsuc 0) }
+refused r = record { tested = Err r; h = replicate 9 (negsuc 0) }
 
 abbrev pub formed : Result (Mat ℤ) → Hermite
 formed (ok m) = record { tested = Accepted; h = entries m [] }

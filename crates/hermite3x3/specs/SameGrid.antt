@@ -1,7 +1,6 @@
 -- Two matrices make the same grid if they have the same points: their Hermite forms are equal.
-use Rattle.std.specs.Prelude.{◌≡◌, ◌↔◌, List, ◌<◌, ℤ, nat_abs}
-use Rattle.common.specs.declared.Tested.{Tested}
-use Rattle.common.specs.declared.Tested.TheVariants.{Accepted, Refused}
+use Rattle.std.specs.Prelude.{◌≡◌, ◌↔◌, List, ◌<◌, ℤ, nat_abs, Ok, Err}
+use Rattle.common.specs.Tested.{Tested, Accepted}
 use Rattle.common.specs.Matrix.{Mat, det}
 use Rattle.hermite3x3.specs.declared.Hermite.{Hermite}
 use Rattle.hermite3x3.specs.declared.Order.{Order}
@@ -18,8 +17,8 @@ same_by Equal = same.Same
 same_by After = same.Different
 
 abbrev pub unless_refused : Tested → SameGrid → SameGrid
-unless_refused Accepted s = s
-unless_refused (Refused r) s = same.Refused r
+unless_refused (Ok _) s = s
+unless_refused (Err r) s = same.Refused r
 
 -- a matrix with the form g, and another
 abbrev pub same_as : List ℤ → Hermite → SameGrid

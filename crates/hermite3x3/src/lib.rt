@@ -12,13 +12,13 @@ ghost use Rattle.hermite3x3.specs.OrderForms.{order_forms};
 ghost use Rattle.hermite3x3.specs.declared.Order.TheVariants as order;
 ghost use Rattle.hermite3x3.specs.SameGrid.{same_by, same_as, same_grid, Says};
 
-use common::{Refusal, Tested};
+use common::Refusal;
 use steps::Rows;
 
 // The form of an accepted matrix, by rows; -1 in every place of a refused one.
 #[derive(Clone, Copy)]
 pub struct Hermite {
-    pub tested: Tested,
+    pub tested: Result<(), Refusal>,
     pub h: [i64; 9],
 }
 
@@ -26,7 +26,7 @@ fn refuse(r: Refusal) -> Hermite
     ensures { result ≡ walk.refused r }
 {
     Hermite {
-        tested: Tested::Refused(r),
+        tested: Err(r),
         h: [-1; 9],
     }
 }
@@ -39,7 +39,7 @@ fn formed(s: Rows) -> Hermite
     }
     let m = s.m;
     Hermite {
-        tested: Tested::Accepted,
+        tested: Ok(()),
         h: m,
     }
 }
@@ -112,8 +112,8 @@ fn same_as(g: [i64; 9], b: [[i64; 3]; 3]) -> SameGrid
     let h = y.h;
     let t = y.tested;
     match t {
-        Tested::Accepted => same_by(order_forms(g, h)),
-        Tested::Refused(r) => SameGrid::Refused(r),
+        Ok(()) => same_by(order_forms(g, h)),
+        Err(r) => SameGrid::Refused(r),
     }
 }
 
@@ -125,7 +125,7 @@ pub fn same_grid(a: [[i64; 3]; 3], b: [[i64; 3]; 3]) -> SameGrid
     let g = x.h;
     let t = x.tested;
     match t {
-        Tested::Accepted => same_as(g, b),
-        Tested::Refused(r) => SameGrid::Refused(r),
+        Ok(()) => same_as(g, b),
+        Err(r) => SameGrid::Refused(r),
     }
 }

@@ -16,7 +16,7 @@ use Rattle.common.specs.Refusal.{number_of}
 use Rattle.common.specs.Tested.{require, after, Tested, Accepted}
 use Rattle.common.specs.declared.Refusal.{Refusal}
 use Rattle.common.specs.declared.Refusal.TheVariants.{OutsideLimits, TooManyRotations, TooManyForInversion, WrongLength, NotGroup}
-use Rattle.common.proofs.Tests.{not-accepted}
+use Rattle.common.proofs.Tests.{not-accepted, same-refusal}
 use Rattle.grgrid.proofs.MatrixGroup.{MatrixGroup}
 use Rattle.recip_rotations.specs.Unique.{unique}
 use Rattle.recip_rotations.specs.PointGroup.{turned, joins, join_tests, input_tests, room_tests}
@@ -25,12 +25,6 @@ use Rattle.rotation_group.specs.ReciprocalGroup.{given_tests, reciprocal_tests}
 use Rattle.rotation_group.proofs.IsGroup.{group_of, of-group}
 
 -- ---- tests with other refusals
-same_number : {r x : Refusal} → Err r ≡ Err x → number_of r ≡ number_of x
-same_number {r} {x} e = ap number_of (inner e)
-  where
-    inner : Err r ≡ Err x → r ≡ x
-    inner e = cc
-
 -- a test that gives r, where r is not 18, and the tests after it do not give 18
 module _ (t : Bool) (r : Refusal) (rest : Tested) (other : number_of r ≡ 18 → ⊥) where
   never-by : (rest ≡ Err NotGroup → ⊥) → require t r rest ≡ Err NotGroup → ⊥
@@ -38,7 +32,7 @@ module _ (t : Bool) (r : Refusal) (rest : Tested) (other : number_of r ≡ 18 �
     where
       go : (t : Bool) → require t r rest ≡ Err NotGroup → ⊥
       go true e = h e
-      go false e = other (same_number e)
+      go false e = other (ap number_of (same-refusal e))
 
 accepts : Accepted ≡ Err NotGroup → ⊥
 accepts e = not-accepted (sym e)

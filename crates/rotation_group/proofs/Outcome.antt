@@ -8,10 +8,10 @@ use lib.ListN.{length, replicate}
 use Rattle.std.specs.Prelude.{Result, Ok, Err}
 use Rattle.common.specs.Matrix.{Mat}
 use Rattle.common.specs.Array.{matrices}
-use Rattle.common.specs.Tested.{after, output_of, Tested, Accepted}
+use Rattle.common.specs.Tested.{after, output_of, Tested, Accepted, giving}
 use Rattle.common.specs.declared.Refusal.{Refusal}
 use Rattle.recip_rotations.specs.Flat.{laid}
-use Rattle.recip_rotations.specs.PointGroup.{room_tests, point_group, answer_for, count_of, point_group_answer, point_group_written}
+use Rattle.recip_rotations.specs.PointGroup.{room_tests, point_group, count_of, point_group_answer, point_group_written}
 use Rattle.recip_rotations.proofs.Answered.{was-accepted, was-refused}
 use Rattle.recip_rotations.proofs.Room.{count-few}
 use Rattle.rotation_group.specs.ReciprocalGroup.{given_tests, reciprocal_tests, reciprocal_answer, reciprocal_written}
@@ -22,7 +22,7 @@ module _ (l : List ℤ) (time : Bool) (n : ℕ) where
   group = point_group (matrices l) time true
 
   abbrev answered : Tested → Result ℕ Refusal
-  answered t = answer_for t (length group)
+  answered t = giving t (length group)
 
   abbrev written : Tested → List ℤ
   written t = output_of t n (laid group (replicate n (negsuc 0)))

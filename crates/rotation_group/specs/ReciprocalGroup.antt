@@ -3,10 +3,10 @@
 use Rattle.std.specs.Prelude.{Bool, true, List, ℕ, ℤ, negsuc, length, replicate, Result}
 use Rattle.common.specs.declared.Refusal.{Refusal}
 use Rattle.common.specs.Array.{matrices}
-use Rattle.common.specs.Tested.{require, after, output_of, Tested, Accepted}
+use Rattle.common.specs.Tested.{require, after, output_of, Tested, Accepted, giving}
 use Rattle.common.specs.declared.Refusal.TheVariants.{NotGroup}
 use Rattle.recip_rotations.specs.Flat.{laid}
-use Rattle.recip_rotations.specs.PointGroup.{input_tests, room_tests, point_group, answer_for}
+use Rattle.recip_rotations.specs.PointGroup.{input_tests, room_tests, point_group}
 use Rattle.rotation_group.specs.Group.{is_group}
 
 -- of the list as given: lengths and limits, then whether it is a group
@@ -21,7 +21,7 @@ module _ (rotations : List ℤ) (time_reversal : Bool) (n : ℕ) where
 
   unfoldable pub reciprocal_answer : Result ℕ Refusal
   unfolding reciprocal_tests point_group
-  reciprocal_answer = answer_for reciprocal_tests (length (point_group (matrices rotations) time_reversal true))
+  reciprocal_answer = giving reciprocal_tests (length (point_group (matrices rotations) time_reversal true))
 
   -- the matrices, then -1
   unfoldable pub reciprocal_written : List ℤ

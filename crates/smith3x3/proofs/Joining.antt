@@ -7,9 +7,10 @@ use native.Mathlib.Omega.{arith}
 use lib.IntN.{ℤ, pos, negsuc}
 use lib.ListN.{length, get_or, drop, replicate, drop_of_length-le}
 use lib.Seq.{drop-cons}
+use Rattle.std.specs.Prelude.{Err}
+use Rattle.common.specs.Tested.{Accepted}
 use Rattle.integer.specs.Checked.{pick}
 use Rattle.common.specs.declared.Refusal.{Refusal}
-use Rattle.common.specs.declared.Tested.TheVariants.{Accepted, Refused}
 use Rattle.common.specs.Matrix.{Mat, entries, ◌·◌, diagonal}
 use Rattle.common.specs.Array.{vector_of, matrix_at, items}
 use Rattle.snf3x3.specs.Snf3x3 as first
@@ -39,7 +40,7 @@ pub second-accepted : (p q : Mat ℤ) (w : first.Answer) → (written w).tested 
 second-accepted p q (first.refused r) e = let z : ◌≡◌ {A = ℕ} 0 1 = cc in absurd (never z)
 second-accepted p q (first.diagonalised d p' q' n) e = refl
 
-pub second-refused : (p q : Mat ℤ) (w : first.Answer) {r : Refusal} → (written w).tested ≡ Refused r → joined p q w ≡ refused r
+pub second-refused : (p q : Mat ℤ) (w : first.Answer) {r : Refusal} → (written w).tested ≡ Err r → joined p q w ≡ refused r
 second-refused p q (first.refused r) {r = r'} e = let z : r ≡ r' = cc in (λ i. refused (z i))
 second-refused p q (first.diagonalised d p' q' n) e = let z : ◌≡◌ {A = ℕ} 0 1 = cc in absurd (never z)
 
@@ -49,6 +50,6 @@ pub first-accepted : (w : first.Answer) → (written w).tested ≡ Accepted
 first-accepted (first.refused r) e = let z : ◌≡◌ {A = ℕ} 0 1 = cc in absurd (never z)
 first-accepted (first.diagonalised d p q n) e = refl
 
-pub first-refused : (w : first.Answer) {r : Refusal} → (written w).tested ≡ Refused r → again w ≡ refused r
+pub first-refused : (w : first.Answer) {r : Refusal} → (written w).tested ≡ Err r → again w ≡ refused r
 first-refused (first.refused r) {r = r'} e = let z : r ≡ r' = cc in (λ i. refused (z i))
 first-refused (first.diagonalised d p q n) e = let z : ◌≡◌ {A = ℕ} 0 1 = cc in absurd (never z)

@@ -8,12 +8,12 @@ ghost use Rattle.snf3x3.specs.Snf3x3.{snf3x3_unlimited};
 ghost use Rattle.smith3x3.specs.Smith3x3 as smith;
 ghost use Rattle.smith3x3.specs.Written.{written, product_of, Promised};
 
-use common::{Refusal, Tested};
+use common::Refusal;
 
 // P.A.Q is the diagonal matrix of `d_diag`.
 #[derive(Clone, Copy)]
 pub struct Smith {
-    pub tested: Tested,
+    pub tested: Result<(), Refusal>,
     pub d_diag: [i64; 3],
     pub p: [i64; 9],
     pub q: [i64; 9],
@@ -23,7 +23,7 @@ fn refuse(r: Refusal) -> Smith
     ensures { result ≡ written (smith.refused r) }
 {
     Smith {
-        tested: Tested::Refused(r),
+        tested: Err(r),
         d_diag: [-1; 3],
         p: [-1; 9],
         q: [-1; 9],
@@ -67,7 +67,7 @@ fn multiplied(d: [i64; 3], p: [i64; 9], q: [i64; 9], p2: [i64; 9], q2: [i64; 9])
     let pj = left.m;
     let qj = right.m;
     Smith {
-        tested: Tested::Accepted,
+        tested: Ok(()),
         d_diag: d,
         p: pj,
         q: qj,
@@ -90,8 +90,8 @@ fn again(d: [i64; 3], p: [i64; 9], q: [i64; 9]) -> Smith
     let q2 = s.q;
     let t = s.tested;
     match t {
-        Tested::Accepted => multiplied(e, p, q, p2, q2),
-        Tested::Refused(r) => refuse(r),
+        Ok(()) => multiplied(e, p, q, p2, q2),
+        Err(r) => refuse(r),
     }
 }
 
@@ -105,7 +105,7 @@ pub fn smith3x3(a: [[i64; 3]; 3]) -> Smith
     let q = s.q;
     let t = s.tested;
     match t {
-        Tested::Accepted => again(d, p, q),
-        Tested::Refused(r) => refuse(r),
+        Ok(()) => again(d, p, q),
+        Err(r) => refuse(r),
     }
 }

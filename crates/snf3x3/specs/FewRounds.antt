@@ -1,11 +1,10 @@
 -- What a matrix can cost: the rounds, the divisions of the extended gcd, and the pivot, which falls from round to round.
-use Rattle.std.specs.Prelude.{◌≡◌, ◌⊎◌, ℕ, zero, ◌≤◌, ◌<◌, T, ℤ, pos, nat_abs}
+use Rattle.std.specs.Prelude.{◌≡◌, ◌⊎◌, ℕ, zero, ◌≤◌, ◌<◌, T, ℤ, pos, nat_abs, Err}
 use Rattle.std.specs.Int.Signed.{le_z}
 use Rattle.integer.specs.Checked.{fits64}
 use Rattle.integer.specs.Divides.{Divides}
 use Rattle.common.specs.declared.Refusal.{Refusal}
 use Rattle.common.specs.declared.Refusal.TheVariants.{Singular, NotConverged, OutsideLimits, Overflow}
-use Rattle.common.specs.declared.Tested.TheVariants.{Refused}
 use Rattle.common.specs.Limits.{matrix_within}
 use Rattle.common.specs.Matrix.{Vec, Mat, det}
 use Rattle.snf_steps.specs.Result.{ok}
@@ -18,7 +17,7 @@ use Rattle.snf3x3.specs.Snf3x3.{refused, diagonalised, round, begun, snf3x3}
 -- of what the call returns: at most n rounds (-1 with a refusal), and never refusal 2
 pub record RoundsWithin (n : ℕ) (r : Snf) : Type 0 where
   pub rounds : T (le_z r.rounds (pos n))
-  pub converges : r.tested ≡ Refused NotConverged → ⊥
+  pub converges : r.tested ≡ Err NotConverged → ⊥
 
 -- the refusals that are left: 1, 3 and 4
 abbrev pub Given : Refusal → Type 0

@@ -10,14 +10,14 @@ ghost use Rattle.snf3x3.specs.Snf3x3 as walk;
 ghost use Rattle.snf3x3.specs.Written.{written};
 ghost use Rattle.snf3x3.specs.FewRounds.{RoundsWithin};
 
-use common::{Refusal, Tested};
+use common::Refusal;
 use snf_steps::stages::{Outcome, Triple};
 use snf_steps::{finalize, stages};
 
 // P.A.Q is the diagonal matrix of `d_diag`; `rounds` says how many passes it took.
 #[derive(Clone, Copy)]
 pub struct Snf {
-    pub tested: Tested,
+    pub tested: Result<(), Refusal>,
     pub d_diag: [i64; 3],
     pub p: [i64; 9],
     pub q: [i64; 9],
@@ -28,7 +28,7 @@ fn refuse(r: Refusal) -> Snf
     ensures { result ≡ written (walk.refused r) }
 {
     Snf {
-        tested: Tested::Refused(r),
+        tested: Err(r),
         d_diag: [-1; 3],
         p: [-1; 9],
         q: [-1; 9],
@@ -59,7 +59,7 @@ fn answer(s: Triple, n: usize) -> Snf
     let q = s.q;
     let t = stages::transposed(q);
     Snf {
-        tested: Tested::Accepted,
+        tested: Ok(()),
         d_diag: [a[0], a[4], a[8]],
         p: p,
         q: t,

@@ -28,7 +28,7 @@ use Rattle.grgrid.proofs.Folding.{Sides}
 use Rattle.grgrid.proofs.Acting.{grid}
 use Rattle.grgrid.proofs.Accepted.{grid-fits}
 use Rattle.transform_rotations.specs.Transform.{transform_d, is_whole, rounded}
-use Rattle.transform_rotations.specs.TransformRotations.{all_whole, transformed_list, input_tests, transform_tests, answer_for, transform_answer, transform_written}
+use Rattle.transform_rotations.specs.TransformRotations.{all_whole, transformed_list, input_tests, transform_tests, transform_answer, transform_written}
 
 -- ---- the diagonal numbers
 pub sides-fit : (d : List ℤ) → T (diagonal_fits d) → (k : Axis) → T (side_fits (side (vector_of d) k))
@@ -65,10 +65,7 @@ module _ (rotations d : List ℤ) (q : List (List ℤ)) (n : ℕ) where
   -- an accepted call
   pub written-tests : transform_answer rotations d q n ≡ Accepted → transform_tests rotations d q n ≡ Accepted
   unfolding transform_answer
-  written-tests e = passed-by answer_for not_written (transform_tests rotations d q n) e
-    where
-      not_written : (r : Refusal) → ¬ (Err r ≡ Accepted)
-      not_written r e = let z : ◌≡◌ {A = ℕ} 0 1 = cc in omega arith
+  written-tests e = e
 
   pub tests-input : transform_tests rotations d q n ≡ Accepted → input_tests rotations d q n ≡ Accepted
   unfolding transform_tests

@@ -5,7 +5,7 @@ use Rattle.integer.specs.Checked.{pick}
 use Rattle.common.specs.Matrix.{Vec, Mat, origin}
 use Rattle.common.specs.Array.{sides_of, matrices}
 use Rattle.common.specs.Limits.{whole_matrices, rotations_fit, diagonal_fits, point_fits}
-use Rattle.common.specs.Tested.{require, output_of, after, Tested, Accepted}
+use Rattle.common.specs.Tested.{require, giving, output_of, after, Tested, Accepted}
 use Rattle.common.specs.declared.Refusal.TheVariants.{OutsideLimits, WrongLength}
 use Rattle.grgrid.specs.Grid.{size}
 use Rattle.grgrid.specs.Build.{build}

@@ -13,7 +13,7 @@ use Rattle.common.specs.Matrix.{Vec, Mat}
 use Rattle.common.specs.Array.{matrix_of, matrix_at, matrices, items, rows}
 use Rattle.common.specs.declared.Refusal.TheVariants.{WrongLength}
 use Rattle.common.proofs.Tests.{passed, not-accepted, both-accepted}
-use Rattle.common.specs.Tested.{after, Tested, Accepted}
+use Rattle.common.specs.Tested.{after, giving, Tested, Accepted, without_value}
 use Rattle.snf3x3.specs.Snf3x3.{Answer, refused, diagonalised, snf3x3}
 use Rattle.snf3x3.specs.Written.{written}
 use Rattle.recip_rotations.specs.PointGroup.{point_group, point_group_answer, point_group_written}
@@ -36,7 +36,7 @@ use Rattle.bz_triplets.specs.BzTriplets.{bz_triplets_answer, triplets_written, t
 use Rattle.bz_triplets.proofs.CallOutcome.{asked-for}
 use Rattle.zone.specs.declared.Finished.{Finished}
 use Rattle.demand3.specs.FinishedList.{Given, as-returned, Starts, Calls}
-use Rattle.zone_steps.specs.Steps.{Rooms, Grid, Lists, group, transformed, rotation_tests, images_tested, start_of, points_of, class_map_of, class_tests, count, start, choice_tests, triplets, list_tests, lists_of, image_addresses, image_map, image_tests, grid_tests, grid_lists}
+use Rattle.zone_steps.specs.Steps.{Rooms, Grid, Lists, group, transformed, rotation_tests, start_of, points_of, class_map_of, class_tests, count, start, choice_tests, triplets, list_tests, lists_of, image_addresses, image_map, image_tests, grid_tests, grid_lists}
 use Rattle.zone.specs.Chain.{Job, rooms_agree, diagonal, change, grid_of, chain_tests, chain_answer}
 use Rattle.zone_steps.specs.StepsView.{grid, Listed}
 use Rattle.zone.specs.ChainFinished.{FinishedChain}
@@ -53,11 +53,11 @@ whole (pos n) t = refl
 whole (negsuc n) t = absurd t
 
 -- ---- images were built
-built : (a : Result Lengths Refusal) → images_tested a ≡ Accepted → (l : Lengths) × (a ≡ Ok l)
+built : (a : Result Lengths Refusal) → without_value a ≡ Accepted → (l : Lengths) × (a ≡ Ok l)
 built (Ok l) e = (l, refl)
 built (Err r) e = absurd (not-accepted e)
 
-classified-by : (t : Tested) (k : ℕ) → t ≡ Accepted → (z : ℤ) × (class.answer_for t k ≡ class-answer.Classes z)
+classified-by : (t : Tested) (k : ℕ) → t ≡ Accepted → (z : ℤ) × (class.answer_for t k ≡ Ok z)
 classified-by (Ok _) k e = (pos k, refl)
 classified-by (Err r) k e = absurd (not-accepted e)
 
@@ -94,7 +94,7 @@ module _ (j : Job) (r : Rooms) (d : Vec ℤ) (p q : Mat ℤ) (rounds : ℕ) (dia
 
     returned : point_group_answer j.rotations j.time_reversal true 432 ≡ Ok told
     unfolding point_group_answer
-    returned = ap (λ t. reciprocal.answer_for t told) (accepted-call j.rotations j.time_reversal 432 both.0)
+    returned = ap (λ t. giving t told) (accepted-call j.rotations j.time_reversal 432 both.0)
 
     told-list : take (told * 9) (point_group_written j.rotations j.time_reversal true 432) ≡ list
     unfolding group
@@ -105,7 +105,7 @@ module _ (j : Job) (r : Rooms) (d : Vec ℤ) (p q : Mat ℤ) (rounds : ℕ) (dia
 
     transforms : transform_answer list (items d) (rows q) (length list) ≡ Accepted
     unfolding transform_answer
-    transforms = ap transforming.answer_for both.1
+    transforms = both.1
 
     transforms-to : turned ≡ transform_written list (items d) (rows q) (length list)
     unfolding transformed
@@ -149,7 +149,7 @@ module _ (j : Job) (r : Rooms) (d : Vec ℤ) (p q : Mat ℤ) (rounds : ℕ) (dia
     inside : nat_abs j.q0 < points_of g
     inside = (passed-classes j.q0 (items d) turned j.time_reversal (points_of g) (points_of g) class-tests).point
 
-    classified : (k : ℤ) × (ir_triplets_answer j.q0 (items d) turned j.time_reversal j.swappable (points_of g) (points_of g) ≡ class-answer.Classes k)
+    classified : (k : ℤ) × (ir_triplets_answer j.q0 (items d) turned j.time_reversal j.swappable (points_of g) (points_of g) ≡ Ok k)
     unfolding ir_triplets_answer
     classified = classified-by (triplet_tests j.q0 (items d) turned j.time_reversal (points_of g) (points_of g)) _ class-tests
 
@@ -158,7 +158,7 @@ module _ (j : Job) (r : Rooms) (d : Vec ℤ) (p q : Mat ℤ) (rounds : ℕ) (dia
     classes-to = ap (λ z. map_triplets_written z (items d) turned j.time_reversal j.swappable (points_of g) (points_of g)) q0-is
 
     -- ---- triplets
-    chooses : bz_triplets_answer (start g a m) a m (class_map_of g) (items d) (rows q) j.lattice j.type (count g * 3) (count g) (count g) ≡ triplet-answer.Written
+    chooses : bz_triplets_answer (start g a m) a m (class_map_of g) (items d) (rows q) j.lattice j.type (count g * 3) (count g) (count g) ≡ Accepted
     unfolding choice_tests bz_triplets_answer
     chooses = ap triplet.answer_for lists.1
 
@@ -220,13 +220,13 @@ module _ (j : Job) (r : Rooms) (d : Vec ℤ) (p q : Mat ℤ) (rounds : ℕ) (dia
       class-room = points_of g;
       point-room = points_of g;
       count = classified.0;
-      classifies = subst (λ z. ir_triplets_answer z (items d) turned j.time_reversal j.swappable (points_of g) (points_of g) ≡ class-answer.Classes classified.0) q0-is classified.1;
+      classifies = subst (λ z. ir_triplets_answer z (items d) turned j.time_reversal j.swappable (points_of g) (points_of g) ≡ Ok classified.0) q0-is classified.1;
       classifies-to = classes-to;
       start = nat_abs (start g a m);
       starts = starts;
       triplets = triplets g a m;
       triplet-rooms = record { x = count g * 3; y = count g; z = count g };
-      chooses = subst (λ z. bz_triplets_answer z a m (class_map_of g) (items d) (rows q) j.lattice j.type (count g * 3) (count g) (count g) ≡ triplet-answer.Written) start_is chooses;
+      chooses = subst (λ z. bz_triplets_answer z a m (class_map_of g) (items d) (rows q) j.lattice j.type (count g * 3) (count g) (count g) ≡ Accepted) start_is chooses;
       chooses-to = triplets-to;
     }
 

@@ -15,6 +15,7 @@ use Rattle.common.specs.declared.Refusal.{Refusal}
 use Rattle.common.specs.declared.Refusal.TheVariants.{WrongLength}
 use Rattle.common.specs.Refusal.{number_of}
 use Rattle.common.specs.Tested.{require, after, Tested, Accepted}
+use Rattle.common.proofs.Tests.{same-ok, refused-not-ok}
 use Rattle.zone.specs.declared.Finished.{Finished}
 use Rattle.zone_steps.specs.Steps.{Rooms}
 use Rattle.zone_list.specs.List.{list_rooms, answer_for, print_tests, print_answer, finished, text, list_answer, list_text}
@@ -22,20 +23,14 @@ use Rattle.zone_c.specs.Lists.{listing_number, listing_told, BytesFit, ZoneListT
 use Rattle.answers.proofs.Lengths.{taken, left}
 
 -- ---- a listing that was printed had room
-not-bytes : (r : Refusal) (m : ℕ) → Err r ≡ Ok m → ⊥
-not-bytes r m e = let z : ◌≡◌ {A = ℕ} 0 1 = cc in omega arith
-
-same_bytes : (k m : ℕ) → Ok k ≡ Ok m → k ≡ m
-same_bytes k m e = cc
-
 bytes_below : (f : Finished) (text : List ℕ) (n m : ℕ) → print_answer f text n ≡ Ok m → m ≤ n
 unfolding print_answer print_tests
 bytes_below f text n m e = go f.tested (leb (length text) n) refl e
   where
     go : (t : Tested) (b : Bool) → leb (length text) n ≡ b → answer_for (after t (require b WrongLength Accepted)) (length text) ≡ Ok m → m ≤ n
-    go (Ok _) true p e = subst (λ (k : ℕ). k ≤ n) (same_bytes (length text) m e) (leb→le (length text) n (holds p))
-    go (Ok _) false p e = absurd (not-bytes WrongLength m e)
-    go (Err r) b p e = absurd (not-bytes r m e)
+    go (Ok _) true p e = subst (λ (k : ℕ). k ≤ n) (same-ok e) (leb→le (length text) n (holds p))
+    go (Ok _) false p e = absurd (refused-not-ok e)
+    go (Err r) b p e = absurd (refused-not-ok e)
 
 pub bytes_fit : (job : List ℕ) (r : Rooms) (n : ℕ) {a : Result ℕ Refusal} → n < 0x8000000000000000 → a ≡ list_answer job r n → BytesFit a
 unfolding list_answer

@@ -18,6 +18,7 @@ use Rattle.common.specs.Tested.{require, after, Tested, Accepted}
 use Rattle.common.specs.declared.Refusal.{Refusal}
 use Rattle.common.specs.declared.Refusal.TheVariants.{Singular, NotConverged, OutsideLimits, Overflow, SingularQ, SymmetryBroken, TooManyRotations, TooManyForInversion, BadGridType, NotUnimodularQ, SingularReciprocalLattice, SearchFailed, WrongLength, OutsideTable, BadHeader, NotGroup, InvertedRange}
 use Rattle.common.proofs.Bounds.{side-size}
+use Rattle.common.proofs.Tests.{same-ok}
 use Rattle.grgrid.specs.Grid.{size}
 use Rattle.grgrid.proofs.Accepted.{side-0, side-1, side-2}
 use Rattle.job.specs.Listing.{decimal, number, listing, refusal}
@@ -149,10 +150,7 @@ module _ (b : List ℕ) where
     text-is = sym (ap (λ t. text_or_refusal t (text b list_rooms)) accepted)
 
     pub listed-bytes : k ≡ length (job_text b)
-    listed-bytes = same_bytes (tests-are e ∙ ap (λ t. answer_for t (length (text b list_rooms))) accepted) ∙ ap length text-is
-      where
-        same_bytes : {m n : ℕ} → Ok m ≡ Ok n → m ≡ n
-        same_bytes h = cc
+    listed-bytes = same-ok (tests-are e ∙ ap (λ t. answer_for t (length (text b list_rooms))) accepted) ∙ ap length text-is
 
     pub listed-whole : {t : List ℕ} → t ≡ list_text b list_rooms 8192 → t ≡ printed (job_text b) 8192
     unfolding list_text print_text list_tests

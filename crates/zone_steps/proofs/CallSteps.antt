@@ -13,7 +13,7 @@ use Rattle.bzgrid.specs.declared.Lengths.{Lengths}
 use Rattle.common.specs.Array.{matrices}
 use Rattle.common.specs.declared.Refusal.{Refusal}
 use Rattle.common.proofs.Reading.{length-flat}
-use Rattle.common.specs.Tested.{after, Tested, Accepted}
+use Rattle.common.specs.Tested.{after, Tested, Accepted, without_value}
 use Rattle.grgrid.specs.Own.{own_places}
 use Rattle.recip_rotations.specs.PointGroup.{count_of, point_group, point_group_answer}
 use Rattle.recip_rotations.proofs.Room.{count_small}
@@ -26,7 +26,7 @@ use Rattle.triplet_grid.specs.IrTriplets as class
 use Rattle.triplet_grid.specs.IrTriplets.{triplet_tests, ir_triplets_answer, map_triplets_written, map_qwritten}
 use Rattle.bz_triplets.specs.BzTriplets as triplet
 use Rattle.bz_triplets.specs.BzTriplets.{bz_triplet_tests, bz_triplets_answer, triplets_written, left_written, left_length_written}
-use Rattle.zone_steps.specs.Steps.{group, transformed, rotation_tests, images_tested}
+use Rattle.zone_steps.specs.Steps.{group, transformed, rotation_tests}
 use Rattle.zone_steps.specs.StepsView.{Chosen}
 use Rattle.recip_rotations.proofs.ToldPart.{told-count, told_part}
 
@@ -43,25 +43,13 @@ front-drop n l = ap (λ k. drop k l) whole
     whole = omega arith
 
 -- ---- the tests, from an answer
-abbrev pub transform_tested : Tested → Tested
-transform_tested transform-answer.Written = Accepted
-transform_tested (transform-answer.Refused r) = Err r
-
-abbrev pub class_tested : Result ℤ Refusal → Tested
-class_tested (class-answer.Classes n) = Accepted
-class_tested (class-answer.Refused r) = Err r
-
-abbrev pub triplet_tested : Tested → Tested
-triplet_tested triplet-answer.Written = Accepted
-triplet_tested (triplet-answer.Refused r) = Err r
-
 -- ---- the rotations in the basis of the grid
 module _ (list : List ℤ) (time : Bool) where
   abbrev answer : Result ℕ Refusal
   answer = reciprocal_answer list time 432
 
-  module _ {n : ℕ} {a : Result ℕ Refusal} (e : a ≡ answer) (f : a ≡ group-answer.Rotations n) where
-    call : point_group_answer list time true 432 ≡ group-answer.Rotations n
+  module _ {n : ℕ} {a : Result ℕ Refusal} (e : a ≡ answer) (f : a ≡ Ok n) where
+    call : point_group_answer list time true 432 ≡ Ok n
     call = same_answer list time 432 (sym e ∙ f)
 
     pub few-rotations : n * 9 ≤ 432
@@ -83,13 +71,13 @@ module _ (list : List ℤ) (time : Bool) where
       lent : (take (n * 9 - 0) g ≡ group list time) × (length (take (n * 9 - 0) out) ≡ length (group list time))
       lent = (told-group k, front_length (n * 9) out (subst (λ m. n * 9 ≤ m) (sym room) few-rotations) ∙ sym told-length)
 
-      pub turned-tested : {t : Tested} → t ≡ transform_answer (take (n * 9 - 0) g) d q (length (take (n * 9 - 0) out)) → transform_tested t ≡ rotation_tests list time d q
+      pub turned-tested : {t : Tested} → t ≡ transform_answer (take (n * 9 - 0) g) d q (length (take (n * 9 - 0) out)) → without_value t ≡ rotation_tests list time d q
       unfolding rotation_tests transform_answer
       turned-tested h =
-          ap transform_tested (h ∙ ap₂ (λ l m. transform_answer l d q m) lent.0 lent.1) ∙ again (transform_tests (group list time) d q (length (group list time)))
+          ap without_value (h ∙ ap₂ (λ l m. transform_answer l d q m) lent.0 lent.1) ∙ again (transform_tests (group list time) d q (length (group list time)))
           ∙ sym (ap (λ t. after t (transform_tests (group list time) d q (length (group list time)))) (tests-accepted list time 432 (sym e ∙ f)))
         where
-          again : (t : Tested) → transform_tested (transform.answer_for t) ≡ t
+          again : (t : Tested) → without_value t ≡ t
           again (Ok _) = refl
           again (Err r) = refl
 
@@ -98,27 +86,27 @@ module _ (list : List ℤ) (time : Bool) where
       turned-list {x} h m rest = take_at x rest (n * 9) (m ∙ lent.1 ∙ told-length) ∙ h ∙ ap₂ (λ l m. transform_written l d q m) lent.0 lent.1
 
   module _ (d : List ℤ) (q : List (List ℤ)) where
-    pub turned-refused : {r : Refusal} {a : Result ℕ Refusal} → a ≡ answer → a ≡ group-answer.Refused r → Err r ≡ rotation_tests list time d q
+    pub turned-refused : {r : Refusal} {a : Result ℕ Refusal} → a ≡ answer → a ≡ Err r → Err r ≡ rotation_tests list time d q
     unfolding rotation_tests
     turned-refused e f = sym (ap (λ t. after t (transform_tests (group list time) d q (length (group list time)))) (tests-refused list time 432 (sym f ∙ e)))
 
 -- ---- images; a signed number is handed on as its bits, which stand for it
 module _ (d : List ℤ) (q : List (List ℤ)) (ps : List ℤ) (lattice : List (List Float)) (t : ℤ) (a b c : ℕ) where
   pub images-built : {u : ℤ} {r : Result Lengths Refusal} {x y z : List ℤ} {v : Tested} → u ≡ t → r ≡ bz_answer d q ps lattice u a b c → x ≡ addresses_written d q ps lattice u a b c → y ≡ map_written d q ps lattice u a b c → z ≡ grg_written d q ps lattice u a b c
-      → v ≡ images_tested r
-      → (v ≡ images_tested (bz_answer d q ps lattice t a b c)) × ((x ≡ addresses_written d q ps lattice t a b c) × ((y ≡ map_written d q ps lattice t a b c) × (z ≡ grg_written d q ps lattice t a b c)))
+      → v ≡ without_value r
+      → (v ≡ without_value (bz_answer d q ps lattice t a b c)) × ((x ≡ addresses_written d q ps lattice t a b c) × ((y ≡ map_written d q ps lattice t a b c) × (z ≡ grg_written d q ps lattice t a b c)))
   images-built e er ex ey ez ev = (
-    ev ∙ ap images_tested (er ∙ ap (λ u. bz_answer d q ps lattice u a b c) e),
+    ev ∙ ap without_value (er ∙ ap (λ u. bz_answer d q ps lattice u a b c) e),
     (ex ∙ ap (λ u. addresses_written d q ps lattice u a b c) e, (ey ∙ ap (λ u. map_written d q ps lattice u a b c) e, ez ∙ ap (λ u. grg_written d q ps lattice u a b c) e)),
   )
 
 -- ---- classes, in the front of two outputs
 module _ (q0 : ℤ) (d rotations : List ℤ) (time swappable : Bool) (n : ℕ) (classes points : List ℤ) (hc : n ≤ length classes) (hp : n ≤ length points) where
-  class-tested : class_tested (ir_triplets_answer q0 d rotations time swappable n n) ≡ triplet_tests q0 d rotations time n n
+  class-tested : without_value (ir_triplets_answer q0 d rotations time swappable n n) ≡ triplet_tests q0 d rotations time n n
   unfolding ir_triplets_answer
   class-tested = again (triplet_tests q0 d rotations time n n) _
     where
-      again : (t : Tested) (k : ℕ) → class_tested (class.answer_for t k) ≡ t
+      again : (t : Tested) (k : ℕ) → without_value (class.answer_for t k) ≡ t
       again (Ok _) k = refl
       again (Err r) k = refl
 
@@ -126,22 +114,22 @@ module _ (q0 : ℤ) (d rotations : List ℤ) (time swappable : Bool) (n : ℕ) (
       → r ≡ ir_triplets_answer i d rotations time swappable (length (take (n - 0) classes)) (length (take (n - 0) points))
       → x ≡ map_triplets_written i d rotations time swappable (length (take (n - 0) classes)) (length (take (n - 0) points))
       → y ≡ map_qwritten i d rotations time swappable (length (take (n - 0) classes)) (length (take (n - 0) points))
-      → v ≡ class_tested r
+      → v ≡ without_value r
       → (v ≡ triplet_tests q0 d rotations time n n) × ((x ++ drop (n - 0) classes ≡ map_triplets_written q0 d rotations time swappable n n ++ drop n classes) × (y ++ drop (n - 0) points ≡ map_qwritten q0 d rotations time swappable n n ++ drop n points))
   classes-numbered e er ex ey ev =
       let m = front_length n classes hc in
       let k = front_length n points hp in (
-        ev ∙ ap class_tested (er ∙ (λ j. ir_triplets_answer (e j) d rotations time swappable (m j) (k j))) ∙ class-tested,
+        ev ∙ ap without_value (er ∙ (λ j. ir_triplets_answer (e j) d rotations time swappable (m j) (k j))) ∙ class-tested,
         (ap₂ ◌++◌ (ex ∙ (λ j. map_triplets_written (e j) d rotations time swappable (m j) (k j))) (front-drop n classes), ap₂ ◌++◌ (ey ∙ (λ j. map_qwritten (e j) d rotations time swappable (m j) (k j))) (front-drop n points)),
       )
 
 -- ---- triplets, in the front of three outputs
 module _ (start : ℤ) (addresses map classes d : List ℤ) (q : List (List ℤ)) (lattice : List (List Float)) (type : ℤ) (triplets left : List ℤ) (lengths : List Float) (k : ℕ) where
-  triplet-tested : triplet_tested (bz_triplets_answer start addresses map classes d q lattice type (k * 3) k k) ≡ bz_triplet_tests start addresses map classes d q lattice (grid_type_of type) (k * 3) k k
+  triplet-tested : without_value (bz_triplets_answer start addresses map classes d q lattice type (k * 3) k k) ≡ bz_triplet_tests start addresses map classes d q lattice (grid_type_of type) (k * 3) k k
   unfolding bz_triplets_answer
   triplet-tested = again (bz_triplet_tests start addresses map classes d q lattice (grid_type_of type) (k * 3) k k)
     where
-      again : (t : Tested) → triplet_tested (triplet.answer_for t) ≡ t
+      again : (t : Tested) → without_value (triplet.answer_for t) ≡ t
       again (Ok _) = refl
       again (Err r) = refl
 
@@ -161,7 +149,7 @@ module _ (start : ℤ) (addresses map classes d : List ℤ) (q : List (List ℤ)
       → x ≡ triplets_written i addresses map classes d q lattice u a b c
       → y ≡ left_written i addresses map classes d q lattice u a b c
       → z ≡ left_length_written i addresses map classes d q lattice u a b c
-      → v ≡ triplet_tested r
+      → v ≡ without_value r
       → Chosen start addresses map classes d q lattice type v triplets left lengths (x ++ drop (k * 3 - 0) triplets) (y ++ drop (k - 0) left) (z ++ drop (k - 0) lengths)
   triplets-chosen own few room ei eu er ex ey ez ev =
       let ea = front_length (k * 3) triplets (omega arith) in
@@ -170,7 +158,7 @@ module _ (start : ℤ) (addresses map classes d : List ℤ) (q : List (List ℤ)
       record {
         k = k;
         own = own;
-        tested = ev ∙ ap triplet_tested (er ∙ (λ j. bz_triplets_answer (ei j) addresses map classes d q lattice (eu j) (ea j) (eb j) (ec j))) ∙ triplet-tested;
+        tested = ev ∙ ap without_value (er ∙ (λ j. bz_triplets_answer (ei j) addresses map classes d q lattice (eu j) (ea j) (eb j) (ec j))) ∙ triplet-tested;
         written = ap₂ ◌++◌ (ex ∙ (λ j. triplets_written (ei j) addresses map classes d q lattice (eu j) (ea j) (eb j) (ec j))) (front-drop (k * 3) triplets);
         marked = ap₂ ◌++◌ (ey ∙ (λ j. left_written (ei j) addresses map classes d q lattice (eu j) (ea j) (eb j) (ec j))) (front-drop k left);
         measured = ap₂ ◌++◌ (ez ∙ (λ j. left_length_written (ei j) addresses map classes d q lattice (eu j) (ea j) (eb j) (ec j))) (front-drop k lengths);

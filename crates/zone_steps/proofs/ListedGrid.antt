@@ -11,7 +11,7 @@ use lib.ListN.{length, take}
 use borrow.Author.Tests.{le-leb, lt-leb}
 use Rattle.std.specs.Prelude.{Result, Ok, Err}
 use Rattle.common.specs.Limits.{diagonal_fits}
-use Rattle.common.specs.Tested.{require, after, Tested, Accepted}
+use Rattle.common.specs.Tested.{require, after, Tested, Accepted, without_value}
 use Rattle.common.specs.declared.Refusal.{Refusal}
 use Rattle.common.specs.declared.Refusal.TheVariants.{WrongLength}
 use Rattle.common.proofs.Tests.{both-accepted}
@@ -20,8 +20,8 @@ use Rattle.transform_rotations.specs.TransformRotations.{transform_tests}
 use Rattle.transform_rotations.proofs.Accepted.{input-accepted}
 use Rattle.transform_rotations.proofs.ExactCall.{tests-input}
 use Rattle.bzgrid.specs.BzGridAddresses.{bz_answer, addresses_written, map_written, grg_written}
-use Rattle.zone_steps.specs.Steps.{Rooms, Grid, Lists, group, transformed, rotation_tests, images_tested, points_of, list_tests, lists_of, image_addresses, image_map, image_grg, image_tests, grid_tests, grid_lists}
-use Rattle.zone_steps.specs.StepsView.{grid, turned_tested, TurnedInto, Listed}
+use Rattle.zone_steps.specs.Steps.{Rooms, Grid, Lists, group, transformed, rotation_tests, points_of, list_tests, lists_of, image_addresses, image_map, image_grg, image_tests, grid_tests, grid_lists}
+use Rattle.zone_steps.specs.StepsView.{grid, TurnedInto, Listed}
 
 module _ (g : Grid) (shift : List ℤ) (r : Rooms) where
   abbrev rest : Tested
@@ -37,10 +37,10 @@ module _ (g : Grid) (shift : List ℤ) (r : Rooms) where
     with-room = sym (ap (λ b. require b WrongLength rest) (le-leb (points_of g) r.classes (omega arith)))
 
     -- images by a number u that stands for the type
-    module _ {u : ℤ} (eu : u ≡ g.type) {t : Tested} (et : t ≡ images_tested (bz_answer g.d g.q shift g.lattice u r.addresses r.map r.grg)) where
+    module _ {u : ℤ} (eu : u ≡ g.type) {t : Tested} (et : t ≡ without_value (bz_answer g.d g.q shift g.lattice u r.addresses r.map r.grg)) where
       image-tests : t ≡ image_tests g shift r
       unfolding image_tests
-      image-tests = et ∙ ap (λ u. images_tested (bz_answer g.d g.q shift g.lattice u r.addresses r.map r.grg)) eu
+      image-tests = et ∙ ap (λ u. without_value (bz_answer g.d g.q shift g.lattice u r.addresses r.map r.grg)) eu
 
       pub images-refused : {x : Refusal} → t ≡ Err x → Err x ≡ grid_tests g shift r
       images-refused f = sym (ap (λ t. after t (list_tests g (image_addresses g shift r) (image_map g shift r))) (sym image-tests ∙ f)) ∙ with-room
@@ -73,13 +73,13 @@ module _ (list : List ℤ) (time : Bool) (d : List ℤ) (q : List (List ℤ)) wh
       let l = group list time in
       (input-accepted l d q (length l) (tests-input l d q (length l) (both-accepted (reciprocal_tests list time 432) (transform_tests l d q (length l)) e).1)).grid
 
-  module _ {t : Result ℕ Refusal} (et : turned_tested t ≡ rotation_tests list time d q) where
+  module _ {t : Result ℕ Refusal} (et : without_value t ≡ rotation_tests list time d q) where
     pub basis-refused : {x : Refusal} (next : Tested) → t ≡ Err x → Err x ≡ after (rotation_tests list time d q) next
-    basis-refused next f = sym (ap (λ t. after t next) (sym et ∙ ap turned_tested f))
+    basis-refused next f = sym (ap (λ t. after t next) (sym et ∙ ap without_value f))
 
     module _ {n : ℕ} (f : t ≡ Ok n) where
       pub basis-fits : T (diagonal_fits d)
-      basis-fits = rotations-fit (sym et ∙ ap turned_tested f)
+      basis-fits = rotations-fit (sym et ∙ ap without_value f)
 
       module _ (out : List ℤ) (i : TurnedInto (transformed list time d q) out t) where
         into : (n * 9 ≤ 432) × (take (n * 9) out ≡ transformed list time d q)
@@ -106,7 +106,7 @@ module _ (list : List ℤ) (time : Bool) (d : List ℤ) (q : List (List ℤ)) wh
           same-grid = λ j. grid d q (turned-are j) lattice time swappable (eu j) (ep j)
 
           pub basis-tested : {v : Tested} → v ≡ grid_tests given shift r → v ≡ after (rotation_tests list time d q) (grid_tests meant shift r)
-          basis-tested ev = ev ∙ ap (λ g. grid_tests g shift r) same-grid ∙ sym (ap (λ t. after t (grid_tests meant shift r)) (sym et ∙ ap turned_tested f))
+          basis-tested ev = ev ∙ ap (λ g. grid_tests g shift r) same-grid ∙ sym (ap (λ t. after t (grid_tests meant shift r)) (sym et ∙ ap without_value f))
 
           pub basis-listed : {a b c : List ℤ} {l : Lists} → Listed given shift r a b c l → Listed meant shift r a b c l
           basis-listed {a} {b} {c} {l} k = subst (λ g. Listed g shift r a b c l) same-grid k

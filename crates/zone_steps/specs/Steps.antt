@@ -6,7 +6,7 @@ use Rattle.std.specs.Float.Ieee.{of_int}
 use Rattle.bzgrid.specs.declared.Lengths.{Lengths}
 use Rattle.common.specs.declared.Refusal.{Refusal}
 use Rattle.common.specs.Array.{sides_of, matrices, flat}
-use Rattle.common.specs.Tested.{require, after, Tested, Accepted}
+use Rattle.common.specs.Tested.{require, after, Tested, Accepted, without_value}
 use Rattle.common.specs.declared.Refusal.TheVariants.{WrongLength}
 use Rattle.grgrid.specs.Grid.{size}
 use Rattle.grgrid.specs.Own.{own_places}
@@ -63,10 +63,6 @@ pub record Lists : Type 0 where
   pub triplets : List ℤ
   pub left : List ℤ
   pub lengths : List Float
-
-abbrev pub images_tested : Result Lengths Refusal → Tested
-images_tested (Ok l) = Accepted
-images_tested (Err r) = Err r
 
 -- type 2 starts from the first image of q0
 abbrev pub start_of : GridType → List ℤ → ℤ → ℤ
@@ -152,7 +148,7 @@ module _ (g : Grid) where
 
     unfoldable pub image_tests : Tested
     unfolding bz_answer
-    image_tests = images_tested (bz_answer g.d g.q shift g.lattice g.type r.addresses r.map r.grg)
+    image_tests = without_value (bz_answer g.d g.q shift g.lattice g.type r.addresses r.map r.grg)
 
     -- the points must find room
     unfoldable pub grid_tests : Tested

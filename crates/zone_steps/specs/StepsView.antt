@@ -1,7 +1,7 @@
 -- What the steps of the chain answer and leave, as their contracts say it.
 use Rattle.std.specs.Prelude.{◌≡◌, Bool, List, ◌++◌, ℕ, ◌*◌, ◌≤◌, ℤ, Float, length, take, drop, Result, Ok, Err}
 use Rattle.common.specs.declared.Refusal.{Refusal}
-use Rattle.common.specs.Tested.{Tested, Accepted}
+use Rattle.common.specs.Tested.{Tested, Accepted, without_value}
 use Rattle.grgrid.specs.Own.{own_places}
 use Rattle.bzgrid.specs.BzGridAddresses.{grid_type_of}
 use Rattle.bz_triplets.specs.BzTriplets.{bz_triplet_tests, triplets_written, left_written, left_length_written}
@@ -36,10 +36,6 @@ rooms addresses map grg classes points triplets left lengths = record {
 }
 
 -- ---- the rotations
-abbrev pub turned_tested : Result ℕ Refusal → Tested
-turned_tested (Ok n) = Accepted
-turned_tested (Err r) = Err r
-
 -- the list of n rotations stands in the front
 abbrev pub TurnedInto : (list out : List ℤ) → Result ℕ Refusal → Type 0
 TurnedInto list out (Ok n) = (n * 9 ≤ 432) × (take (n * 9) out ≡ list)

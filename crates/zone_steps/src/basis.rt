@@ -1,7 +1,8 @@
 // The rotations in the basis of the grid: the reciprocal rotations of a list that is a group, transformed.
 ghost use Rattle.std.specs.Prelude.{◌≡◌, ◌*◌, length};
+ghost use Rattle.common.specs.Tested.{without_value};
 ghost use Rattle.zone_steps.specs.Steps.{group, transformed, rotation_tests};
-ghost use Rattle.zone_steps.specs.StepsView.{turned_tested, TurnedInto};
+ghost use Rattle.zone_steps.specs.StepsView.{TurnedInto};
 
 use common::Refusal;
 
@@ -14,22 +15,11 @@ pub fn turn_rotations(
     out: &mut [i64],
 ) -> Result<usize, Refusal>
     requires { length out.old ≡ 432 }
-    ensures result_value { turned_tested result ≡ rotation_tests rotations.now is_time_reversal d q }
+    ensures result_value { without_value result ≡ rotation_tests rotations.now is_time_reversal d q }
     ensures turned_into { TurnedInto (transformed rotations.now is_time_reversal d q) out.new result }
 {
     let mut group = [0; 432];
-    match rotation_group::reciprocal_group(rotations, is_time_reversal, &mut group) {
-        Ok(n) => {
-            match transform_rotations::transform_rotations(
-                &group[0..n * 9],
-                d,
-                q,
-                &mut out[0..n * 9],
-            ) {
-                Ok(()) => Ok(n),
-                Err(r) => Err(r),
-            }
-        }
-        Err(r) => Err(r),
-    }
+    let n = rotation_group::reciprocal_group(rotations, is_time_reversal, &mut group)?;
+    transform_rotations::transform_rotations(&group[0..n * 9], d, q, &mut out[0..n * 9])?;
+    Ok(n)
 }

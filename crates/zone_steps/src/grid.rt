@@ -3,12 +3,12 @@ ghost use Rattle.std.specs.Prelude.{◌≡◌, ◌++◌, ◌*◌, ◌≤◌, T, 
 ghost use Rattle.std.specs.Float.{binary64};
 ghost use Rattle.std.specs.Float.Ieee.{of_int};
 ghost use Rattle.std.specs.Int.Signed.{non_neg};
-ghost use Rattle.common.specs.Tested.{Accepted};
+ghost use Rattle.common.specs.Tested.{Accepted, without_value};
 ghost use Rattle.common.specs.Array.{sides_of};
 ghost use Rattle.grgrid.specs.Grid.{size};
 ghost use Rattle.bzgrid.specs.BzGridAddresses.{bz_answer, addresses_written, map_written, grg_written};
 ghost use Rattle.triplet_grid.specs.IrTriplets.{triplet_tests, map_triplets_written, map_qwritten};
-ghost use Rattle.zone_steps.specs.Steps.{images_tested, start_of, list_tests, lists_of};
+ghost use Rattle.zone_steps.specs.Steps.{start_of, list_tests, lists_of};
 ghost use Rattle.zone_steps.specs.StepsView.{grid, lists, Roomy, Chosen};
 
 use bzgrid::GridType;
@@ -24,15 +24,13 @@ pub fn build_images(
     map: &mut [i64],
     grg: &mut [i64],
 ) -> Result<(), Refusal>
-    ensures value { result ≡ images_tested (bz_answer d q ps lattice bz_grid_type (length addresses.old) (length map.old) (length grg.old)) }
+    ensures value { result ≡ without_value (bz_answer d q ps lattice bz_grid_type (length addresses.old) (length map.old) (length grg.old)) }
     ensures addresses_after { addresses.new ≡ addresses_written d q ps lattice bz_grid_type (length addresses.old) (length map.old) (length grg.old) }
     ensures map_after { map.new ≡ map_written d q ps lattice bz_grid_type (length addresses.old) (length map.old) (length grg.old) }
     ensures grg_after { grg.new ≡ grg_written d q ps lattice bz_grid_type (length addresses.old) (length map.old) (length grg.old) }
 {
-    match bzgrid::bz_grid_addresses(d, q, ps, lattice, bz_grid_type, addresses, map, grg) {
-        Ok(_) => Ok(()),
-        Err(r) => Err(r),
-    }
+    bzgrid::bz_grid_addresses(d, q, ps, lattice, bz_grid_type, addresses, map, grg)?;
+    Ok(())
 }
 
 // In the first n places of the two maps.
@@ -51,7 +49,7 @@ fn number_classes(
     ensures classes_after { classes.new ≡ map_triplets_written q0 d rotations.now is_time_reversal swappable n n ++ drop n classes.old }
     ensures points_after { points.new ≡ map_qwritten q0 d rotations.now is_time_reversal swappable n n ++ drop n points.old }
 {
-    match triplet_grid::ir_triplets_at_q(
+    triplet_grid::ir_triplets_at_q(
         q0,
         d,
         rotations,
@@ -59,10 +57,8 @@ fn number_classes(
         swappable,
         &mut classes[0..n],
         &mut points[0..n],
-    ) {
-        Ok(_) => Ok(()),
-        Err(r) => Err(r),
-    }
+    )?;
+    Ok(())
 }
 
 // Type 2 starts from the first image of q0.
@@ -101,7 +97,7 @@ fn choose_triplets(
     ensures { Chosen start addresses.now map.now classes.now d q lattice bz_grid_type result triplets.old left.old lengths.old triplets.new left.new lengths.new }
 {
     let k = grgrid::own_places(classes);
-    match bz_triplets::bz_triplets_at_q(
+    bz_triplets::bz_triplets_at_q(
         start,
         addresses,
         map,
@@ -113,10 +109,7 @@ fn choose_triplets(
         &mut triplets[0..k * 3],
         &mut left[0..k],
         &mut lengths[0..k],
-    ) {
-        Ok(()) => Ok(()),
-        Err(r) => Err(r),
-    }
+    )
 }
 
 // -1 in every place.
@@ -171,7 +164,7 @@ pub fn list_classes(
         &mut *left,
         &mut *lengths,
     );
-    if let Err(r) = number_classes(
+    number_classes(
         q0,
         d,
         rotations,
@@ -180,9 +173,7 @@ pub fn list_classes(
         n,
         &mut *classes,
         &mut *points,
-    ) {
-        return Err(r);
-    }
+    )?;
     let start = start_of(bzgrid::grid_type(bz_grid_type), map, q0);
     choose_triplets(
         start,

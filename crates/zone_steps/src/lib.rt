@@ -5,6 +5,5 @@ mod basis;
 mod grid;
 mod tables;
 
-pub use basis::Turned;
 pub use grid::wipe_lists;
 pub use tables::{list_in_basis, wipe_tables};

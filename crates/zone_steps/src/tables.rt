@@ -5,7 +5,6 @@ ghost use Rattle.common.specs.Tested.{after, Accepted};
 ghost use Rattle.zone_steps.specs.Steps.{transformed, rotation_tests, grid_tests};
 ghost use Rattle.zone_steps.specs.StepsView.{grid, rooms, lists, Agreed, Listed};
 
-use crate::basis::Turned;
 use crate::{basis, grid};
 use common::Refusal;
 
@@ -49,7 +48,7 @@ fn list_grid(
     if classes.len() < n {
         return Err(Refusal::WrongLength);
     }
-    if let Err(r) = grid::build_images(
+    grid::build_images(
         d,
         q,
         ps,
@@ -58,9 +57,7 @@ fn list_grid(
         &mut *addresses,
         &mut *map,
         &mut *grg,
-    ) {
-        return Err(r);
-    }
+    )?;
     grid::list_classes(
         q0,
         d,
@@ -106,26 +103,24 @@ pub fn list_in_basis(
     ensures listed { result ≡ Accepted → Listed (grid d q (transformed rotations.now is_time_reversal d q) lattice is_time_reversal swappable bz_grid_type q0) ps (rooms (length addresses.old) (length map.old) (length grg.old) (length classes.old) (length points.old) (length triplets.old) (length left.old) (length lengths.old)) addresses.new map.new grg.new (lists classes.new points.new triplets.new left.new lengths.new) }
 {
     let mut turned = [0; 432];
-    match basis::turn_rotations(rotations, is_time_reversal, d, q, &mut turned) {
-        Ok(n) => list_grid(
-            d,
-            q,
-            &turned[0..n * 9],
-            lattice,
-            ps,
-            is_time_reversal,
-            swappable,
-            bz_grid_type,
-            q0,
-            addresses,
-            map,
-            grg,
-            classes,
-            points,
-            triplets,
-            left,
-            lengths,
-        ),
-        Err(r) => Err(r),
-    }
+    let n = basis::turn_rotations(rotations, is_time_reversal, d, q, &mut turned)?;
+    list_grid(
+        d,
+        q,
+        &turned[0..n * 9],
+        lattice,
+        ps,
+        is_time_reversal,
+        swappable,
+        bz_grid_type,
+        q0,
+        addresses,
+        map,
+        grg,
+        classes,
+        points,
+        triplets,
+        left,
+        lengths,
+    )
 }

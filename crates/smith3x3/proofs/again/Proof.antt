@@ -39,21 +39,21 @@ enum-known-t c = search rules
 refuse-requires : tie.Need-refuse-requires
 refuse-requires c κs = search rules
 
-returns : tie.Need-returns-in-Accepted
+returns : tie.Need-returns-in-Ok
 returns c =
     let y = c.before.before.before.before.before in
     let a = y.args in
     let p = matrix_at a.p 0 in
     let q = matrix_at a.q 0 in
     joined c ∙ ap (λ v. written (multiplied (vector_of v.d_diag) p q (matrix_at v.p 0) (matrix_at v.q 0))) (called y)
-    ∙ ap written (sym (second-accepted p q (snf3x3_unlimited (diagonal (vector_of a.d))) (ap (λ v. v.tested) (sym (called y)) ∙ c.in-Accepted.is)))
+    ∙ ap written (sym (second-accepted p q (snf3x3_unlimited (diagonal (vector_of a.d))) (ap (λ v. v.tested) (sym (called y)) ∙ c.in-Ok.is)))
 
-returns-2 : tie.Need-returns-in-Refused
+returns-2 : tie.Need-returns-in-Err
 returns-2 c =
     let y = c.before.before.before.before.before in
     let a = y.args in
     c.refuse.ensures
-    ∙ ap written (sym (second-refused (matrix_at a.p 0) (matrix_at a.q 0) (snf3x3_unlimited (diagonal (vector_of a.d))) (ap (λ v. v.tested) (sym (called y)) ∙ c.in-Refused.is)))
+    ∙ ap written (sym (second-refused (matrix_at a.p 0) (matrix_at a.q 0) (snf3x3_unlimited (diagonal (vector_of a.d))) (ap (λ v. v.tested) (sym (called y)) ∙ c.in-Err.is)))
 
 pub again_spec : {M : Type 1} → statement M
 again_spec =

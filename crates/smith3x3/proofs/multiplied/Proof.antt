@@ -3,9 +3,9 @@ use mathlib.Core.Bool.{Bool, ◌&&◌}
 use lib.IntN.{ℤ}
 use lib.ListN.{length}
 use borrow.Author.Tests.{not-true, not-false}
+use Rattle.common.specs.Tested.{Accepted}
 use Rattle.integer.specs.Checked.{pick}
 use Rattle.common.specs.declared.Refusal.TheVariants.{Overflow}
-use Rattle.common.specs.declared.Tested.TheVariants.{Accepted}
 use Rattle.common.specs.Matrix.{Vec, Mat, ◌·◌}
 use Rattle.common.specs.Array.{vector_of, matrix_at}
 use Rattle.common.specs.IntegerMatrix.{product_fits}

@@ -32,7 +32,7 @@ enum-known-t c = search rules
 refuse-requires : tie.Need-refuse-requires
 refuse-requires c κs = search rules
 
-returns : tie.Need-returns-in-Accepted
+returns : tie.Need-returns-in-Ok
 returns c =
     let y = c in
     let m = matrix_of y.args.a in
@@ -40,13 +40,13 @@ returns c =
     told m
     (c.again.ensures
     ∙ ap (λ v. written (joined (matrix_at v.p 0) (matrix_at v.q 0) (snf3x3_unlimited (diagonal (vector_of v.d_diag))))) y.snf3x3-s.ensures.0
-    ∙ ap written (sym (first-accepted w (ap (λ v. v.tested) (sym y.snf3x3-s.ensures.0) ∙ c.in-Accepted.is))))
+    ∙ ap written (sym (first-accepted w (ap (λ v. v.tested) (sym y.snf3x3-s.ensures.0) ∙ c.in-Ok.is))))
 
-returns-2 : tie.Need-returns-in-Refused
+returns-2 : tie.Need-returns-in-Err
 returns-2 c =
     let y = c in
     let m = matrix_of y.args.a in
-    told m (c.refuse.ensures ∙ ap written (sym (first-refused (snf3x3 m) (ap (λ v. v.tested) (sym y.snf3x3-s.ensures.0) ∙ c.in-Refused.is))))
+    told m (c.refuse.ensures ∙ ap written (sym (first-refused (snf3x3 m) (ap (λ v. v.tested) (sym y.snf3x3-s.ensures.0) ∙ c.in-Err.is))))
 
 pub smith3x3_spec : {M : Type 1} → statement M
 smith3x3_spec =

@@ -5,11 +5,11 @@ use lib.IntN.{pos}
 use lib.ListN.{get_or}
 use native.Mathlib.Omega.{arith}
 use mir.Syntax.{w64}
+use Rattle.common.specs.Tested.{Accepted}
 use Rattle.common.specs.Matrix.{entries}
 use Rattle.common.proofs.Nine.{nine-entries}
 use mir.Facts.{to_z_pos}
 use Rattle.integer.proofs.Fits.{held-is}
-use Rattle.common.specs.declared.Tested.TheVariants.{Accepted}
 use Rattle.snf_steps.specs.Result.{provided}
 use Rattle.snf_steps.specs.StagesView.{three_of}
 use Rattle.snf3x3.specs.Snf3x3.{answer}

@@ -4,7 +4,7 @@ use lib.IntN.{negsuc}
 use Rattle.std.specs.Prelude.{Err}
 use Rattle.common.specs.Tested.{output_of, Accepted}
 use Rattle.common.specs.Array.{vector_of, matrix_of, matrices}
-use Rattle.transform_rotations.specs.TransformRotations.{transform_tests, transformed_list, answer_for, transform_answer, transform_written}
+use Rattle.transform_rotations.specs.TransformRotations.{transform_tests, transformed_list, transform_answer, transform_written}
 use borrow.Author.Rules.{rules}
 use Rattle.transform_rotations.proofs.transform_rotations.Statement.{statement}
 use Rattle.transform_rotations.proofs.transform_rotations.Tie as tie
@@ -31,7 +31,7 @@ returns c =
     let s = t in
     let w = transformed_list (vector_of s.args.d) (matrix_of s.args.q) (matrices s.args.rotations.now) in
     let e : Accepted ≡ transform_tests s.args.rotations.now s.args.d s.args.q (length s.args.out.now) = sym c.in-Ok.is ∙ t.transform_tests.ensures.0 in
-    (ap answer_for e, t.transform_tests.ensures.1 c.in-Ok.is ∙ ap (λ t. output_of t (length s.args.out.now) w) e)
+    (e, t.transform_tests.ensures.1 c.in-Ok.is ∙ ap (λ t. output_of t (length s.args.out.now) w) e)
 
 same-length-2 : tie.Need-shape_of-out-in-Err
 same-length-2 c = search rules
@@ -47,7 +47,7 @@ returns-2 c =
     let left = t.transform_tests.new.out in
     let n : length left ≡ length s.args.out.now = search rules in
     let f : _ ≡ replicate (length left) (negsuc 0) = c.fill.ensures in
-    (ap answer_for e, f ∙ ap (λ n. replicate n (negsuc 0)) n ∙ ap (λ t. output_of t (length s.args.out.now) w) e)
+    (e, f ∙ ap (λ n. replicate n (negsuc 0)) n ∙ ap (λ t. output_of t (length s.args.out.now) w) e)
 
 pub transform_rotations_spec : {M : Type 1} → statement M
 transform_rotations_spec =

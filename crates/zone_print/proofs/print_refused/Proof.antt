@@ -3,7 +3,7 @@ use Prim.Native.Nat.{ℕ}
 use native.Mathlib.Omega.{arith}
 use lib.ListN.{length}
 use borrow.Author.Rules.{rules}
-use Rattle.std.specs.Prelude.{Some, None}
+use Rattle.std.specs.Prelude.{Option, Some, None}
 use Rattle.zone_print.proofs.JobText.{refusal-printed}
 use Rattle.zone_print.proofs.print_refused.Statement.{statement}
 use Rattle.zone_print.proofs.print_refused.Tie as tie
@@ -17,10 +17,10 @@ enum-known-n c = search rules
 enum_told : tie.Need-enum_told-1
 enum_told c = search rules
 
-not-printed : {n : ℕ} → None ≡ Some n → ⊥
+not-printed : {n : ℕ} → ◌≡◌ {A = Option ℕ} None (Some n) → ⊥
 not-printed e = let z : ◌≡◌ {A = ℕ} 0 1 = cc in omega arith
 
-same_bytes : {m n : ℕ} → Some m ≡ Some n → m ≡ n
+same_bytes : {m n : ℕ} → ◌≡◌ {A = Option ℕ} (Some m) (Some n) → m ≡ n
 same_bytes e = cc
 
 -- the array's length

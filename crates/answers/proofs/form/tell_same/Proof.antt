@@ -21,7 +21,7 @@ slice-set-of-told-2 c = search rules
 enum-known-answer : tie.Need-enum_known-answer
 enum-known-answer c = search rules
 
-slice-set-of-told-3 : tie.Need-slice_set_of-told-in-Err
+slice-set-of-told-3 : tie.Need-slice_set_of-told-in-Refused
 slice-set-of-told-3 c = search rules
 
 answer-requires : tie.Need-answer-requires
@@ -43,13 +43,13 @@ returns-2 c =
     let s = c in
     (sym (ap same_number c.in-Different.is), stored s.args.told.now s.requires _ ∙ sym (ap same_told c.in-Different.is))
 
-same-length-3 : tie.Need-shape_of-told-in-Err
+same-length-3 : tie.Need-shape_of-told-in-Refused
 same-length-3 c = search rules
 
-returns-3 : tie.Need-returns-in-Err
+returns-3 : tie.Need-returns-in-Refused
 returns-3 c =
     let s = c in
-    (held-is c.answer.result c.answer.type_inv ∙ c.answer.ensures ∙ sym (ap same_number c.in-Err.is), stored s.args.told.now s.requires _ ∙ sym (ap same_told c.in-Err.is))
+    (held-is c.answer.result c.answer.type_inv ∙ c.answer.ensures ∙ sym (ap same_number c.in-Refused.is), stored s.args.told.now s.requires _ ∙ sym (ap same_told c.in-Refused.is))
 
 pub tell_same_spec : {M : Type 1} → statement M
 tell_same_spec =

@@ -29,7 +29,7 @@ slice-set-from-i-2 c = search rules
 slice-set-from-fallback : tie.Need-bounds-told-1
 slice-set-from-fallback c = search rules
 
-enum-known-answer-3 : tie.Need-enum_known-answer-in-Err-1
+enum-known-answer-3 : tie.Need-enum_known-answer-in-Refused-1
 enum-known-answer-3 c = search rules
 
 fill-requires : tie.Need-fill-requires
@@ -54,13 +54,13 @@ returns-2 c =
     let s = c in
     (sym (ap rotated_number c.in-Fallback.is), stored-two s.args.told.now s.requires _ _ ∙ ap (λ z. z ∷ pos 1 ∷ []) (to_z-of_z {w = w64} {z = c.in-Fallback.i} (search rules)) ∙ sym (ap rotated_told c.in-Fallback.is))
 
-same-length-3 : tie.Need-shape_of-told-in-Err
+same-length-3 : tie.Need-shape_of-told-in-Refused
 same-length-3 c = search rules
 
-returns-3 : tie.Need-returns-in-Err
+returns-3 : tie.Need-returns-in-Refused
 returns-3 c =
     let s = c in
-    (held-is c.answer.result c.answer.type_inv ∙ c.answer.ensures ∙ sym (ap rotated_number c.in-Err.is), c.fill.ensures ∙ ap (λ n. replicate n (negsuc 0)) s.requires ∙ sym (ap rotated_told c.in-Err.is))
+    (held-is c.answer.result c.answer.type_inv ∙ c.answer.ensures ∙ sym (ap rotated_number c.in-Refused.is), c.fill.ensures ∙ ap (λ n. replicate n (negsuc 0)) s.requires ∙ sym (ap rotated_told c.in-Refused.is))
 
 pub tell_rotated_spec : {M : Type 1} → statement M
 tell_rotated_spec =

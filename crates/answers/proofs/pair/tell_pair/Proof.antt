@@ -30,7 +30,7 @@ cast-told-3 c = record { sfits = (subst PairFits c.in-Found.is c.requires.1).2 }
 slice-set-from-told-3 : tie.Need-bounds-told-2
 slice-set-from-told-3 c = search rules
 
-enum-known-answer-2 : tie.Need-enum_known-answer-in-Err-1
+enum-known-answer-2 : tie.Need-enum_known-answer-in-Refused-1
 enum-known-answer-2 c = search rules
 
 fill-requires : tie.Need-fill-requires
@@ -47,13 +47,13 @@ returns c =
     let s = c in
     (sym (ap pair_number c.in-Found.is), stored-three s.args.told.now s.requires.0 _ _ _ ∙ held-pair (subst PairFits c.in-Found.is s.requires.1) ∙ sym (ap pair_told c.in-Found.is))
 
-same-length-2 : tie.Need-shape_of-told-in-Err
+same-length-2 : tie.Need-shape_of-told-in-Refused
 same-length-2 c = search rules
 
-returns-2 : tie.Need-returns-in-Err
+returns-2 : tie.Need-returns-in-Refused
 returns-2 c =
     let s = c in
-    (held-is c.answer.result c.answer.type_inv ∙ c.answer.ensures ∙ sym (ap pair_number c.in-Err.is), c.fill.ensures ∙ ap (λ n. replicate n (negsuc 0)) s.requires.0 ∙ sym (ap pair_told c.in-Err.is))
+    (held-is c.answer.result c.answer.type_inv ∙ c.answer.ensures ∙ sym (ap pair_number c.in-Refused.is), c.fill.ensures ∙ ap (λ n. replicate n (negsuc 0)) s.requires.0 ∙ sym (ap pair_told c.in-Refused.is))
 
 pub tell_pair_spec : {M : Type 1} → statement M
 tell_pair_spec =

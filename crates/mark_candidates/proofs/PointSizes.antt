@@ -1,9 +1,9 @@
 -- Sizes of the scaled coordinates, so that no step leaves 64 bits.
 use mathlib.Core.List.{List}
-use Prim.Native.Nat.{ℕ, zero, suc, ◌*◌, ◌-◌, ◌/◌, ◌%◌, ◌<◌, ◌≤◌, zero-le}
-use native.Mathlib.Nat.{div-le_self, div-mul-le_self, mod-le, mod-lt, mul-le-mul, le_of_eq, le_trans}
+use Prim.Native.Nat.{ℕ, zero, suc, ◌*◌, ◌-◌, ◌/◌, ◌<◌, ◌≤◌, zero-le}
+use native.Mathlib.Nat.{div-le_self, mod-le, mul-le-mul, le_of_eq, le_trans}
 use native.Mathlib.Omega.{arith}
-use lib.Dec.{T, lit≤, lit<}
+use lib.Dec.{T, lit≤}
 use lib.IntN.{ℤ, pos, nat_abs, ◌+ℤ◌, ◌*ℤ◌}
 use lib.ListN.{get_or}
 use Rattle.integer.proofs.Size.{abs-mul}
@@ -18,8 +18,7 @@ use Rattle.common.proofs.Bounds.{p-sized, matrix-sizes}
 use Rattle.grgrid.specs.Grid.{size, address, double}
 use Rattle.grgrid.specs.Sides.{GridFits}
 use Rattle.grgrid.proofs.Sizes.{sized-items}
-use Rattle.mark_candidates.specs.ScaledCoordinates.{shares, scaled_by, scaled, rest, rests, position}
-use Rattle.mark_candidates.specs.Code.Numbered.{translation, candidate_at}
+use Rattle.mark_candidates.specs.ScaledCoordinates.{shares, scaled_by, scaled, rest, rests}
 use Rattle.mark_candidates.specs.Code.Table.{weights}
 use Rattle.mark_candidates.proofs.Rounding.{rest-size}
 
@@ -107,5 +106,3 @@ weights-small {v} h = record { each = at }
     at (suc (suc (suc (suc zero)))) = two 1 2
     at (suc (suc (suc (suc (suc zero))))) = one 2 2
     at (suc (suc (suc (suc (suc (suc n)))))) = zero-le
-
--- ---- the candidates

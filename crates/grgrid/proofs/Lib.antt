@@ -13,4 +13,5 @@ pub mod Lower
 pub mod Numbers
 pub mod Accepted
 pub mod Walk
+pub mod Refusing
 mod Examples

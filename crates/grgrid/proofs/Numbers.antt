@@ -13,7 +13,8 @@ use lib.Signed.{mag}
 use mir.Syntax.{w64}
 use mir.Val.{to_z, of_z}
 use mir.Facts.{to_z_pos}
-use borrow.Author.Tests.{lt-ltb, le-ltb, eq-eqb, ne_eqb}
+use borrow.Author.Tests.{eq-eqb, ne_eqb}
+use Rattle.std.specs.Prelude.{Option, None, Some}
 use Rattle.integer.proofs.Fits.{held-is}
 use Rattle.common.specs.Matrix.{Vec, Mat}
 use Rattle.grgrid.specs.Grid.{size, rotate}
@@ -22,39 +23,30 @@ use Rattle.grgrid.specs.Own.{is_place, own_places}
 use Rattle.grgrid.proofs.Pass.{pass-own}
 use Rattle.grgrid.proofs.Built.{length-build, written, written-more, written_read}
 
--- the number of p, which is carried to q
-abbrev number_by : List ℕ → ℕ → ℕ → ℕ
-number_by done p q = elim (ltb q p) [ true ↦ get_or done q 0 | false ↦ p ]
+-- the number of p by where it is carried lower
+abbrev number_by : List ℕ → ℕ → Option ℕ → ℕ
+number_by done p (Some q) = get_or done q 0
+number_by done p None = p
 
 number_is : (gs : List (ℕ → ℕ)) (p : ℕ) (done : List ℕ) → number gs p done ≡ number_by done p (first_lower gs p)
-number_is [] p done = ap (λ (t : Bool). elim t [ true ↦ get_or done p 0 | false ↦ p ]) (sym (le-ltb p p (le_refl p)))
-number_is (g ∷ gs) p done = go (ltb (g p) p) refl (number_is gs p done)
+number_is [] p done = refl
+number_is (g ∷ gs) p done = go (ltb (g p) p) (number_is gs p done)
   where
-    go : (t : Bool) → ltb (g p) p ≡ t → number gs p done ≡ number_by done p (first_lower gs p)
-        → elim t [ true ↦ get_or done (g p) 0 | false ↦ number gs p done ] ≡ number_by done p (elim t [ true ↦ g p | false ↦ first_lower gs p ])
-    go true e rest = ap (λ (t : Bool). elim t [ true ↦ get_or done (g p) 0 | false ↦ p ]) (sym e)
-    go false e rest = rest
-
-module _ (gs : List (ℕ → ℕ)) (p : ℕ) (done : List ℕ) {q : ℕ} (e : q ≡ first_lower gs p) where
-  by : number gs p done ≡ number_by done p q
-  by = number_is gs p done ∙ ap (number_by done p) (sym e)
-
-  pub number-lower : q < p → number gs p done ≡ get_or done q 0
-  number-lower h = by ∙ ap (λ (t : Bool). elim t [ true ↦ get_or done q 0 | false ↦ p ]) (lt-ltb q p h)
-
-  pub number-own : p ≤ q → number gs p done ≡ p
-  number-own h = by ∙ ap (λ (t : Bool). elim t [ true ↦ get_or done q 0 | false ↦ p ]) (le-ltb q p h)
+    go : (t : Bool) → number gs p done ≡ number_by done p (first_lower gs p)
+        → elim t [ true ↦ get_or done (g p) 0 | false ↦ number gs p done ] ≡ number_by done p (elim t [ true ↦ Some (g p) | false ↦ first_lower gs p ])
+    go true rest = refl
+    go false rest = rest
 
 -- ---- a turn of the pass: place p of the output, where the points below p have their numbers
-module _ (gs : List (ℕ → ℕ)) (p : ℕ) {q : ℕ} (e : q ≡ first_lower gs p) (before out : List ℤ) (inv : out ≡ written (number gs) pos p before) (h : p < length before) where
-  store : {z : ℤ} → z ≡ pos (number gs p (pass gs p)) → set out p z ≡ written (number gs) pos (p + 1) before
-  store r = written-more (number gs) pos p before inv h r
+module _ (gs : List (ℕ → ℕ)) (p : ℕ) (before out : List ℤ) (inv : out ≡ written (number gs) pos p before) (h : p < length before) where
+  store : {q : Option ℕ} → q ≡ first_lower gs p → {z : ℤ} → z ≡ pos (number_by (pass gs p) p q) → set out p z ≡ written (number gs) pos (p + 1) before
+  store e r = written-more (number gs) pos p before inv h (r ∙ ap pos (ap (number_by (pass gs p) p) e ∙ sym (number_is gs p (pass gs p))))
 
-  pub lower-stored : q < p → set out p (get_or out q (pos 0)) ≡ written (number gs) pos (p + 1) before
-  lower-stored l = store (ap (λ o. get_or o q (pos 0)) inv ∙ written_read (number gs) pos p q before 0 l ∙ ap pos (sym (number-lower gs p (pass gs p) e l)))
+  pub lower-stored : {q : ℕ} → Some q ≡ first_lower gs p → q < p → set out p (get_or out q (pos 0)) ≡ written (number gs) pos (p + 1) before
+  lower-stored {q} e l = store e (ap (λ o. get_or o q (pos 0)) inv ∙ written_read (number gs) pos p q before 0 l)
 
-  pub own-stored : p ≤ q → set out p (pos p) ≡ written (number gs) pos (p + 1) before
-  own-stored l = store (ap pos (sym (number-own gs p (pass gs p) e l)))
+  pub own-stored : None ≡ first_lower gs p → set out p (pos p) ≡ written (number gs) pos (p + 1) before
+  own-stored e = store e refl
 
 -- ---- a class map as a slice holds it
 pub numbers_of : (classes : List ℕ) {l : List ℤ} → l ≡ map pos classes → map nat_abs l ≡ classes

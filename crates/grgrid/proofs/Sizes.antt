@@ -1,7 +1,7 @@
 -- Sizes of addresses and rotations, so that no step of a rotation leaves 64 bits.
 use mathlib.Core.List.{List, []}
 use Prim.Native.Nat.{ℕ, zero, suc, ◌*◌, ◌-◌, ◌/◌, ◌<◌, ◌≤◌}
-use native.Mathlib.Nat.{div-le_self, mod-le}
+use native.Mathlib.Nat.{div-le_self, mod-le, mul-le-mul_left, mul-le-mul_right}
 use native.Mathlib.Omega.{arith}
 use lib.Dec.{T}
 use lib.IntN.{ℤ, pos, nat_abs, ◌+ℤ◌, ◌*ℤ◌}
@@ -12,7 +12,8 @@ use Rattle.common.proofs.Bounds.{entry-within}
 use Rattle.common.specs.Array.{vector_of, items, rows, matrix_at, Sized, SizedRows}
 use Rattle.common.specs.Limits.{all_within}
 use Rattle.grgrid.specs.Grid.{size, address, double}
-use Rattle.grgrid.specs.Sides.{GridFits}
+use Rattle.grgrid.specs.declared.grid.Grid.{Grid}
+use Rattle.grgrid.specs.Sides.{sides}
 
 -- an array of three
 pub sized-items : {k : ℕ} (v : Vec ℤ) → nat_abs v.x ≤ k → nat_abs v.y ≤ k → nat_abs v.z ≤ k → Sized k (items v)
@@ -24,14 +25,21 @@ sized-items {k} v x y z = record { each = at }
     at (suc (suc zero)) = z
     at (suc (suc (suc n))) = omega arith
 
-module _ (d : Vec ℕ) (f : GridFits d) (p : ℕ) (h : p < size d) where
-  pub address-sized : Sized 10000000000000 (items (address d p))
+-- ---- a grid
+pub grid-few : (g : Grid) → size (sides g) ≤ 134217728
+grid-few g = le_mul (g.x * g.y) g.z (le_mul g.x g.y g.fits.1 g.fits.3) g.fits.5
+  where
+    le_mul : {k : ℕ} (a b : ℕ) → a ≤ k → b ≤ 512 → a * b ≤ k * 512
+    le_mul {k} a b h l = omega (arith, mul-le-mul_right b h, mul-le-mul_left k l)
+
+module _ (g : Grid) (p : ℕ) (h : p < size (sides g)) where
+  pub address-sized : Sized 10000000000000 (items (address (sides g) p))
   unfolding address
   address-sized =
-      sized-items (address d p)
-      (omega (arith, mod-le p d.x, f.few))
-      (omega (arith, div-le_self (p - p / (d.x * d.y) * (d.x * d.y)) d.x, f.few))
-      (omega (arith, div-le_self p (d.x * d.y), f.few))
+      sized-items (address (sides g) p)
+      (omega (arith, mod-le p g.x, grid-few g))
+      (omega (arith, div-le_self (p - p / (g.x * g.y) * (g.x * g.y)) g.x, grid-few g))
+      (omega (arith, div-le_self p (g.x * g.y), grid-few g))
 
 -- a doubled address
 pub double-sized : {a s : List ℤ} → Sized 10000000000000 a → Sized 1 s → Sized 20000000000001 (items (double (vector_of a) (vector_of s)))
@@ -43,8 +51,8 @@ double-sized {a} {s} f g = sized-items (double (vector_of a) (vector_of s)) (at 
         twice : (x y : ℤ) → nat_abs x ≤ 10000000000000 → nat_abs y ≤ 1 → nat_abs (x *ℤ pos 2 +ℤ y) ≤ 20000000000001
         twice x y h k = plain-within {v = x *ℤ pos 2 +ℤ y} (search (plain, p_atom) depth 12) tt
 
-pub point-sized : (d : Vec ℕ) → GridFits d → {s : List ℤ} → Sized 1 s → (p : ℕ) → p < size d → Sized 20000000000001 (items (double (address d p) (vector_of s)))
-point-sized d f g p h = double-sized {a = items (address d p)} (address-sized d f p h) g
+pub point-sized : (g : Grid) {s : List ℤ} → Sized 1 s → (p : ℕ) → p < size (sides g) → Sized 20000000000001 (items (double (address (sides g) p) (vector_of s)))
+point-sized g t p h = double-sized {a = items (address (sides g) p)} (address-sized g p h) t
 
 -- ---- the entries of a list of rotations
 pub rotation-sized : (k : ℕ) (l : List ℤ) → T (all_within k l) → (n : ℕ) → SizedRows k (rows (matrix_at l n))

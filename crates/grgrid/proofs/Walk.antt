@@ -6,8 +6,8 @@ use native.Mathlib.Nat.{mul-le-mul_left, lt_of_not-le, le_of_eq}
 use native.Mathlib.Numerals.{add-one}
 use native.Mathlib.Omega.{arith}
 use lib.IntN.{ℤ, pos}
-use lib.ListN.{length, drop, length-append, length-drop, drop_of_length-le}
-use lib.Seq.{sets, sets-eq, take_at, drop-append-add, drop-drop}
+use lib.ListN.{length, drop, length-append, drop_of_length-le}
+use lib.Seq.{paste, take_at, drop-append-add, drop-drop}
 use Rattle.common.specs.Matrix.{Vec, map_vec}
 use Rattle.common.specs.Array.{items}
 use Rattle.grgrid.specs.Grid.{size, place, digits, address}
@@ -29,11 +29,10 @@ module _ (d : Vec ℕ) where
   listed p out = addresses d p ++ drop (p * 3) out
 
   pub listed_more : (p : ℕ) (before out : List ℤ) (r : Vec ℕ) → out ≡ listed p before → p * 3 + 3 ≤ length before → r ≡ digits d p
-      → sets out (p * 3) (items (map_vec pos r)) ≡ listed (p + 1) before
+      → paste out (p * 3) (items (map_vec pos r)) 3 ≡ listed (p + 1) before
   unfolding address
   listed_more p before out r inv h e =
-      ap₂ (λ l v. sets l (p * 3) v) inv (ap (λ v. items (map_vec pos v)) e)
-      ∙ sets-eq (items (address d p)) (listed p before) (p * 3) (omega (arith, length-append (addresses d p) (drop (p * 3) before), length-addresses p, length-drop (p * 3) before))
+      ap₂ (λ l v. paste l (p * 3) v 3) inv (ap (λ v. items (map_vec pos v)) e)
       ∙ ap₂ (λ a b. a ++ items (address d p) ++ b) (take_at (addresses d p) (drop (p * 3) before) (p * 3) (length-addresses p)) rest
       ∙ ap₂ (λ m n. addresses d m ++ drop n before) (sym (add-one p)) (three p)
     where

@@ -1,13 +1,13 @@
 -- The class map: point by point upwards, the first map that lands lower gives that point's number; else the point keeps its own.
-use Rattle.std.specs.Prelude.{◌≡◌, true, false, List, [], ◌∷◌, map, ℕ, zero, suc, ◌≤◌, ◌<◌, ltb, eqb, ℤ, pos, nat_abs, get_or}
+use Rattle.std.specs.Prelude.{◌≡◌, true, false, List, [], ◌∷◌, map, ℕ, zero, suc, ◌≤◌, ◌<◌, ltb, eqb, ℤ, pos, nat_abs, get_or, Option, None, Some}
 use Rattle.common.specs.Matrix.{Vec, Mat}
 use Rattle.grgrid.specs.Grid.{size, rotate}
 use Rattle.grgrid.specs.Build.{build}
 
--- where the first map that carries p lower carries it; p where there is none
-abbrev pub first_lower : List (ℕ → ℕ) → ℕ → ℕ
-first_lower [] p = p
-first_lower (g ∷ gs) p = elim (ltb (g p) p) [ true ↦ g p | false ↦ first_lower gs p ]
+-- where the first map that carries p lower carries it
+abbrev pub first_lower : List (ℕ → ℕ) → ℕ → Option ℕ
+first_lower [] p = None
+first_lower (g ∷ gs) p = elim (ltb (g p) p) [ true ↦ Some (g p) | false ↦ first_lower gs p ]
 
 -- the number of p, where `done` holds those of the points below it
 abbrev pub number : List (ℕ → ℕ) → ℕ → List ℕ → ℕ

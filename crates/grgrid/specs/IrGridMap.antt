@@ -1,5 +1,5 @@
 -- `ir_grid_map`: the tests, in document 01's order, the answer and the output, which has n places.
-use Rattle.std.specs.Prelude.{List, map, ℕ, eqb, ℤ, pos, Result, Ok, Err}
+use Rattle.std.specs.Prelude.{List, map, ℕ, eqb, ℤ, pos, Result}
 use Rattle.common.specs.declared.Refusal.{Refusal}
 use Rattle.common.specs.Array.{vector_of, sides_of, matrices}
 use Rattle.common.specs.Limits.{whole_matrices, diagonal_fits, shift_fits, rotations_fit}

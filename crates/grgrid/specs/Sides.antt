@@ -2,7 +2,7 @@
 use Rattle.std.specs.Prelude.{ℕ, ◌≤◌, ◌<◌}
 use Rattle.common.specs.Matrix.{Vec, side, Axis}
 use Rattle.grgrid.specs.Grid.{size}
-use Rattle.grgrid.specs.declared.Grid.{Grid}
+use Rattle.grgrid.specs.declared.grid.Grid.{Grid}
 use Rattle.grgrid.specs.declared.Remainders.{Remainders}
 
 abbrev pub sides : Grid → Vec ℕ

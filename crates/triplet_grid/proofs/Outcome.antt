@@ -1,23 +1,26 @@
 -- What accepted tests say of the input; and the answer and the outputs, once the tests are known.
-use mathlib.Core.Path.{◌≡◌, sym, ◌∙◌, ap}
-use mathlib.Core.Bool.{Bool, false, ◌&&◌}
+use mathlib.Core.Path.{◌≡◌, sym, ◌∙◌, ap, subst}
+use mathlib.Core.Bool.{Bool, true, false, ◌&&◌}
 use mathlib.Core.List.{List, map}
 use Prim.Native.Nat.{ℕ, ◌<◌}
 use lib.Dec.{T, eqb}
-use lib.IntN.{ℤ, pos, nat_abs}
+use lib.IntN.{ℤ, pos, negsuc, nat_abs}
+use lib.ListN.{replicate}
 use lib.Signed.{non_neg}
 use borrow.Author.Tests.{eqb-true}
-use Rattle.std.specs.Prelude.{Result, Err}
+use Rattle.std.specs.Prelude.{Result, Ok, Err}
+use Rattle.std.specs.Result.{is_err}
 use Rattle.integer.proofs.Test.{holds, and_l, and_r, is_true}
 use Rattle.common.specs.Array.{sides_of, matrices}
 use Rattle.common.specs.Limits.{whole_matrices, rotations_fit, diagonal_fits, point_fits}
-use Rattle.common.specs.Tested.{output_of, after, Tested, Accepted}
+use Rattle.common.specs.Tested.{giving, output_of, after, Tested, Accepted}
 use Rattle.common.specs.declared.Refusal.{Refusal}
 use Rattle.common.specs.declared.Refusal.TheVariants.{OutsideLimits, WrongLength}
-use Rattle.common.proofs.Tests.{passed}
+use Rattle.common.proofs.Tests.{passed, refused-not-ok, same-refusal}
 use Rattle.grgrid.specs.Grid.{size}
 use Rattle.grgrid.specs.ClassMap.{kept}
 use Rattle.grgrid.proofs.Accepted.{point-inside}
+pub use Rattle.grgrid.proofs.Refusing.{refused, onward}
 use Rattle.recip_rotations.specs.PointGroup.{room_tests}
 use Rattle.triplet_grid.specs.IrTriplets.{map_triplets_of, input_tests, triplet_tests, classes_at, answer_for, ir_triplets_answer, map_triplets_written, map_qwritten}
 
@@ -50,6 +53,11 @@ input-accepted q0 d rotations n m e =
       fit = holds g.0;
     }
 
+-- where the call's tests of the input passed, of q0 as a local holds it
+pub call-accepted : {held q0 : ℤ} {d rotations : List ℤ} {n m : ℕ} {t : Tested} → t ≡ input_tests held d rotations n m → held ≡ q0 → t ≡ Accepted
+    → (input_tests q0 d rotations n m ≡ Accepted) × InputAccepted q0 d rotations n m
+call-accepted {q0 = q0} {d} {rotations} {n} {m} e f g = let h = sym (e ∙ ap (λ q. input_tests q d rotations n m) f) ∙ g in (h, input-accepted q0 d rotations n m h)
+
 module _ (q0 : ℤ) (d rotations : List ℤ) (time : Bool) (n m : ℕ) where
   abbrev room : Tested
   room = room_tests (matrices rotations) time false
@@ -70,8 +78,30 @@ module _ (q0 : ℤ) (d rotations : List ℤ) (time : Bool) (n m : ℕ) where
     abbrev all : List ℕ
     all = map_triplets_of swappable (sides_of d) (nat_abs q0) here
 
-    pub outcome : {t : Tested} → t ≡ triplet_tests q0 d rotations time n m → {answer : Result ℤ Refusal} {triplets classes : List ℤ}
-        → answer ≡ answer_for t (kept all (size (sides_of d))) → triplets ≡ output_of t n (map pos all) → classes ≡ output_of t m (map pos here)
-        → (answer ≡ ir_triplets_answer q0 d rotations time swappable n m) × ((triplets ≡ map_triplets_written q0 d rotations time swappable n m) × (classes ≡ map_qwritten q0 d rotations time swappable n m))
-    unfolding ir_triplets_answer map_triplets_written map_qwritten
-    outcome e a b c = (a ∙ ap (λ t. answer_for t (kept all (size (sides_of d)))) e, (b ∙ ap (λ t. output_of t n (map pos all)) e, c ∙ ap (λ t. output_of t m (map pos here)) e))
+    module _ {t : Tested} (e : t ≡ triplet_tests q0 d rotations time n m) where
+      pub answer-is : answer_for t (kept all (size (sides_of d))) ≡ ir_triplets_answer q0 d rotations time swappable n m
+      unfolding ir_triplets_answer
+      answer-is = ap (λ t. answer_for t (kept all (size (sides_of d)))) e
+
+      pub triplets-are : output_of t n (map pos all) ≡ map_triplets_written q0 d rotations time swappable n m
+      unfolding map_triplets_written
+      triplets-are = ap (λ t. output_of t n (map pos all)) e
+
+      pub classes-are : output_of t m (map pos here) ≡ map_qwritten q0 d rotations time swappable n m
+      unfolding map_qwritten
+      classes-are = ap (λ t. output_of t m (map pos here)) e
+
+    -- an answer that is a refusal
+    pub answer-refused : {r : Refusal} → Err r ≡ ir_triplets_answer q0 d rotations time swappable n m → Err r ≡ triplet_tests q0 d rotations time n m
+    unfolding ir_triplets_answer
+    answer-refused e = sym (refusal (triplet_tests q0 d rotations time n m) (pos (kept all (size (sides_of d)))) e)
+      where
+        refusal : (t : Tested) (a : ℤ) {r : Refusal} → Err r ≡ giving t a → t ≡ Err r
+        refusal (Ok _) a e = absurd (refused-not-ok e)
+        refusal (Err s) a e = ap Err (sym (same-refusal e))
+
+    -- where the answer is one, both outputs hold -1 everywhere
+    pub refused-written : (answer : Result ℤ Refusal) → is_err answer ≡ true → answer ≡ ir_triplets_answer q0 d rotations time swappable n m
+        → (replicate n (negsuc 0) ≡ map_triplets_written q0 d rotations time swappable n m) × (replicate m (negsuc 0) ≡ map_qwritten q0 d rotations time swappable n m)
+    refused-written (Ok a) h e = absurd (subst T (sym h) tt)
+    refused-written (Err r) h e = let t = answer-refused e in (triplets-are t, classes-are t)

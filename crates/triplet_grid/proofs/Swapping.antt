@@ -1,16 +1,16 @@
 -- A class map as an output holds it; the lower of a number and its partner's; and a turn of the swapped pass.
 use mathlib.Core.Path.{◌≡◌, refl, sym, ◌∙◌, ap, ap₂, subst}
 use mathlib.Core.Logic.{⊎_elim}
-use mathlib.Core.Bool.{Bool, true, false}
+use mathlib.Core.Bool.{Bool, true, false, cond}
 use mathlib.Core.List.{List, map}
 use Prim.Native.Nat.{ℕ, ◌+◌, ◌<◌, ◌≤◌}
-use native.Mathlib.Nat.{eq-or-lt_of_le}
+use native.Mathlib.Nat.{eq-or-lt_of_le, le_antisymm}
 use native.Mathlib.Omega.{arith}
 use lib.IntN.{ℤ, pos, nat_abs}
 use lib.ListN.{length, get_or, set, length-map}
 use lib.Dec.{ltb}
-use lib.Signed.{lt_z}
-use borrow.Author.Tests.{ltb-true}
+use borrow.Author.Tests.{ltb-true, ltb-false}
+use Rattle.std.specs.Int.{int_min}
 use Rattle.integer.specs.Checked.{pick}
 use Rattle.common.specs.Matrix.{Vec, Mat, origin}
 use Rattle.common.specs.Array.{vector_of, items}
@@ -36,13 +36,15 @@ pub partner-is : (d : Vec ℕ) (q0 q1 : ℕ) {a : List ℤ} → a ≡ items (add
 unfolding partner
 partner-is d q0 q1 e = ap (λ a. index d (third (vector_of a) (address d q1))) e
 
--- ---- the lower of two, by the code's test
-module _ {v w : ℤ} (n q : ℕ) (e : v ≡ pos n) (f : w ≡ pos q) where
-  pub lower-is : lt_z v w ≡ true → v ≡ pos (lower_of n q)
-  lower-is t = e ∙ ap (λ t. pos (pick t n q)) (sym (ap₂ lt_z (sym e) (sym f) ∙ t))
-
-  pub own_is : lt_z v w ≡ false → w ≡ pos (lower_of n q)
-  own_is t = f ∙ ap (λ t. pos (pick t n q)) (sym (ap₂ lt_z (sym e) (sym f) ∙ t))
+-- ---- the lower of two
+pub lower-is : (a b : ℕ) → int_min (pos a) (pos b) ≡ pos (lower_of a b)
+lower-is a b = by (ltb b a) refl (ltb a b) refl
+  where
+    by : (s : Bool) → ltb b a ≡ s → (t : Bool) → ltb a b ≡ t → cond s (pos b) (pos a) ≡ pos (pick t a b)
+    by true h true k = let i = ltb-true b a h in let j = ltb-true a b k in absurd (omega arith)
+    by true h false k = refl
+    by false h true k = refl
+    by false h false k = ap pos (le_antisymm (ltb-false b a h) (ltb-false a b k))
 
 -- ---- a turn of the pass: place q1 of the output, where the points below q1 have their numbers
 module _ (d : Vec ℕ) (q0 : ℕ) {n : ℕ} {l : List ℤ} (c : Numbered n l) where

@@ -1,5 +1,5 @@
 -- `ir_triplets_at_q`: the tests, in document 01's order, the answer and the two outputs, which have n and m places.
-use Rattle.std.specs.Prelude.{Bool, true, false, ◌&&◌, List, map, ℕ, eqb, ltb, ℤ, pos, nat_abs, get_or, Result, Ok, Err}
+use Rattle.std.specs.Prelude.{Bool, true, false, ◌&&◌, List, map, ℕ, eqb, ltb, ℤ, pos, nat_abs, get_or, Result}
 use Rattle.common.specs.declared.Refusal.{Refusal}
 use Rattle.integer.specs.Checked.{pick}
 use Rattle.common.specs.Matrix.{Vec, Mat, origin}

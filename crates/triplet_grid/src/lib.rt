@@ -1,14 +1,13 @@
 // Irreducible triplet search on a generalized regular grid.
 #![tactic(auto)]
 
-ghost use Rattle.std.specs.Prelude.{◌≡◌, true, false, [], map, ◌+◌, ◌*◌, ◌≤◌, ◌<◌, T, pos, negsuc, nat_abs, length, get_or, replicate, Err};
-ghost use Rattle.std.proofs.Math.Seq.{paste};
+ghost use Rattle.std.specs.Prelude.{IfOk, ◌≡◌, true, false, map, ◌+◌, ◌*◌, ◌≤◌, ◌<◌, T, pos, nat_abs, length, get_or, Err};
 ghost use Rattle.common.specs.Tested.{Accepted};
-ghost use Rattle.common.specs.Matrix.{entries, ◌▹◌};
+ghost use Rattle.common.specs.Matrix.{◌▹◌};
 ghost use Rattle.common.specs.Array.{vector_of, matrices_from, matrix_of, items, matrices, Sized, SizedRows};
 ghost use Rattle.common.specs.Limits.{all_within, whole_matrices, rotations_fit};
 ghost use Rattle.grgrid.specs.Grid.{size, index, address};
-ghost use Rattle.grgrid.specs.Sides.{sides, GridFits};
+ghost use Rattle.grgrid.specs.Sides.{sides};
 ghost use Rattle.grgrid.specs.ClassMap.{kept, Numbered};
 ghost use Rattle.recip_rotations.specs.Flat.{laid};
 ghost use Rattle.recip_rotations.specs.PointGroup.{room_tests};
@@ -31,55 +30,37 @@ pub fn third(a: [i64; 3], b: [i64; 3]) -> [i64; 3]
 fn carried(rotation: [[i64; 3]; 3], address: [i64; 3], g: Grid) -> usize
     requires fact_1 { SizedRows 100000 rotation }
     requires fact_2 { Sized 10000000000000 address }
-    requires fact_3 { GridFits (sides g) }
     ensures { result ≡ index (sides g) (matrix_of rotation ▹ vector_of address) }
 {
     grgrid::grid_index_from_address(common::matvec_ii(rotation, address), g)
 }
 
-// Nine places from `at` on.
-fn store_matrix(out: &mut [i64], at: usize, m: [[i64; 3]; 3])
-    requires { at + 9 ≤ length out.old }
-    ensures { out.new ≡ paste out.old at (entries (matrix_of m) []) 9 }
-{
-    let f = integer_matrix::flat(m);
-    let mut k = 0;
-    while k < 9 {
-        out[at + k] = f[k];
-        k += 1;
-    }
-}
-
 // Moves the matrices that keep q0 to the front, and answers how many there are.
 fn keep_stabilizer(group: &mut [i64], count: usize, g: Grid, q0: usize) -> usize
-    requires fact_1 { GridFits (sides g) }
-    requires fact_2 { q0 < size (sides g) }
-    requires fact_3 { count * 9 ≤ length group.old }
-    requires fact_4 { T (all_within 100000 group.old) }
+    requires fact_1 { q0 < size (sides g) }
+    requires fact_2 { count * 9 ≤ length group.old }
+    requires fact_3 { T (all_within 100000 group.old) }
     ensures group_after { group.new ≡ laid (stabilizer (sides g) q0 (matrices_from group.old 0 count)) group.old }
     ensures value { result ≡ length (stabilizer (sides g) q0 (matrices_from group.old 0 count)) }
 {
     let address = grgrid::grid_address_from_index(q0, g);
     let mut kept = 0;
-    let mut n = 0;
-    while n < count {
+    for n in 0..count {
         let m = common::matrix_at(group, n);
         if carried(m, address, g) == q0 {
-            store_matrix(&mut *group, kept * 9, m);
+            group[kept * 9..kept * 9 + 9].copy_from_slice(&integer_matrix::flat(m));
             kept += 1;
         }
-        n += 1;
     }
     kept
 }
 
 // The classes under those of the first `count` matrices of `group` that keep q0.
 fn number_classes(group: &mut [i64], count: usize, g: Grid, q0: usize, map_q: &mut [i64])
-    requires fact_1 { GridFits (sides g) }
-    requires fact_2 { q0 < size (sides g) }
-    requires fact_3 { count * 9 ≤ length group.old }
-    requires fact_4 { T (all_within 100000 group.old) }
-    requires fact_5 { length map_q.old ≡ size (sides g) }
+    requires fact_1 { q0 < size (sides g) }
+    requires fact_2 { count * 9 ≤ length group.old }
+    requires fact_3 { T (all_within 100000 group.old) }
+    requires fact_4 { length map_q.old ≡ size (sides g) }
     ensures { map_q.new ≡ map pos (map_q_of (sides g) q0 (matrices_from group.old 0 count)) }
 {
     let kept = keep_stabilizer(&mut *group, count, g, q0);
@@ -88,61 +69,45 @@ fn number_classes(group: &mut [i64], count: usize, g: Grid, q0: usize, map_q: &m
 
 // The class number of q1, which is its own, or that of its partner if it is lower.
 fn swapped_number(map_q: &[i64], address0: [i64; 3], q1: usize, g: Grid) -> i64
-    requires fact_1 { GridFits (sides g) }
-    requires fact_2 { Sized 10000000000000 address0 }
-    requires fact_3 { q1 < size (sides g) }
-    requires fact_4 { Numbered (size (sides g)) map_q.now }
-    requires fact_5 { length map_q.now ≡ size (sides g) }
+    requires fact_1 { Sized 10000000000000 address0 }
+    requires fact_2 { q1 < size (sides g) }
+    requires fact_3 { Numbered (size (sides g)) map_q.now }
+    requires fact_4 { length map_q.now ≡ size (sides g) }
     ensures { result ≡ pos (lower_of (get_or (map nat_abs map_q.now) (index (sides g) (third (vector_of address0) (address (sides g) q1))) 0) q1) }
 {
     let q2 = grgrid::grid_index_from_address(
         third(address0, grgrid::grid_address_from_index(q1, g)),
         g,
     );
-    if map_q[q2] < q1 as i64 {
-        map_q[q2]
-    } else {
-        q1 as i64
-    }
+    map_q[q2].min(q1 as i64)
 }
 
 // Swappable case: q1 and q2 can be exchanged. A number in `map_q` is the lowest point that bears it, which comes first.
 fn ir_triplets_at_q_perm_q1q2(map_q: &[i64], q0: usize, g: Grid, map_triplets: &mut [i64])
-    requires fact_1 { GridFits (sides g) }
-    requires fact_2 { q0 < size (sides g) }
-    requires fact_3 { Numbered (size (sides g)) map_q.now }
-    requires fact_4 { (length map_q.now ≡ size (sides g)) × (length map_triplets.old ≡ size (sides g)) }
+    requires fact_1 { q0 < size (sides g) }
+    requires fact_2 { Numbered (size (sides g)) map_q.now }
+    requires fact_3 { (length map_q.now ≡ size (sides g)) × (length map_triplets.old ≡ size (sides g)) }
     ensures { map_triplets.new ≡ map pos (map_triplets_of true (sides g) q0 (map nat_abs map_q.now)) }
 {
     let address0 = grgrid::grid_address_from_index(q0, g);
-    let mut q1 = 0;
-    while q1 < map_triplets.len() {
+    for q1 in 0..map_triplets.len() {
         let own = map_q[q1];
-        if own == q1 as i64 {
-            let number = swapped_number(map_q, address0, q1, g);
-            map_triplets[q1] = number;
+        map_triplets[q1] = if own == q1 as i64 {
+            swapped_number(map_q, address0, q1, g)
         } else {
-            let number = map_triplets[own as usize];
-            map_triplets[q1] = number;
-        }
-        q1 += 1;
+            map_triplets[own as usize]
+        };
     }
 }
 
-// Non-swappable case: the classes as they are.
-fn ir_triplets_at_q_noperm(map_q: &[i64], map_triplets: &mut [i64])
-    requires { length map_q.now ≡ length map_triplets.old }
-    ensures { map_triplets.new ≡ map_q.now }
-{
-    let mut q1 = 0;
-    while q1 < map_q.len() {
-        let number = map_q[q1];
-        map_triplets[q1] = number;
-        q1 += 1;
-    }
-}
-
-fn triplet_tests(q0: i64, d: [i64; 3], rotations: &[i64], triplets: usize, classes: usize) -> Result<(), Refusal>
+#[tactic(auto, using(crate::proofs::Outcome::refused, crate::proofs::Outcome::onward), unfolding(crate::specs::IrTriplets::input_tests))]
+fn triplet_tests(
+    q0: i64,
+    d: [i64; 3],
+    rotations: &[i64],
+    triplets: usize,
+    classes: usize,
+) -> Result<(), Refusal>
     ensures { result ≡ input_tests q0 d rotations.now triplets classes }
 {
     if !common::whole_matrices(rotations) {
@@ -172,27 +137,22 @@ fn classes_at(
     is_time_reversal: bool,
     map_q: &mut [i64],
 ) -> Result<(), Refusal>
-    requires fact_1 { GridFits (sides g) }
-    requires fact_2 { q0 < size (sides g) }
-    requires fact_3 { T (whole_matrices rotations.now) }
-    requires fact_4 { T (rotations_fit 100000 rotations.now) }
-    requires fact_5 { length map_q.old ≡ size (sides g) }
+    requires fact_1 { q0 < size (sides g) }
+    requires fact_2 { T (whole_matrices rotations.now) }
+    requires fact_3 { T (rotations_fit 100000 rotations.now) }
+    requires fact_4 { length map_q.old ≡ size (sides g) }
     ensures value { result ≡ room_tests (matrices rotations.now) is_time_reversal false }
     ensures map_q_after { result ≡ Accepted → map_q.new ≡ map pos (classes_at q0 (sides g) (matrices rotations.now) is_time_reversal) }
 {
     let mut group = [0; 432];
-    match recip_rotations::get_reciprocal_point_group(
+    let count = recip_rotations::get_reciprocal_point_group(
         rotations,
         is_time_reversal,
         false,
         &mut group,
-    ) {
-        Ok(count) => {
-            number_classes(&mut group, count, g, q0, map_q);
-            Ok(())
-        }
-        Err(r) => Err(r),
-    }
+    )?;
+    number_classes(&mut group, count, g, q0, map_q);
+    Ok(())
 }
 
 fn number_triplets(
@@ -202,29 +162,40 @@ fn number_triplets(
     g: Grid,
     map_triplets: &mut [i64],
 ) -> i64
-    requires fact_1 { GridFits (sides g) }
-    requires fact_2 { q0 < size (sides g) }
-    requires fact_3 { Numbered (size (sides g)) map_q.now }
-    requires fact_4 { (length map_q.now ≡ size (sides g)) × (length map_triplets.old ≡ size (sides g)) }
+    requires fact_1 { q0 < size (sides g) }
+    requires fact_2 { Numbered (size (sides g)) map_q.now }
+    requires fact_3 { (length map_q.now ≡ size (sides g)) × (length map_triplets.old ≡ size (sides g)) }
     ensures map_triplets_after { map_triplets.new ≡ map pos (map_triplets_of swappable (sides g) q0 (map nat_abs map_q.now)) }
     ensures value { result ≡ pos (kept (map_triplets_of swappable (sides g) q0 (map nat_abs map_q.now)) (size (sides g))) }
 {
     if swappable {
         ir_triplets_at_q_perm_q1q2(map_q, q0, g, &mut *map_triplets);
     } else {
-        ir_triplets_at_q_noperm(map_q, &mut *map_triplets);
+        // The Rust's `ir_triplets_at_q_noperm`: the classes as they are.
+        map_triplets.copy_from_slice(map_q);
     }
     grgrid::own_places(map_triplets) as i64
 }
 
-fn refuse(r: Refusal, map_triplets: &mut [i64], map_q: &mut [i64]) -> Result<i64, Refusal>
-    ensures value { result ≡ Err r }
-    ensures map_triplets_after { map_triplets.new ≡ replicate (length map_triplets.old) (negsuc 0) }
-    ensures map_q_after { map_q.new ≡ replicate (length map_q.old) (negsuc 0) }
+// The answer and both maps, which mean nothing where there is no answer.
+fn fill_maps(
+    q0: i64,
+    d: [i64; 3],
+    rotations: &[i64],
+    is_time_reversal: bool,
+    swappable: bool,
+    map_triplets: &mut [i64],
+    map_q: &mut [i64],
+) -> Result<i64, Refusal>
+    ensures value { result ≡ ir_triplets_answer q0 d rotations.now is_time_reversal swappable (length map_triplets.old) (length map_q.old) }
+    ensures map_triplets_after { IfOk result (λ _. map_triplets.new ≡ map_triplets_written q0 d rotations.now is_time_reversal swappable (length map_triplets.old) (length map_q.old)) }
+    ensures map_q_after { IfOk result (λ _. map_q.new ≡ map_qwritten q0 d rotations.now is_time_reversal swappable (length map_triplets.old) (length map_q.old)) }
 {
-    common::fill(map_triplets, -1);
-    common::fill(map_q, -1);
-    Err(r)
+    triplet_tests(q0, d, rotations, map_triplets.len(), map_q.len())?;
+    let g = grgrid::grid_of(d);
+    let point = q0 as usize;
+    classes_at(point, g, rotations, is_time_reversal, &mut *map_q)?;
+    Ok(number_triplets(swappable, map_q, point, g, map_triplets))
 }
 
 // Search symmetry-reduced triplets at a fixed q-point: `map_q` has the classes under the operations that keep q0, `map_triplets` those of the triplets.
@@ -241,18 +212,18 @@ pub fn ir_triplets_at_q(
     ensures map_triplets_after { map_triplets.new ≡ map_triplets_written q0 d rotations.now is_time_reversal swappable (length map_triplets.old) (length map_q.old) }
     ensures map_q_after { map_q.new ≡ map_qwritten q0 d rotations.now is_time_reversal swappable (length map_triplets.old) (length map_q.old) }
 {
-    if let Err(r) = triplet_tests(q0, d, rotations, map_triplets.len(), map_q.len()) {
-        return refuse(r, map_triplets, map_q);
+    let answer = fill_maps(
+        q0,
+        d,
+        rotations,
+        is_time_reversal,
+        swappable,
+        &mut *map_triplets,
+        &mut *map_q,
+    );
+    if answer.is_err() {
+        map_triplets.fill(-1);
+        map_q.fill(-1);
     }
-    let g = grgrid::grid_of(d);
-    match classes_at(q0 as usize, g, rotations, is_time_reversal, &mut *map_q) {
-        Ok(()) => Ok(number_triplets(
-            swappable,
-            map_q,
-            q0 as usize,
-            g,
-            map_triplets,
-        )),
-        Err(r) => refuse(r, map_triplets, map_q),
-    }
+    answer
 }

@@ -10,7 +10,7 @@ use Rattle.common.specs.Tested.{output_of, Accepted}
 use Rattle.grgrid.specs.Grid.{size}
 use Rattle.grgrid.specs.ClassMap.{class_map_of, classes}
 use Rattle.grgrid.specs.IrGridMap.{map_tests, ir_grid_map, ir_grid_map_answer, ir_grid_map_written}
-use Rattle.grgrid.proofs.Accepted.{grid-fits, shift-sized, map-accepted}
+use Rattle.grgrid.proofs.Accepted.{shift-sized, map-accepted}
 use Rattle.grgrid.proofs.Numbers.{own-classes}
 use borrow.Author.Rules.{rules}
 use Rattle.grgrid.proofs.ir_grid_map.Goals as goal
@@ -26,7 +26,7 @@ number_points-requires c =
     let s = c in
     let tested : c.map_tests.result ≡ map_tests s.args.rotations.now s.args.d s.args.ps (length s.args.map.now) = search rules in
     let a = map-accepted s.args.rotations.now s.args.d s.args.ps (length s.args.map.now) (sym (tested) ∙ c.in-Ok.is) in
-    record { fact_1 = a.entries; fact_2 = shift-sized s.args.ps (search rules) a.shift; fact_3 = rw c.grid_of.ensures (grid-fits s.args.d a.grid); fact_4 = a.places ∙ ap size (sym c.grid_of.ensures) }
+    record { fact_1 = a.entries; fact_2 = shift-sized s.args.ps (search rules) a.shift; fact_3 = a.places ∙ ap size (sym c.grid_of.ensures) }
 
 pub returns-in-Ok : goal.returns-in-Ok
 unfolding ir_grid_map_answer ir_grid_map_written
@@ -50,5 +50,5 @@ returns-in-Err c =
     let ps = vector_of s.args.ps in
     let ms = matrices s.args.rotations.now in
     let e : Err _ ≡ map_tests s.args.rotations.now s.args.d s.args.ps (length s.args.map.now) = sym (sym (tested) ∙ c.in-Err.is) in
-    let w : _ ≡ replicate (length s.args.map.now) (negsuc 0) = c.fill.ensures in
+    let w : _ ≡ replicate (length s.args.map.now) (negsuc 0) = c.fill.ensures.after (λ y k. k) in
     record { value = ap (λ t. ir_grid_map t (classes d ps ms)) e; map_after = w ∙ ap (λ t. output_of t (length s.args.map.now) (map pos (class_map_of d ps ms))) e }

@@ -1,0 +1,36 @@
+use mathlib.Core.Path.{◌≡◌, refl, ◌∙◌, ap}
+use mathlib.Core.List.{map}
+use lib.IntN.{pos}
+use borrow.Author.Rules.{rules}
+use Rattle.std.specs.Prelude.{Err}
+use Rattle.grgrid.specs.Sides.{sides}
+use Rattle.triplet_grid.specs.IrTriplets.{map_q_of, classes_at}
+use Rattle.triplet_grid.proofs.Reciprocal.{refused, group-told}
+use Rattle.triplet_grid.proofs.classes_at.Goals as goal
+
+pub returns-in_err-count-clause-value : goal.returns-in_err-count-clause-value
+returns-in_err-count-clause-value c =
+    let s = c.args in
+    let h : c.from_residual.result ≡ Err c.in_err-count.field-0.0 = search rules in
+    h ∙ refused s.rotations.now s.is_time_reversal c.requires.fact_2 c.requires.fact_3 432 refl c.get_reciprocal_point_group.ensures.value c.in_err-count.was
+
+pub number_classes-requires-clause-fact_2 : goal.number_classes-requires-clause-fact_2
+number_classes-requires-clause-fact_2 c =
+    let s = c.args in
+    let e = c.get_reciprocal_point_group.ensures in
+    let t = group-told s.rotations.now s.is_time_reversal c.requires.fact_2 c.requires.fact_3 432 refl e.value c.in_ok-count.was e.out_after in
+    search rules
+
+pub number_classes-requires-clause-fact_3 : goal.number_classes-requires-clause-fact_3
+number_classes-requires-clause-fact_3 c =
+    let s = c.args in
+    let e = c.get_reciprocal_point_group.ensures in
+    (group-told s.rotations.now s.is_time_reversal c.requires.fact_2 c.requires.fact_3 432 refl e.value c.in_ok-count.was e.out_after).within
+
+pub returns : goal.returns
+unfolding classes_at
+returns c =
+    let s = c.args in
+    let e = c.get_reciprocal_point_group.ensures in
+    let t = group-told s.rotations.now s.is_time_reversal c.requires.fact_2 c.requires.fact_3 432 refl e.value c.in_ok-count.was e.out_after in
+    record { value = t.accepted; map_q_after = λ _. c.number_classes.ensures ∙ ap (λ l. map pos (map_q_of (sides s.g) s.q0 l)) t.read }

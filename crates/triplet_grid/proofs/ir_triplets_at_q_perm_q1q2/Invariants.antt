@@ -1,0 +1,10 @@
+use mathlib.Core.Path.{◌≡◌}
+use mathlib.Core.List.{map}
+use lib.IntN.{pos, nat_abs}
+use Rattle.grgrid.specs.Sides.{sides}
+use Rattle.grgrid.proofs.Built.{written}
+use Rattle.triplet_grid.specs.IrTriplets.{swapped_number}
+use Rattle.triplet_grid.proofs.ir_triplets_at_q_perm_q1q2.Given as goal
+
+abbrev pub invariant-loop-q1 : goal.invariant-loop-q1
+invariant-loop-q1 l = l.map_triplets ≡ written (λ p done. swapped_number (sides l.g) l.q0 (map nat_abs l.map_q) p) pos l.q1 l.initial.map_triplets

@@ -16,13 +16,6 @@ pub struct Job {
     pub q0: i64,
 }
 
-fn wide(b: u8) -> u64
-    ensures value { result ≡ b }
-    ensures upper_bound { result < 256 }
-{
-    b as u64
-}
-
 // n bytes from place `at` on, the lowest first.
 fn little_endian(bytes: &[u8], at: usize, n: usize) -> u64
     requires { (at + n ≤ length bytes.now) × (n ≤ 8) }
@@ -31,7 +24,7 @@ fn little_endian(bytes: &[u8], at: usize, n: usize) -> u64
 {
     let mut v: u64 = 0;
     for k in (0..n).rev() {
-        v = wide(bytes[at + k]) + 256 * v;
+        v = u64::from(bytes[at + k]) + 256 * v;
     }
     v
 }
@@ -88,23 +81,14 @@ fn section_fits(at: usize, size: usize, n: usize) -> bool
     requires { (at < 0x100000000) × (size < 0x10000000000) }
     ensures { result ≡ section_fits at size n }
 {
-    if at < 32 {
-        return false;
-    }
-    at + size <= n
+    32 <= at && at + size <= n
 }
 
 fn numbers_fit(bytes: &[u8]) -> bool
     requires { 32 ≤ length bytes.now }
     ensures { result ≡ numbers_fit (header bytes.now) (length bytes.now) }
 {
-    if word(bytes, 0) != bytes.len() {
-        return false;
-    }
-    if word(bytes, 4) > 192 {
-        return false;
-    }
-    word(bytes, 20) <= 3
+    word(bytes, 0) == bytes.len() && word(bytes, 4) <= 192 && word(bytes, 20) <= 3
 }
 
 fn sections_fit(bytes: &[u8]) -> bool
@@ -112,29 +96,16 @@ fn sections_fit(bytes: &[u8]) -> bool
     ensures { result ≡ sections_fit (header bytes.now) (length bytes.now) }
 {
     let n = bytes.len();
-    if !section_fits(word(bytes, 8), 36, n) {
-        return false;
-    }
-    if !section_fits(word(bytes, 12), 36 * word(bytes, 4), n) {
-        return false;
-    }
-    section_fits(word(bytes, 16), 72, n)
+    section_fits(word(bytes, 8), 36, n)
+        && section_fits(word(bytes, 12), 36 * word(bytes, 4), n)
+        && section_fits(word(bytes, 16), 72, n)
 }
 
 #[tactic(auto, unfolding(crate::specs::Job::job_fits))]
 fn job_fits(bytes: &[u8]) -> bool
     ensures { result ≡ job_fits bytes.now }
 {
-    if bytes.len() < 32 {
-        return false;
-    }
-    if bytes.len() > 8192 {
-        return false;
-    }
-    if !numbers_fit(bytes) {
-        return false;
-    }
-    sections_fit(bytes)
+    32 <= bytes.len() && bytes.len() <= 8192 && numbers_fit(bytes) && sections_fit(bytes)
 }
 
 #[tactic(auto, using(crate::proofs::Sections::sections), unfolding(crate::specs::Job::accepted))]

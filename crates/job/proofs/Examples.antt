@@ -6,7 +6,7 @@ use Prim.Native.Nat.{ℕ, ◌-◌, ◌/◌, ◌%◌}
 use lib.Ieee.{Float, nan, binary64, of_bits}
 use lib.IntN.{ℤ, pos, negsuc}
 use lib.ListN.{replicate, take}
-use Rattle.common.specs.Tested.{Accepted}
+use Rattle.std.specs.Prelude.{Ok}
 use Rattle.common.specs.declared.Refusal.TheVariants.{BadHeader}
 use Rattle.job.specs.Job.{signed, float, Header, job_fits, job_of, rotations_of}
 use Rattle.job.specs.Listing.{decimal, number, listing, refusal}
@@ -41,8 +41,7 @@ one = of_bits binary64 0x3ff0000000000000
 abbrev nought : Float
 nought = of_bits binary64 0
 
-example-job : job_of example ≡ record {
-  tested = Accepted;
+example-job : job_of example ≡ Ok (record {
   a = pos 3 ∷ pos 0 ∷ pos 0 ∷ pos 0 ∷ pos 1 ∷ pos 0 ∷ pos 0 ∷ pos 0 ∷ pos 1 ∷ [];
   lattice = one ∷ nought ∷ nought ∷ nought ∷ one ∷ nought ∷ nought ∷ nought ∷ one ∷ [];
   count = 1;
@@ -50,7 +49,7 @@ example-job : job_of example ≡ record {
   swapping = true;
   grid_type = pos 2;
   q0 = pos 1;
-}
+})
 unfolding job_of
 example-job = refl
 

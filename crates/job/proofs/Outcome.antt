@@ -7,27 +7,30 @@ use native.Mathlib.Omega.{arith}
 use lib.IntN.{ℤ, negsuc}
 use lib.ListN.{length, take, drop, replicate, length-replicate}
 use lib.Seq.{take_at}
-use Rattle.common.specs.Tested.{Accepted}
+use Rattle.std.specs.Prelude.{Ok, Err}
+use Rattle.common.specs.declared.Refusal.TheVariants.{BadHeader}
+use Rattle.common.proofs.Tests.{same-ok, refused-not-ok}
 use Rattle.integer.specs.Checked.{pick}
 use Rattle.grgrid.proofs.Built.{length-build}
-use Rattle.job.specs.Job.{word, signed, signed_words, job_fits, accepted, refused, job_of, rotations_of, rotations_written}
+use Rattle.job.specs.Job.{word, signed, signed_words, job_fits, accepted, job_of, rotations_of, rotations_written}
+use Rattle.job.specs.declared.job.Job.{Job}
 use Rattle.job.proofs.Lists.{drop-replicate}
 use Rattle.job.proofs.Sections.{sections}
 
 module _ (b : List ℕ) where
   module _ (e : job_fits b ≡ false) where
-    pub refused-job : refused ≡ job_of b
+    pub refused-job : Err BadHeader ≡ job_of b
     unfolding job_of
-    refused-job = sym (ap (λ t. pick t (accepted b) refused) e)
+    refused-job = sym (ap (λ t. pick t (Ok (accepted b)) (Err BadHeader)) e)
 
     pub none-laid : {l : List ℤ} → l ≡ replicate 1728 (negsuc 0) → l ≡ rotations_written b 1728
     unfolding rotations_written
     none-laid p = p ∙ sym (ap (λ t. pick t (rotations_of b ++ replicate (1728 - 9 * word b 4) (negsuc 0)) (replicate 1728 (negsuc 0))) e)
 
   module _ (e : job_fits b ≡ true) where
-    pub accepted-job : accepted b ≡ job_of b
+    pub accepted-job : Ok (accepted b) ≡ job_of b
     unfolding job_of
-    accepted-job = sym (ap (λ t. pick t (accepted b) refused) e)
+    accepted-job = sym (ap (λ t. pick t (Ok (accepted b)) (Err BadHeader)) e)
 
     -- there is room for k rotations in a slice of 1728 places
     pub room : {k n : ℕ} {l : List ℤ} → k ≡ word b 4 → l ≡ replicate n (negsuc 0) → n ≡ 1728 → 9 * k ≤ length l
@@ -50,10 +53,11 @@ module _ (b : List ℕ) where
         ap (λ t. take (9 * word b 4) (pick t (rotations_of b ++ replicate (1728 - 9 * word b 4) (negsuc 0)) (replicate 1728 (negsuc 0)))) e
         ∙ take_at (rotations_of b) (replicate (1728 - 9 * word b 4) (negsuc 0)) (9 * word b 4) (length-build (λ k done. signed (word b (word b 12 + 4 * k))) (9 * word b 4))
 
-  pub fits-if-accepted : (job_of b).tested ≡ Accepted → job_fits b ≡ true
+  -- a job that was read
+  pub read-job : {j : Job} → job_of b ≡ Ok j → (job_fits b ≡ true) × (j ≡ accepted b)
   unfolding job_of
-  fits-if-accepted h = go (job_fits b) h
+  read-job {j} h = go (job_fits b) h
     where
-      go : (t : Bool) → (pick t (accepted b) refused).tested ≡ Accepted → t ≡ true
-      go true h = refl
-      go false h = cc
+      go : (t : Bool) → pick t (Ok (accepted b)) (Err BadHeader) ≡ Ok j → (t ≡ true) × (j ≡ accepted b)
+      go true h = (refl, sym (same-ok h))
+      go false h = absurd (refused-not-ok h)

@@ -1,17 +1,19 @@
 -- Laws of a text that is put into a slice byte by byte.
 use mathlib.Core.Path.{◌≡◌, refl, sym, ◌∙◌, ap, ap₂}
+use mathlib.Core.Logic.{⊎_elim}
 use mathlib.Core.Bool.{Bool, true, false}
 use mathlib.Core.List.{List, [], ◌∷◌, ◌++◌}
 use Prim.Native.Nat.{ℕ, zero, suc, ◌+◌, ◌-◌, ◌/◌, ◌%◌, ◌<◌, ◌≤◌}
-use native.Mathlib.Nat.{le_antisymm, le_of_suc-le-suc, not-suc-le-zero, add-zero, zero-add}
+use native.Mathlib.Nat.{eq-or-lt_of_le, le_of_suc-le-suc, not-suc-le-zero, add-zero, zero-add}
 use native.Mathlib.Numerals.{add-one}
 use native.Mathlib.Omega.{arith}
 use lib.Dec.{ltb, leb}
 use lib.IntN.{ℤ, pos, negsuc, nat_abs}
 use lib.Signed.{lt_z}
 use lib.ListN.{length, get_or, set, take, drop, replicate, length-append, length-replicate, length-set}
-use lib.Seq.{take-suc, take-length, append_snoc, set-append_seam}
+use lib.Seq.{take-suc, append_snoc, set-append_seam}
 use borrow.Author.Tests.{lt-ltb, le-ltb, ltb-true, ltb-false, leb-true, leb-false}
+use Rattle.std.proofs.lemmas.List.{take-append-drop}
 use Rattle.std.specs.Prelude.{Option, Some, None}
 use Rattle.integer.specs.Checked.{pick}
 use Rattle.bzsearch.specs.Search.{rows}
@@ -20,43 +22,55 @@ use Rattle.job.proofs.Lists.{drop-replicate}
 use Rattle.job.specs.Writing.{Page, page, next, put, puts, finished, printed, printed_answer}
 
 -- ---- one byte
-module _ (l : List ℕ) (b : ℕ) {p : Option ℕ} where
-  pub put-none : p ≡ None → page l None ≡ put (page l p) b
-  put-none e = sym (ap (λ p. next l p b) e)
+module _ (l : List ℕ) (b n : ℕ) where
+  at : Bool → Page
+  at t = pick t (page (set l n b) (Some (n + 1))) (page l None)
 
-  module _ {n : ℕ} (e : p ≡ Some n) where
-    at : Bool → Page
-    at t = pick t (page (set l n b) (Some (n + 1))) (page l None)
+  put_in : n < length l → page (set l n b) (Some (n + 1)) ≡ put (page l (Some n)) b
+  unfolding at
+  put_in h = sym (ap at (lt-ltb n (length l) h))
 
-    pub put_in : n < length l → page (set l n b) (Some (n + 1)) ≡ put (page l p) b
-    unfolding at
-    put_in h = sym (ap (λ p. next l p b) e ∙ ap at (lt-ltb n (length l) h))
-
-    pub put-out : length l ≤ n → page l None ≡ put (page l p) b
-    unfolding at
-    put-out h = sym (ap (λ p. next l p b) e ∙ ap at (le-ltb n (length l) h))
+  put-out : length l ≤ n → page l None ≡ put (page l (Some n)) b
+  unfolding at
+  put-out h = sym (ap at (le-ltb n (length l) h))
 
 -- ---- a text after another
 puts-append : (p : Page) (s t : List ℕ) → puts p (s ++ t) ≡ puts (puts p s) t
 puts-append p [] t = refl
 puts-append p (b ∷ s) t = puts-append (put p b) s t
 
+full : (l t : List ℕ) → puts (page l None) t ≡ page l None
+full l [] = refl
+full l (b ∷ t) = full l t
+
 module _ (p : Page) where
   pub puts_then : (s t : List ℕ) {q r : Page} → q ≡ puts p s → r ≡ puts q t → r ≡ puts p (s ++ t)
   puts_then s t e f = f ∙ ap (λ q. puts q t) e ∙ sym (puts-append p s t)
 
-  -- the loops: byte i of a text, and row i
-  pub put-more : (s : List ℕ) (i : ℕ) {q r : Page} → i < length s → q ≡ puts p (take i s) → r ≡ put q (get_or s i 0) → r ≡ puts p (take (i + 1) s)
-  put-more s i h e f = puts_then (take i s) (get_or s i 0 ∷ []) e f ∙ ap (puts p) (sym (take-suc s i 0 h) ∙ ap (λ n. take n s) (sym (add-one i)))
-
-  pub put-end : (s : List ℕ) (i : ℕ) {q : Page} → i ≤ length s → length s ≤ i → q ≡ puts p (take i s) → q ≡ puts p s
-  put-end s i a b e = e ∙ ap (puts p) (ap (λ n. take n s) (le_antisymm a b) ∙ take-length s)
-
+  -- the next row
   pub row_more : (g : ℕ → List ℕ) (i : ℕ) {q r : Page} → q ≡ puts p (rows g i) → r ≡ puts q (g i) → r ≡ puts p (rows g (i + 1))
   row_more g i e f = puts_then (rows g i) (g i) e f ∙ ap (λ n. puts p (rows g n)) (sym (add-one i))
 
-  pub row-end : (g : ℕ → List ℕ) (i n : ℕ) {q : Page} → i ≤ n → n ≤ i → q ≡ puts p (rows g i) → q ≡ puts p (rows g n)
-  row-end g i n a b e = e ∙ ap (λ n. puts p (rows g n)) (le_antisymm a b)
+  -- where there is no room, nothing more is put
+  module _ {l : List ℕ} {q r : Option ℕ} (e : q ≡ None) (f : r ≡ None) where
+    pub stopped : (s t : List ℕ) → page l q ≡ puts p s → page l r ≡ puts p (s ++ t)
+    stopped s t h = puts_then s t h (ap (page l) f ∙ sym (full l t) ∙ ap (λ q. puts (page l q) t) (sym e))
+
+    -- at byte i of a text, and in row i
+    pub word-stopped : (s : List ℕ) (i : ℕ) {b : Page} → i < length s → b ≡ puts p (take i s) → page l q ≡ put b (get_or s i 0) → page l r ≡ puts p s
+    word-stopped s i h k m =
+        stopped (take (suc i) s) (drop (suc i) s) (puts_then (take i s) (get_or s i 0 ∷ []) k m ∙ ap (puts p) (sym (take-suc s i 0 h)))
+        ∙ ap (puts p) (take-append-drop (suc i) s)
+
+    pub rows-stopped : (g : ℕ → List ℕ) (i n : ℕ) {b : Page} → i < n → b ≡ puts p (rows g i) → page l q ≡ puts b (g i) → page l r ≡ puts p (rows g n)
+    rows-stopped g i n h k m = onwards n h
+      where
+        onwards : (n : ℕ) → i < n → page l r ≡ puts p (rows g n)
+        onwards zero h = absurd (not-suc-le-zero h)
+        onwards (suc n) h =
+            ⊎_elim (λ j. ap (page l) (f ∙ sym e) ∙ puts_then (rows g i) (g i) k m ∙ ap (λ n. puts p (rows g (suc n))) j)
+            (λ j. puts_then (rows g n) (g n) (onwards n j) (ap (page l) f ∙ sym (full l (g n)) ∙ ap (λ r. puts (page l r) (g n)) (sym f)))
+            (eq-or-lt_of_le (le_of_suc-le-suc h))
 
 -- ---- decimal digits, by the last one
 enough : (j : ℕ) (b : Bool) (k n : ℕ) → ltb n 10 ≡ b → n ≤ j → n ≤ k → digits j b n ≡ digits k b n
@@ -97,14 +111,10 @@ module _ {n : ℕ} where
   from_zero (negsuc m) e f = let z : ◌≡◌ {A = ℕ} 0 1 = cc in absurd (omega arith)
 
 -- ---- a whole text in a slice of zeros
-full : (l t : List ℕ) → puts (page l None) t ≡ page l None
-full l [] = refl
-full l (b ∷ t) = full l t
-
 -- the next byte after s, of whose places x is the first that is left
 next_place : (s : List ℕ) (x : ℕ) (l : List ℕ) (b : ℕ) → put (page (s ++ x ∷ l) (Some (length s))) b ≡ page ((s ++ (b ∷ [])) ++ l) (Some (length (s ++ (b ∷ []))))
 next_place s x l b =
-    sym (put_in (s ++ x ∷ l) b refl (omega (arith, length-append s (x ∷ l))))
+    sym (put_in (s ++ x ∷ l) b (length s) (omega (arith, length-append s (x ∷ l))))
     ∙ ap₂ (λ m n. page m (Some n)) (set-append_seam s x l b ∙ sym (append_snoc s b l)) (sym (length-append s (b ∷ [])))
 
 fitting : (s l t : List ℕ) → length t ≤ length l → puts (page (s ++ l) (Some (length s))) t ≡ page (s ++ (t ++ drop (length t) l)) (Some (length s + length t))
@@ -119,7 +129,7 @@ fitting s (x ∷ l) (b ∷ t) h =
 
 spilling : (s l t : List ℕ) → length l < length t → (puts (page (s ++ l) (Some (length s))) t).so_far ≡ None
 spilling s l [] h = absurd (not-suc-le-zero h)
-spilling s [] (b ∷ t) h = ap (λ p. (puts p t).so_far) (sym (put-out (s ++ []) b refl (omega (arith, length-append s [])))) ∙ ap (λ p. p.so_far) (full (s ++ []) t)
+spilling s [] (b ∷ t) h = ap (λ p. (puts p t).so_far) (sym (put-out (s ++ []) b (length s) (omega (arith, length-append s [])))) ∙ ap (λ p. p.so_far) (full (s ++ []) t)
 spilling s (x ∷ l) (b ∷ t) h = ap (λ p. (puts p t).so_far) (next_place s x l b) ∙ spilling (s ++ (b ∷ [])) l t (le_of_suc-le-suc h)
 
 kept-length : (p : Page) (t : List ℕ) → length (puts p t).bytes ≡ length p.bytes

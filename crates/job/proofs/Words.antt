@@ -5,7 +5,8 @@ use Prim.Native.Nat.{ℕ, suc, ◌+◌, ◌*◌, ◌-◌, ◌^◌, ◌<◌, ◌�
 use native.Mathlib.Nat.{pow-succ', pow-le-pow_right, lt_of_lt_of_le}
 use native.Mathlib.Omega.{arith}
 use lib.Dec.{lit<}
-use lib.IntN.{pos, ◌-ℤ◌}
+use lib.Ieee.{Float}
+use lib.IntN.{ℤ, pos, ◌-ℤ◌}
 use lib.ListN.{get_or}
 use mir.Syntax.{w64}
 use mir.Val.{SFits, to_z}
@@ -14,7 +15,7 @@ use borrow.Author.Tests.{lt-ltb}
 use Rattle.integer.specs.Checked.{pick}
 use Rattle.integer.proofs.Fits.{held, range-sfits}
 use Rattle.integer.proofs.Parts.{difference}
-use Rattle.job.specs.Job.{little_endian, signed}
+use Rattle.job.specs.Job.{little_endian, word, signed, float}
 
 -- ---- n bytes, those from place at + k on read: the next lower one
 module _ (n k : ℕ) (h : 0 < k) (l : k ≤ n) where
@@ -49,3 +50,10 @@ module _ {w : ℕ} (h : w < 0x100000000) where
 pub small_word : (w : ℕ) → w < 0x80000000 → to_z w64 w ≡ signed w
 unfolding signed
 small_word w h = to_z_pos w64 (omega arith) ∙ sym (ap (λ t. pick t (pos w) (pos w -ℤ pos 0x100000000)) (lt-ltb w 0x80000000 h))
+
+-- ---- the numbers of a section
+abbrev pub signed_item : List ℕ → ℕ → ℕ → List ℤ → ℤ
+signed_item b at k done = signed (word b (at + 4 * k))
+
+abbrev pub float_item : List ℕ → ℕ → ℕ → List Float → Float
+float_item b at k done = float b (at + 8 * k)

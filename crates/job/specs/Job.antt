@@ -1,9 +1,9 @@
 -- The job file: little-endian 32-bit words, of which a header of eight says where A, the rotations and the lattice stand. Sections may overlap and stand at any byte from 32 on.
-use Rattle.std.specs.Prelude.{Bool, false, ◌&&◌, List, ◌++◌, ℕ, zero, suc, ◌+◌, ◌*◌, ◌-◌, ◌%◌, eqb, leb, ltb, Float, ℤ, pos, negsuc, ◌-ℤ◌, length, get_or, replicate, Err}
+use Rattle.std.specs.Prelude.{Bool, ◌&&◌, List, ◌++◌, ℕ, zero, suc, ◌+◌, ◌*◌, ◌-◌, ◌%◌, eqb, leb, ltb, Float, ℤ, pos, negsuc, ◌-ℤ◌, length, get_or, replicate, Result, Ok, Err}
 use Rattle.std.specs.Float.{binary64}
 use Rattle.std.specs.Float.Ieee.{of_bits}
-use Rattle.common.specs.Tested.{Accepted}
 use Rattle.integer.specs.Checked.{pick}
+use Rattle.common.specs.declared.Refusal.{Refusal}
 use Rattle.common.specs.declared.Refusal.TheVariants.{BadHeader}
 use Rattle.grgrid.specs.Build.{build}
 use Rattle.job.specs.declared.job.Job.{Job}
@@ -71,7 +71,6 @@ unfolding word signed_words floats
 accepted b =
     let h = header b in
     record {
-      tested = Accepted;
       a = signed_words b h.a 9;
       lattice = floats b h.lattice 9;
       count = h.count;
@@ -81,23 +80,9 @@ accepted b =
       q0 = pos h.q0;
     }
 
--- every number is -1, also in the lattice, but the count is 0 and both flags are false
-abbrev pub refused : Job
-refused =
-    record {
-      tested = Err BadHeader;
-      a = replicate 9 (negsuc 0);
-      lattice = replicate 9 (of_bits binary64 0xbff0000000000000);
-      count = 0;
-      time_reversal = false;
-      swapping = false;
-      grid_type = negsuc 0;
-      q0 = negsuc 0;
-    }
-
-unfoldable pub job_of : List ℕ → Job
+unfoldable pub job_of : List ℕ → Result Job Refusal
 unfolding job_fits accepted
-job_of b = pick (job_fits b) (accepted b) refused
+job_of b = pick (job_fits b) (Ok (accepted b)) (Err BadHeader)
 
 unfoldable pub rotations_of : List ℕ → List ℤ
 unfolding word signed_words

@@ -1,13 +1,12 @@
 // The job file: words, sections, and the job that they tell.
 ghost use Rattle.std.specs.Prelude.{◌≡◌, true, ◌+◌, ◌*◌, ◌^◌, ◌≤◌, ◌<◌, length};
-ghost use Rattle.job.specs.Job.{little_endian, word, signed, float, signed_words, floats, header, section_fits, numbers_fit, sections_fit, job_fits, job_of, rotations_written, accepted, refused};
+ghost use Rattle.job.specs.Job.{little_endian, word, signed, float, signed_words, floats, header, section_fits, numbers_fit, sections_fit, job_fits, job_of, rotations_written, accepted};
 
 use common::Refusal;
 
-// A job as it was read, `count` rotations standing beside it, or its refusal: then every number is -1, but `count` is 0 and both flags are false.
+// A job as it was read; `count` rotations stand beside it.
 #[derive(Clone, Copy)]
 pub struct Job {
-    pub tested: Result<(), Refusal>,
     pub a: [i64; 9],
     pub lattice: [f64; 9],
     pub count: usize,
@@ -17,13 +16,6 @@ pub struct Job {
     pub q0: i64,
 }
 
-fn wide(b: u8) -> u64
-    ensures value { result ≡ b }
-    ensures upper_bound { result < 256 }
-{
-    b as u64
-}
-
 // n bytes from place `at` on, the lowest first.
 fn little_endian(bytes: &[u8], at: usize, n: usize) -> u64
     requires { (at + n ≤ length bytes.now) × (n ≤ 8) }
@@ -31,14 +23,13 @@ fn little_endian(bytes: &[u8], at: usize, n: usize) -> u64
     ensures upper_bound { result < 256 ^ n }
 {
     let mut v: u64 = 0;
-    let mut k = n;
-    while 0 < k {
-        k -= 1;
-        v = wide(bytes[at + k]) + 256 * v;
+    for k in (0..n).rev() {
+        v = u64::from(bytes[at + k]) + 256 * v;
     }
     v
 }
 
+#[tactic(auto, unfolding(crate::specs::Job::word))]
 fn word(bytes: &[u8], at: usize) -> usize
     requires { at + 4 ≤ length bytes.now }
     ensures value { result ≡ word bytes.now at }
@@ -58,6 +49,7 @@ fn signed(w: usize) -> i64
     w as i64 - 0x1_0000_0000
 }
 
+#[tactic(auto, unfolding(crate::specs::Job::float))]
 fn float(bytes: &[u8], at: usize) -> f64
     requires { at + 8 ≤ length bytes.now }
     ensures { result ≡ float bytes.now at }
@@ -70,10 +62,8 @@ fn signed_words(bytes: &[u8], at: usize, out: &mut [i64])
     requires { at + 4 * length out.old ≤ length bytes.now }
     ensures { out.new ≡ signed_words bytes.now at (length out.old) }
 {
-    let mut k = 0;
-    while k < out.len() {
+    for k in 0..out.len() {
         out[k] = signed(word(bytes, at + 4 * k));
-        k += 1;
     }
 }
 
@@ -81,10 +71,8 @@ fn floats(bytes: &[u8], at: usize, out: &mut [f64])
     requires { at + 8 * length out.old ≤ length bytes.now }
     ensures { out.new ≡ floats bytes.now at (length out.old) }
 {
-    let mut k = 0;
-    while k < out.len() {
+    for k in 0..out.len() {
         out[k] = float(bytes, at + 8 * k);
-        k += 1;
     }
 }
 
@@ -93,23 +81,14 @@ fn section_fits(at: usize, size: usize, n: usize) -> bool
     requires { (at < 0x100000000) × (size < 0x10000000000) }
     ensures { result ≡ section_fits at size n }
 {
-    if at < 32 {
-        return false;
-    }
-    at + size <= n
+    32 <= at && at + size <= n
 }
 
 fn numbers_fit(bytes: &[u8]) -> bool
     requires { 32 ≤ length bytes.now }
     ensures { result ≡ numbers_fit (header bytes.now) (length bytes.now) }
 {
-    if word(bytes, 0) != bytes.len() {
-        return false;
-    }
-    if word(bytes, 4) > 192 {
-        return false;
-    }
-    word(bytes, 20) <= 3
+    word(bytes, 0) == bytes.len() && word(bytes, 4) <= 192 && word(bytes, 20) <= 3
 }
 
 fn sections_fit(bytes: &[u8]) -> bool
@@ -117,45 +96,19 @@ fn sections_fit(bytes: &[u8]) -> bool
     ensures { result ≡ sections_fit (header bytes.now) (length bytes.now) }
 {
     let n = bytes.len();
-    if !section_fits(word(bytes, 8), 36, n) {
-        return false;
-    }
-    if !section_fits(word(bytes, 12), 36 * word(bytes, 4), n) {
-        return false;
-    }
-    section_fits(word(bytes, 16), 72, n)
+    section_fits(word(bytes, 8), 36, n)
+        && section_fits(word(bytes, 12), 36 * word(bytes, 4), n)
+        && section_fits(word(bytes, 16), 72, n)
 }
 
+#[tactic(auto, unfolding(crate::specs::Job::job_fits))]
 fn job_fits(bytes: &[u8]) -> bool
     ensures { result ≡ job_fits bytes.now }
 {
-    if bytes.len() < 32 {
-        return false;
-    }
-    if bytes.len() > 8192 {
-        return false;
-    }
-    if !numbers_fit(bytes) {
-        return false;
-    }
-    sections_fit(bytes)
+    32 <= bytes.len() && bytes.len() <= 8192 && numbers_fit(bytes) && sections_fit(bytes)
 }
 
-fn refuse() -> Job
-    ensures { result ≡ refused }
-{
-    Job {
-        tested: Err(Refusal::BadHeader),
-        a: [-1; 9],
-        lattice: [-1.0; 9],
-        count: 0,
-        time_reversal: false,
-        swapping: false,
-        grid_type: -1,
-        q0: -1,
-    }
-}
-
+#[tactic(auto, using(crate::proofs::Sections::sections), unfolding(crate::specs::Job::accepted))]
 fn accept(bytes: &[u8]) -> Job
     requires { job_fits bytes.now ≡ true }
     ensures { result ≡ accepted bytes.now }
@@ -166,7 +119,6 @@ fn accept(bytes: &[u8]) -> Job
     floats(bytes, word(bytes, 16), &mut lattice);
     let flags = word(bytes, 20);
     Job {
-        tested: Ok(()),
         a,
         lattice,
         count: word(bytes, 4),
@@ -178,16 +130,16 @@ fn accept(bytes: &[u8]) -> Job
 }
 
 // The rotations stand in the first places, nine numbers each.
-pub fn read_job(bytes: &[u8], rotations: &mut [i64]) -> Job
+pub fn read_job(bytes: &[u8], rotations: &mut [i64]) -> Result<Job, Refusal>
     requires { length rotations.old ≡ 1728 }
     ensures value { result ≡ job_of bytes.now }
     ensures rotations_after { rotations.new ≡ rotations_written bytes.now 1728 }
 {
-    common::fill(rotations, -1);
+    rotations.fill(-1);
     if !job_fits(bytes) {
-        return refuse();
+        return Err(Refusal::BadHeader);
     }
     let n = 9 * word(bytes, 4);
     signed_words(bytes, word(bytes, 12), &mut rotations[..n]);
-    accept(bytes)
+    Ok(accept(bytes))
 }

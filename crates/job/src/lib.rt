@@ -5,4 +5,4 @@ mod job;
 mod listing;
 
 pub use job::{Job, read_job};
-pub use listing::{clear, print_listing, print_refusal};
+pub use listing::{print_listing, print_refusal};

@@ -1,18 +1,15 @@
 // The text that a job prints, written into a lent slice.
-ghost use Rattle.std.specs.Prelude.{◌≡◌, [], ◌*◌, ◌/◌, length, replicate};
+ghost use Rattle.std.specs.Prelude.{◌≡◌, ◌/◌, length, Some};
 ghost use Rattle.bzsearch.specs.Search.{rows};
 ghost use Rattle.job.specs.Listing.{decimal, number, spaced, line, triplet_line, listing, refusal};
 ghost use Rattle.job.specs.Writing.{printed, printed_answer, page, put, puts, finished};
 
 use common::Refusal;
 
-// One byte more, where there is room.
-fn put(b: u8, out: &mut [u8], p: Option<usize>) -> Option<usize>
-    ensures { page out.new result ≡ put (page out.old p) b }
+// One byte at place n, where there is room.
+fn put(b: u8, out: &mut [u8], n: usize) -> Option<usize>
+    ensures { page out.new result ≡ put (page out.old (Some n)) b }
 {
-    let Some(n) = p else {
-        return None;
-    };
     if n < out.len() {
         out[n] = b;
         return Some(n + 1);
@@ -20,84 +17,63 @@ fn put(b: u8, out: &mut [u8], p: Option<usize>) -> Option<usize>
     None
 }
 
-fn put_word(word: &[u8], out: &mut [u8], p: Option<usize>) -> Option<usize>
-    ensures { page out.new result ≡ puts (page out.old p) word.now }
+fn put_word(word: &[u8], out: &mut [u8], n: usize) -> Option<usize>
+    ensures { page out.new result ≡ puts (page out.old (Some n)) word.now }
 {
-    let mut q = p;
-    let mut i = 0;
-    while i < word.len() {
-        q = put(word[i], out, q);
-        i += 1;
+    let mut m = n;
+    for &b in word {
+        m = put(b, out, m)?;
     }
-    q
+    Some(m)
 }
 
 // The last digit stands after those of the tenth.
-fn put_decimal(n: u64, out: &mut [u8], p: Option<usize>) -> Option<usize>
-    ensures { page out.new result ≡ puts (page out.old p) (decimal n) }
+fn put_decimal(u: u64, out: &mut [u8], n: usize) -> Option<usize>
+    ensures { page out.new result ≡ puts (page out.old (Some n)) (decimal u) }
 {
-    if n < 10 {
-        return put(b'0' + n as u8, out, p);
+    if u < 10 {
+        return put(b'0' + u as u8, out, n);
     }
-    let q = put_decimal(n / 10, out, p);
-    put(b'0' + (n % 10) as u8, out, q)
+    let m = put_decimal(u / 10, out, n)?;
+    put(b'0' + (u % 10) as u8, out, m)
 }
 
-fn put_number(z: i64, out: &mut [u8], p: Option<usize>) -> Option<usize>
-    ensures { page out.new result ≡ puts (page out.old p) (number z) }
+fn put_number(z: i64, out: &mut [u8], n: usize) -> Option<usize>
+    ensures { page out.new result ≡ puts (page out.old (Some n)) (number z) }
 {
-    if z < 0 {
-        let q = put(b'-', out, p);
-        return put_decimal(integer::unsigned_abs(z), out, q);
-    }
-    put_decimal(integer::unsigned_abs(z), out, p)
+    let m = if z < 0 { put(b'-', out, n)? } else { n };
+    put_decimal(z.unsigned_abs(), out, m)
 }
 
 // Each after a blank.
-fn put_numbers(list: &[i64], out: &mut [u8], p: Option<usize>) -> Option<usize>
-    ensures { page out.new result ≡ puts (page out.old p) (rows (spaced list.now) (length list.now)) }
+fn put_numbers(list: &[i64], out: &mut [u8], n: usize) -> Option<usize>
+    ensures { page out.new result ≡ puts (page out.old (Some n)) (rows (spaced list.now) (length list.now)) }
 {
-    let mut q = p;
-    let mut i = 0;
-    while i < list.len() {
-        let blank = put(b' ', out, q);
-        q = put_number(list[i], out, blank);
-        i += 1;
+    let mut m = n;
+    for &z in list {
+        m = put(b' ', out, m)?;
+        m = put_number(z, out, m)?;
     }
-    q
+    Some(m)
 }
 
-fn put_line(word: &[u8], list: &[i64], out: &mut [u8], p: Option<usize>) -> Option<usize>
-    ensures { page out.new result ≡ puts (page out.old p) (line word.now list.now) }
+fn put_line(word: &[u8], list: &[i64], out: &mut [u8], n: usize) -> Option<usize>
+    ensures { page out.new result ≡ puts (page out.old (Some n)) (line word.now list.now) }
 {
-    let q = put_word(word, out, p);
-    let r = put_numbers(list, out, q);
-    put(b'\n', out, r)
+    let n = put_word(word, out, n)?;
+    let n = put_numbers(list, out, n)?;
+    put(b'\n', out, n)
 }
 
 // Three numbers a line.
-fn put_triplets(list: &[i64], out: &mut [u8], p: Option<usize>) -> Option<usize>
-    ensures { page out.new result ≡ puts (page out.old p) (rows (triplet_line list.now) (length list.now / 3)) }
+fn put_triplets(list: &[i64], out: &mut [u8], n: usize) -> Option<usize>
+    ensures { page out.new result ≡ puts (page out.old (Some n)) (rows (triplet_line list.now) (length list.now / 3)) }
 {
-    let count = list.len() / 3;
-    let mut q = p;
-    let mut k = 0;
-    while k < count {
-        let at = 3 * k;
-        q = put_line(b"triplet", &list[at..at + 3], out, q);
-        k += 1;
+    let mut m = n;
+    for three in list.chunks_exact(3) {
+        m = put_line(b"triplet", three, out, m)?;
     }
-    q
-}
-
-pub fn clear(out: &mut [u8])
-    ensures { out.new ≡ replicate (length out.old) 0 }
-{
-    let mut i = 0;
-    while i < out.len() {
-        out[i] = 0;
-        i += 1;
-    }
+    Some(m)
 }
 
 // Without room, 0 everywhere.
@@ -105,11 +81,10 @@ fn finish(out: &mut [u8], p: Option<usize>) -> Option<usize>
     ensures value { result ≡ p }
     ensures out_after { out.new ≡ finished out.old p }
 {
-    let Some(n) = p else {
-        clear(out);
-        return None;
-    };
-    Some(n)
+    if p.is_none() {
+        out.fill(0);
+    }
+    p
 }
 
 fn put_listing(
@@ -118,15 +93,14 @@ fn put_listing(
     classes: i64,
     triplets: &[i64],
     out: &mut [u8],
-    p: Option<usize>,
+    n: usize,
 ) -> Option<usize>
-    ensures { page out.new result ≡ puts (page out.old p) (listing d map.now classes triplets.now) }
+    ensures { page out.new result ≡ puts (page out.old (Some n)) (listing d map.now classes triplets.now) }
 {
-    let n = [classes];
-    let q = put_line(b"grid", &d, out, p);
-    let r = put_line(b"map", map, out, q);
-    let s = put_line(b"ir", &n, out, r);
-    put_triplets(triplets, out, s)
+    let n = put_line(b"grid", &d, out, n)?;
+    let n = put_line(b"map", map, out, n)?;
+    let n = put_line(b"ir", &[classes], out, n)?;
+    put_triplets(triplets, out, n)
 }
 
 // The diagonal, the class map, the number of classes, three image indices a triplet.
@@ -140,8 +114,8 @@ pub fn print_listing(
     ensures value { result ≡ printed_answer (listing d map.now classes triplets.now) (length out.old) }
     ensures out_after { out.new ≡ printed (listing d map.now classes triplets.now) (length out.old) }
 {
-    clear(out);
-    let p = put_listing(d, map, classes, triplets, out, Some(0));
+    out.fill(0);
+    let p = put_listing(d, map, classes, triplets, out, 0);
     finish(out, p)
 }
 
@@ -149,8 +123,7 @@ pub fn print_refusal(r: Refusal, out: &mut [u8]) -> Option<usize>
     ensures value { result ≡ printed_answer (refusal r) (length out.old) }
     ensures out_after { out.new ≡ printed (refusal r) (length out.old) }
 {
-    clear(out);
-    let n = [r.answer()];
-    let p = put_line(b"refused", &n, out, Some(0));
+    out.fill(0);
+    let p = put_line(b"refused", &[r.answer()], out, 0);
     finish(out, p)
 }

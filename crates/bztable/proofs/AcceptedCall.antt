@@ -1,7 +1,7 @@
 -- An accepted call of `bz_grid_addresses`: what its tests say of the input, and what it leaves.
 use mathlib.Core.Path.{◌≡◌, refl, sym, ◌∙◌, ap, ap₂, subst}
-use mathlib.Core.Bool.{true, not}
-use mathlib.Core.List.{List, map}
+use mathlib.Core.Bool.{true}
+use mathlib.Core.List.{List}
 use Prim.Native.Nat.{ℕ, ◌<◌, ◌≤◌}
 use native.Mathlib.Omega.{arith}
 use lib.Dec.{T, eqb→eq}
@@ -17,7 +17,7 @@ use Rattle.common.specs.FloatMatrix.{float_matrix}
 use Rattle.common.specs.Tested.{require, output_of, Tested, Accepted}
 use Rattle.common.specs.declared.Refusal.{Refusal}
 use Rattle.common.specs.declared.Refusal.TheVariants.{SearchFailed, WrongLength}
-use Rattle.common.proofs.Tests.{passed}
+use Rattle.common.proofs.Tests.{passed, same-ok}
 use Rattle.grgrid.specs.Grid.{size}
 use Rattle.grgrid.proofs.Accepted.{grid-fits, few-points}
 use Rattle.bzgrid.specs.declared.Lengths.{Lengths}
@@ -51,9 +51,6 @@ pub record CallAccepted (d : List ℤ) (q : List (List ℤ)) (ps : List ℤ) (la
 not-built : (r : Refusal) (l : Lengths) → Err r ≡ Ok l → ⊥
 not-built r l e = let z : ◌≡◌ {A = ℕ} 0 1 = cc in omega arith
 
-built-lengths : (l m : Lengths) → Ok l ≡ Ok m → l ≡ m
-built-lengths l m e = cc
-
 module _ (d : List ℤ) (q : List (List ℤ)) (ps : List ℤ) (lattice : List (List Float)) (t : ℤ) (a b c : ℕ) where
   abbrev s : Search
   s = search_of d q ps lattice
@@ -82,7 +79,7 @@ module _ (d : List ℤ) (q : List (List ℤ)) (ps : List ℤ) (lattice : List (L
     build-passed = go (build_tests kind s a b c) refl built
       where
         go : (x : Tested) → build_tests kind s a b c ≡ x → answer_for x lengths ≡ Ok l → (build_tests kind s a b c ≡ Accepted) × (l ≡ lengths)
-        go (Ok _) p e = (p, sym (built-lengths lengths l e))
+        go (Ok _) p e = (p, sym (same-ok e))
         go (Err r) p e = absurd (not-built r l e)
 
     -- what an output then holds

@@ -5,7 +5,7 @@ use Rattle.common.specs.Array.{vector_of, items, matrix_of, rows, Sized}
 use Rattle.common.proofs.Bounds.{apply-fits, apply-sized}
 use Rattle.grgrid.specs.Grid.{halve}
 use Rattle.grgrid.proofs.Sizes.{double-sized}
-use Rattle.bztable.proofs.Inside.{within-sized}
+use Rattle.bztable.proofs.Turning.{within-sized}
 use borrow.Author.Rules.{rules}
 use Rattle.bztable.proofs.rotate.turned.Statement.{statement}
 use Rattle.bztable.proofs.rotate.turned.Tie as tie

@@ -2,29 +2,27 @@
 use mathlib.Core.Path.{◌≡◌, refl, sym, ◌∙◌, ap, ap₂}
 use mathlib.Core.Logic.{⊎_elim}
 use mathlib.Core.Bool.{Bool, true, false}
-use mathlib.Core.List.Memᴰ.{cases_cons as cases}
-use mathlib.Core.List.Memᴰ.{not-nil}
 use mathlib.Core.List.{List, [], ◌∷◌, ◌++◌, map, map-append, append-nil, append_assoc}
 use Prim.Native.Nat.{ℕ, zero, suc, ◌+◌, ◌*◌, ◌<◌, ◌≤◌}
-use native.Mathlib.Nat.{le_refl, le_trans, le_of_suc-le-suc, eq-or-lt_of_le}
+use native.Mathlib.Nat.{le_refl, le_trans, le_of_suc-le-suc, not-suc-le-zero, eq-or-lt_of_le}
 use native.Mathlib.Numerals.{add-one, add-two}
 use native.Mathlib.Omega.{arith}
 use lib.IntN.{ℤ, pos, negsuc}
 use lib.Ieee.{Float}
 use lib.ListN.{length, get_or, set, take, drop, length-append, length-drop, length-set}
 use lib.Seq.{length-take-le, take_all, take_at, take-suc-set, sets-eq}
+use Rattle.std.specs.Prelude.{Ok, Err}
 use Rattle.integer.specs.Checked.{pick}
+use Rattle.common.specs.declared.Refusal.{Refusal}
 use Rattle.grgrid.specs.Own.{is_place, own_places, own_points}
-use Rattle.grgrid.proofs.Lists.{◌∈◌}
 use Rattle.grgrid.proofs.Numbers.{own-more, own_same}
-use Rattle.bztable.specs.Reading.{Read, got, outside, ◌then◌}
+use Rattle.bztable.specs.Reading.{Read, got, ◌then◌}
 use Rattle.bz_triplets.specs.declared.choices.Step.{Step}
 use Rattle.bz_triplets.specs.declared.choices.Step.TheVariants as step
 use Rattle.bz_triplets.specs.declared.choices.Triplet.{Triplet}
 use Rattle.bz_triplets.specs.Choosing.{start, left, closed}
 use Rattle.bz_triplets.specs.BzTriplets.{State, read_each, places_of, mark_of, length_of, triplet_list, marks, lengths}
 use Rattle.bz_triplets.specs.TripletsView.{found_by, choice_of, state_of, step_place, Room}
-use Rattle.bz_triplets.proofs.Rising.{own-points}
 
 -- ---- the three places of a triplet, one after the other
 pub places-stored : (t : Triplet) (at : ℕ) (out : List ℤ) → at + 3 ≤ length out → {a b c : ℤ} → a ≡ step_place t.step t.x → b ≡ step_place t.step t.y → c ≡ step_place t.step t.z
@@ -45,31 +43,23 @@ module _ {A : Type 0} (f : ℕ → Read A) where
   each_append [] m = whole (read_each f m)
     where
       whole : (x : Read (List A)) → x ≡ (x then λ s. got s)
-      whole (got s) = refl
-      whole outside = refl
+      whole (Ok s) = refl
+      whole (Err e) = refl
   each_append (p ∷ l) m = ap (λ x. f p then λ a. x then λ r. got (a ∷ r)) (each_append l m) ∙ grouped (f p) (read_each f l) (read_each f m)
     where
       grouped : (x : Read A) (y z : Read (List A))
           → (x then λ a. (y then λ r. z then λ s. got (r ++ s)) then λ r. got (a ∷ r)) ≡ ((x then λ a. y then λ r. got (a ∷ r)) then λ r. z then λ s. got (r ++ s))
-      grouped outside y z = refl
-      grouped (got a) outside z = refl
-      grouped (got a) (got r) outside = refl
-      grouped (got a) (got r) (got s) = refl
+      grouped (Err e) y z = refl
+      grouped (Ok a) (Err e) z = refl
+      grouped (Ok a) (Ok r) (Err e) = refl
+      grouped (Ok a) (Ok r) (Ok s) = refl
 
   each_more : (l : List ℕ) (p : ℕ) {r : List A} {a : A} → read_each f l ≡ got r → f p ≡ got a → read_each f (l ++ (p ∷ [])) ≡ got (r ++ (a ∷ []))
   each_more l p e h = each_append l (p ∷ []) ∙ (λ i. e i then λ r. (h i then λ a. got (a ∷ [])) then λ s. got (r ++ s))
 
-  -- one outside, and all is outside
-  each-outside : (l : List ℕ) (p : ℕ) → p ∈ l → f p ≡ outside → outside ≡ read_each f l
-  each-outside [] p m h = absurd (not-nil m)
-  each-outside (x ∷ l) p m h =
-      ⊎_elim (λ e. sym (ap (λ y. y then λ a. read_each f l then λ r. got (a ∷ r)) (ap f (sym e) ∙ h)))
-      (λ k. lost (f x) ∙ ap (λ y. f x then λ a. y then λ r. got (a ∷ r)) (each-outside l p k h))
-      (cases m)
-    where
-      lost : (y : Read A) → outside ≡ (y then λ a. outside then λ r. got (a ∷ r))
-      lost (got a) = refl
-      lost outside = refl
+  -- the first that is refused, and all is refused
+  pub each-refused : (l : List ℕ) (p : ℕ) (m : List ℕ) {r : List A} {e : Refusal} → read_each f l ≡ got r → f p ≡ Err e → Err e ≡ read_each f (l ++ (p ∷ m))
+  each-refused l p m {e = e} g h = sym (each_append l (p ∷ m) ∙ (λ i. g i then λ r. (h i then λ a. read_each f m then λ r. got (a ∷ r)) then λ s. got (r ++ s)))
 
 -- ---- one more at the end of what was written
 taken : {A : Type 0} (out l rest : List A) (at : ℕ) → at ≤ length out → take (at + length l) (take at out ++ (l ++ rest)) ≡ take at out ++ l
@@ -188,6 +178,19 @@ module _ (f : ℕ → Read State) (classes : List ℤ) where
       pub filled-lengths : got measured ≡ (all then λ r. got (lengths r))
       filled-lengths = end lengths at measured (omega (arith, reached, d.room.lengths)) d.lengths
 
-  -- a triplet outside, and all is outside
-  pub filled-outside : {B : Type 0} (g : List State → Read B) (q : ℕ) → q < length classes → get_or classes q (pos 0) ≡ pos q → f q ≡ outside → outside ≡ (read_each f (own_points classes (length classes)) then g)
-  filled-outside g q h e r = ap (λ x. x then g) (each-outside f (own_points classes (length classes)) q ((own-points classes (length classes) q).1 (h, e)) r)
+  -- the points from one in its own class on
+  split : (n q : ℕ) → q < n → is_place (get_or classes q (pos 0)) q ≡ true → (m : List ℕ) × (own_points classes n ≡ own_points classes q ++ (q ∷ m))
+  split zero q h e = absurd (not-suc-le-zero h)
+  split (suc n) q h e = ⊎_elim (λ k. ([], ap (λ n. own_points classes (suc n)) (sym k) ∙ ap (own_points classes) (sym (add-one q)) ∙ next classes q true e)) (λ k. later (split n q k e)) (eq-or-lt_of_le (le_of_suc-le-suc h))
+    where
+      later : (m : List ℕ) × (own_points classes n ≡ own_points classes q ++ (q ∷ m)) → (m : List ℕ) × (own_points classes (suc n) ≡ own_points classes q ++ (q ∷ m))
+      later r =
+          let last = pick (is_place (get_or classes n (pos 0)) n) (n ∷ []) [] in
+          (r.0 ++ last, ap (λ l. l ++ last) r.1 ∙ append_assoc (own_points classes q) (q ∷ r.0) last)
+
+  -- a triplet that is refused, and all is refused
+  pub filled-refused : {q at : ℕ} {out marked : List ℤ} {measured : List Float} → Filled f classes q at out marked measured → {B : Type 0} (g : List State → Read B) → q < length classes → is_place (get_or classes q (pos 0)) q ≡ true
+      → {r : Refusal} → f q ≡ Err r → Err r ≡ (read_each f (own_points classes (length classes)) then g)
+  filled-refused {q} d g h e k =
+      let m = split (length classes) q h e in
+      ap (λ x. x then g) (each-refused f (own_points classes q) q m.0 d.read k ∙ ap (read_each f) (sym m.1))

@@ -2,7 +2,6 @@ pub mod Choosing
 pub mod Rising
 pub mod Sums
 pub mod Walking
-pub mod ImagePlaces
 pub mod ByClass
 pub mod Measured
 pub mod CallOutcome

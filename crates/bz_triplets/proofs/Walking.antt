@@ -1,17 +1,17 @@
 -- Counted walks over images: one step more, and a state that no step changes stays to the end. So do the three nested walks.
 use mathlib.Core.Path.{◌≡◌, refl, sym, ◌∙◌, ap, ap₂}
 use mathlib.Core.Logic.{⊎_elim}
-use mathlib.Core.Bool.{Bool, true, false, not, ◌&&◌, ◌||◌}
+use mathlib.Core.Bool.{true, false, true≢false}
 use mathlib.Core.List.{List, [], ◌∷◌, foldl}
 use Prim.Native.Nat.{ℕ, zero, suc, ◌+◌, ◌-◌, ◌<◌, ◌≤◌}
 use native.Mathlib.Nat.{le_antisymm, not-suc-le-zero, le_of_suc-le-suc, eq-or-lt_of_le}
 use native.Mathlib.Numerals.{add-one}
 use native.Mathlib.Omega.{arith}
-use lib.Dec.{T, ltb, lit<}
-use borrow.Author.Tests.{lt-ltb}
-use Rattle.integer.proofs.Test.{holds, fails}
+use lib.Dec.{lit<}
+use Rattle.std.specs.Prelude.{Err}
 use Rattle.common.specs.Matrix.{Vec}
-use Rattle.bztable.specs.Reading.{Read, got, inside}
+use Rattle.common.specs.declared.Refusal.{Refusal}
+use Rattle.bztable.specs.Reading.{Read, got}
 use Rattle.bzgrid.specs.Table.{listed}
 use Rattle.bzsearch.specs.Search.{numbers_from}
 use Rattle.bz_triplets.specs.declared.choices.Step.{Step}
@@ -19,7 +19,7 @@ use Rattle.bz_triplets.specs.declared.choices.Step.TheVariants as step
 use Rattle.bz_triplets.specs.declared.choices.Triplet.{Triplet}
 use Rattle.bz_triplets.specs.Choosing.{start, nested}
 use Rattle.bz_triplets.specs.BzTriplets.{State, Walk, try_at, place_in}
-use Rattle.bz_triplets.specs.TripletsView.{found_by, choice_of, triplet_view, is_closed, is_over, GoesOn, Open, TripletFits}
+use Rattle.bz_triplets.specs.TripletsView.{found_by, choice_of, state_of, is_closed, TripletFits}
 
 -- ---- one walk
 module _ {A S : Type 0} (f : S → A → S) where
@@ -80,45 +80,44 @@ module _ {X S : Type 0} (step : S → Vec X → S) where
     pub outer-stays : (y z : List X) (a : X) → outer y z s a ≡ s
     outer-stays y z a = stays (middle z a) (middle-stays z a) y
 
-  some : (n : ℕ) → ltb 0 (suc n) ≡ true
-  some n = lt-ltb 0 (suc n) (omega arith)
-
   -- where one of the three lists is empty
-  pub nothing : (g h k : ℕ → X) (a b c : ℕ) (s : S) → ltb 0 a && (ltb 0 b && ltb 0 c) ≡ false → s ≡ nested step s (record { x = listed g a; y = listed h b; z = listed k c })
-  nothing g h k zero b c s e = refl
-  nothing g h k (suc a) zero c s e = sym (stays (outer [] (listed k c)) (λ x. refl) (listed g (suc a)))
-  nothing g h k (suc a) (suc b) zero s e = sym (stays (outer (listed h (suc b)) []) (λ x. stays (middle [] x) (λ y. refl) (listed h (suc b))) (listed g (suc a)))
-  nothing g h k (suc a) (suc b) (suc c) s e = absurd (fails (sym (λ i. some a i && (some b i && some c i)) ∙ e))
+  module _ (g h k : ℕ → X) (a b c : ℕ) (s : S) where
+    abbrev walked : S
+    walked = nested step s (record { x = listed g a; y = listed h b; z = listed k c })
+
+    pub none-first : a ≡ 0 → s ≡ walked
+    none-first e = ap (λ a. nested step s (record { x = listed g a; y = listed h b; z = listed k c })) (sym e)
+
+    pub none-second : b ≡ 0 → s ≡ walked
+    none-second e = sym (ap (λ b. nested step s (record { x = listed g a; y = listed h b; z = listed k c })) e ∙ stays (outer [] (listed k c)) (λ x. refl) (listed g a))
+
+    pub none-third : c ≡ 0 → s ≡ walked
+    none-third e = sym (ap (λ c. nested step s (record { x = listed g a; y = listed h b; z = listed k c })) e ∙ stays (outer (listed h b) []) (λ x. stays (middle [] x) (λ y. refl) (listed h b)) (listed g a))
 
 -- ---- what was found
 module _ (w : Walk) where
-  over_by : (b : Bool) (s : Step) (c : Vec ℕ) → not b || is_closed s ≡ true → (p : Vec ℕ) → try_at w (inside b (found_by s c)) p ≡ inside b (found_by s c)
+  -- a closed triplet stays as it is
+  pub closed-stays : (t : Triplet) → is_closed t.step ≡ true → (p : Vec ℕ) → try_at w (got (state_of t)) p ≡ got (state_of t)
   unfolding try_at
-  over_by false s c e p = refl
-  over_by true step.Closed c e p = refl
-  over_by true step.Empty c e p = absurd (holds e)
-  over_by true (step.Left x) c e p = absurd (holds e)
+  closed-stays t e p = go t.step e
+    where
+      go : (s : Step) → is_closed s ≡ true → try_at w (got (found_by s (choice_of t))) p ≡ got (found_by s (choice_of t))
+      go step.Closed e = refl
+      go step.Empty e = absurd (true≢false (sym e))
+      go (step.Left x) e = absurd (true≢false (sym e))
 
-  -- what is over stays as it is
-  pub over-stays : (t : Triplet) → is_over t ≡ true → (p : Vec ℕ) → try_at w (triplet_view t) p ≡ triplet_view t
-  over-stays t e = over_by t.inside t.step (choice_of t) e
-
-pub not-over : (t : Triplet) → is_over t ≡ false → Open t
-not-over t e = let h = open_by t.inside t.step e in record { inside = h.0; on = h.1 }
-  where
-    open_by : (b : Bool) (s : Step) → not b || is_closed s ≡ false → T b × GoesOn s
-    open_by false s e = absurd (fails e)
-    open_by true step.Closed e = absurd (fails e)
-    open_by true step.Empty e = (tt, tt)
-    open_by true (step.Left x) e = (tt, tt)
+  -- so does a refusal
+  pub refusal-stays : (r : Refusal) (p : Vec ℕ) → try_at w (Err r) p ≡ Err r
+  unfolding try_at
+  refusal-stays r p = refl
 
 -- ---- the walk has reached s, goes on, and holds t
 pub record Reached (s : Read State) (t : Triplet) : Type 0 where
-  pub on : Open t
+  pub on : is_closed t.step ≡ false
   pub fits : TripletFits t
-  pub is : triplet_view t ≡ s
+  pub is : got (state_of t) ≡ s
 
-pub reached-here : {s : Read State} {t : Triplet} → Reached s t → Reached (triplet_view t) t
+pub reached-here : {s : Read State} {t : Triplet} → Reached s t → Reached (got (state_of t)) t
 reached-here v = record { on = v.on; fits = v.fits; is = refl }
 
 -- at the end of a walk inside turn k of another
@@ -129,10 +128,6 @@ module _ (f : Read State → ℕ → Read State) (g : ℕ → ℕ) (s : Read Sta
   pub reached-next : (k : ℕ) {r : Read State} {a : ℕ} {t : Triplet} → r ≡ foldl f s (listed g k) → a ≡ g k → Reached (f r a) t → Reached (foldl f s (listed g (k + 1))) t
   reached-next k e at v = record { on = v.on; fits = v.fits; is = turned f g s k v.is e at }
 
--- ---- before the first choice, or after a read outside
-module _ {t : Triplet} {b : Bool} (e : t ≡ record { step = step.Empty; x = 0; y = 0; z = 0; inside = b }) where
-  pub blank-fits : TripletFits t
-  blank-fits = rw e (record { x = lit< tt; y = lit< tt; z = lit< tt })
-
-pub blank-reached : {t : Triplet} → t ≡ record { step = step.Empty; x = 0; y = 0; z = 0; inside = true } → Reached (got start) t
-blank-reached e = record { on = rw e (record { inside = tt; on = tt }); fits = blank-fits e; is = ap triplet_view e }
+-- ---- before the first choice
+pub reached-none : Reached (got start) (record { step = step.Empty; x = 0; y = 0; z = 0 })
+reached-none = record { on = refl; fits = record { x = lit< tt; y = lit< tt; z = lit< tt }; is = refl }

@@ -57,10 +57,10 @@ try_read w s p =
 -- once a choice closes, nothing more is read
 unfoldable pub try_at : Walk → Read State → Vec ℕ → Read State
 unfolding squared_distance
-try_at w (got start) p = try_read w start p
-try_at w (got (left x c)) p = try_read w (left x c) p
-try_at w (got (closed c)) p = got (closed c)
-try_at w outside p = outside
+try_at w (Ok start) p = try_read w start p
+try_at w (Ok (left x c)) p = try_read w (left x c) p
+try_at w (Ok (closed c)) p = got (closed c)
+try_at w (Err r) p = Err r
 
 -- ---- the places of the images of point p, one of n, in their order
 abbrev pub place_in : (first others : ℕ) → ℕ → ℕ
@@ -156,10 +156,6 @@ module _ (q0 : ℤ) (addresses map classes d : List ℤ) (q : List (List ℤ)) (
   unfolding triplet_of lqd_inv
   triplets_read = address_of addresses q0 then λ a0. read_each (triplet_at a0) (own_points classes (length classes))
 
-abbrev pub answer_for : Tested → Tested
-answer_for (Ok _) = Accepted
-answer_for (Err r) = Err r
-
 -- an output of lengths
 abbrev pub lengths_for : Tested → ℕ → List Float → List Float
 lengths_for (Ok _) n l = l
@@ -179,7 +175,7 @@ module _ (q0 : ℤ) (addresses map classes d : List ℤ) (q : List (List ℤ)) (
 
   unfoldable pub bz_triplets_answer : Tested
   unfolding bz_triplet_tests
-  bz_triplets_answer = answer_for tests
+  bz_triplets_answer = tests
 
   unfoldable pub triplets_written : List ℤ
   unfolding bz_triplet_tests triplets_read

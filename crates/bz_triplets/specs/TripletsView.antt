@@ -1,5 +1,5 @@
 -- What the records of the triplet call stand for, and the sizes that it relies on.
-use Rattle.std.specs.Prelude.{◌≡◌, Bool, true, false, not, ◌||◌, List, ℕ, ◌+◌, ◌*◌, ◌<◌, T, ℤ, pos, negsuc, length, Float}
+use Rattle.std.specs.Prelude.{◌≡◌, Bool, true, false, List, ℕ, ◌+◌, ◌*◌, ◌<◌, ℤ, pos, negsuc, length, Float}
 use Rattle.std.specs.Float.{binary64}
 use Rattle.std.specs.Float.Ieee.{sub, div, lt}
 use Rattle.common.specs.Matrix.{Vec, side, vector}
@@ -8,13 +8,12 @@ use Rattle.common.specs.FloatMatrix.{float_vector}
 use Rattle.grgrid.specs.Own.{own_places}
 use Rattle.bzsearch.specs.SearchView.{float_nine}
 use Rattle.bzgrid.specs.Table.{listed}
-use Rattle.bztable.specs.Reading.{Read, got, inside, ◌then◌, place_at}
+use Rattle.bztable.specs.Reading.{Read, got, ◌then◌}
 use Rattle.bz_triplets.specs.declared.choices.Step.{Step}
 use Rattle.bz_triplets.specs.declared.choices.Step.TheVariants as step
 use Rattle.bz_triplets.specs.declared.choices.Triplet.{Triplet}
 use Rattle.bz_triplets.specs.declared.choices.Places.{Places}
 use Rattle.bz_triplets.specs.declared.choices.Measure.{Measure}
-use Rattle.bz_triplets.specs.declared.classes.Bounds.{Bounds}
 use Rattle.bz_triplets.specs.Choosing.{start, left, closed}
 use Rattle.bz_triplets.specs.BzTriplets.{State, Walk, place_in}
 
@@ -33,21 +32,14 @@ choice_of t = record { x = t.x; y = t.y; z = t.z }
 abbrev pub state_of : Triplet → State
 state_of t = found_by t.step (choice_of t)
 
-abbrev pub triplet_view : Triplet → Read State
-triplet_view t = inside t.inside (state_of t)
+abbrev pub state_read : Read Triplet → Read State
+state_read r = r then λ t. got (state_of t)
 
 abbrev pub places_in : Places → List ℕ
 places_in r = listed (place_in r.first r.others) r.count
 
-abbrev pub places_view : Places → Read (List ℕ)
-places_view r = inside r.inside (places_in r)
-
--- two numbers of a map that bound a range
-abbrev pub bounds_at : List ℤ → ℕ → Read (ℕ × ℕ)
-bounds_at map k = place_at map k then λ s. place_at map (k + 1) then λ e. got (s, e)
-
-abbrev pub bounds_view : Bounds → Read (ℕ × ℕ)
-bounds_view b = inside b.inside (b.from, b.to)
+abbrev pub places_listed : Read Places → Read (List ℕ)
+places_listed r = r then λ p. got (places_in p)
 
 abbrev pub walk_by : Measure → List ℤ → Walk
 walk_by m addresses = record { lqd = float_nine m.lqd; tolerance = m.tolerance; addresses = addresses }
@@ -62,19 +54,6 @@ abbrev pub is_closed : Step → Bool
 is_closed step.Empty = false
 is_closed (step.Left x) = false
 is_closed step.Closed = true
-
-abbrev pub is_over : Triplet → Bool
-is_over t = not t.inside || is_closed t.step
-
--- the walk goes on
-abbrev pub GoesOn : Step → Type 0
-GoesOn step.Empty = Unit
-GoesOn (step.Left x) = Unit
-GoesOn step.Closed = ⊥
-
-pub record Open (t : Triplet) : Type 0 where
-  pub inside : T t.inside
-  pub on : GoesOn t.step
 
 -- places that fit 63 bits
 pub record PlacesFit (r : Places) : Type 0 where

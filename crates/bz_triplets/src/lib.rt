@@ -4,9 +4,7 @@
 mod choices;
 mod classes;
 
-ghost use Rattle.std.specs.Prelude.{◌≡◌, ◌&&◌, ◌||◌, [], ◌*◌, T, eqb, pos, negsuc, nat_abs, length, replicate, Err};
-ghost use Rattle.std.specs.Float.{binary64};
-ghost use Rattle.std.specs.Float.Ieee.{of_int};
+ghost use Rattle.std.specs.Prelude.{◌≡◌, ◌&&◌, ◌||◌, [], ◌*◌, T, eqb, pos, nat_abs, length, replicate};
 ghost use Rattle.std.specs.Int.Signed.{non_neg};
 ghost use Rattle.common.specs.Tested.{Accepted};
 ghost use Rattle.common.specs.Matrix.{entries};
@@ -23,6 +21,7 @@ ghost use Rattle.bz_triplets.specs.TripletsView.{row_over};
 
 use bzgrid::GridType;
 use bztable::reading;
+use bztable::reading::Table;
 use choices::Measure;
 pub use choices::Step;
 use common::Refusal;
@@ -61,24 +60,16 @@ fn measure_of(lattice: [[f64; 3]; 3], q: [[i64; 3]; 3], d: [i64; 3]) -> Measure
 fn lengths_fit(addresses: &[i64], own: usize, triplets: usize, left: usize, lengths: usize) -> bool
     ensures { result ≡ whole_addresses addresses.now && (eqb triplets (own * 3) && (eqb left own && eqb lengths own)) }
 {
-    if !reading::whole_addresses(addresses) {
-        return false;
-    }
-    common::all_three(
-        common::is_thrice(triplets, own),
-        left == own,
-        lengths == own,
-    )
+    reading::whole_addresses(addresses)
+        && common::is_thrice(triplets, own)
+        && left == own
+        && lengths == own
 }
 
 fn limits_fit(d: [i64; 3], q: [[i64; 3]; 3], lattice: [[f64; 3]; 3]) -> bool
     ensures { result ≡ diagonal_fits d && (matrix_within 1000 (matrix_of q) && lattice_fits (float_matrix lattice)) }
 {
-    common::all_three(
-        common::diagonal_fits(d),
-        common::matrix_within(q, 1000),
-        bzsearch::lattice_fits(lattice),
-    )
+    common::diagonal_fits(d) && common::matrix_within(q, 1000) && bzsearch::lattice_fits(lattice)
 }
 
 // Type 2 has q0 by an image, whose index may be anything.
@@ -86,10 +77,7 @@ fn point_fits(t: GridType, q0: i64, d: [i64; 3]) -> bool
     requires { T (diagonal_fits d) }
     ensures { result ≡ is_dense t || point_fits q0 (pos (size (sides_of d))) }
 {
-    if is_dense(t) {
-        return true;
-    }
-    common::point_fits(q0, grgrid::points(grgrid::grid_of(d)) as i64)
+    is_dense(t) || common::point_fits(q0, grgrid::points(grgrid::grid_of(d)) as i64)
 }
 
 fn is_dense(t: GridType) -> bool
@@ -102,6 +90,7 @@ fn is_dense(t: GridType) -> bool
     }
 }
 
+#[tactic(auto, unfolding(crate::specs::BzTriplets::input_tests))]
 fn input_tests(
     q0: i64,
     addresses: &[i64],
@@ -169,57 +158,43 @@ fn triplet_tests(
     ensures left_after { result ≡ Accepted → left.new ≡ marks (list_of (triplets_read q0 addresses.now map.now class_map.now d q lattice t)) }
     ensures left_length_after { result ≡ Accepted → left_length.new ≡ lengths (list_of (triplets_read q0 addresses.now map.now class_map.now d q lattice t)) }
 {
-    let n = out.len();
-    let m = left.len();
-    let l = left_length.len();
-    if let Err(r) = input_tests(q0, addresses, class_map, d, q, lattice, t, n, m, l) {
-        return Err(r);
-    }
-    let b = reading::address_of(addresses, q0);
-    if !b.inside {
-        return Err(Refusal::OutsideTable);
-    }
-    let a0 = b.numbers;
+    input_tests(
+        q0,
+        addresses,
+        class_map,
+        d,
+        q,
+        lattice,
+        t,
+        out.len(),
+        left.len(),
+        left_length.len(),
+    )?;
     let g = grgrid::grid_of(d);
-    if classes::fill_triplets(
+    let table = Table {
         t,
         g,
+        addresses,
+        map,
+    };
+    let a0 = table.address_of(q0)?;
+    classes::fill_triplets(
+        &table,
         a0,
         point_of(t, g, q0, a0),
         measure_of(lattice, q, d),
-        addresses,
-        map,
         class_map,
         out,
         left,
         left_length,
-    ) {
-        return Ok(());
-    }
-    Err(Refusal::OutsideTable)
+    )
 }
 
 // As `common::fill`, of lengths.
 pub fn fill_lengths(out: &mut [f64], v: f64)
     ensures { out.new ≡ replicate (length out.old) v }
 {
-    let mut i = 0;
-    while i < out.len() {
-        out[i] = v;
-        i += 1;
-    }
-}
-
-fn refuse(r: Refusal, out: &mut [i64], left: &mut [i64], left_length: &mut [f64]) -> Result<(), Refusal>
-    ensures value { result ≡ Err r }
-    ensures out_after { out.new ≡ replicate (length out.old) (negsuc 0) }
-    ensures left_after { left.new ≡ replicate (length left.old) (negsuc 0) }
-    ensures left_length_after { left_length.new ≡ replicate (length left_length.old) (of_int binary64 (negsuc 0)) }
-{
-    common::fill(out, -1);
-    common::fill(left, -1);
-    fill_lengths(left_length, -1.0);
-    Err(r)
+    out.fill(v);
 }
 
 // A triplet of images (q0, q1, q2) with q0 + q1 + q2 = G for each class: `class_map` has the classes that `ir_triplets_at_q` left. Beside it stands whether its
@@ -243,7 +218,7 @@ pub fn bz_triplets_at_q(
     ensures left_length_after { left_length.new ≡ left_length_written q0 addresses.now map.now class_map.now d q lattice bz_grid_type (length out.old) (length left.old) (length left_length.old) }
 {
     let t = bzgrid::grid_type(bz_grid_type);
-    match triplet_tests(
+    let answer = triplet_tests(
         q0,
         addresses,
         map,
@@ -255,8 +230,11 @@ pub fn bz_triplets_at_q(
         &mut *out,
         &mut *left,
         &mut *left_length,
-    ) {
-        Ok(()) => Ok(()),
-        Err(r) => refuse(r, out, left, left_length),
+    );
+    if answer.is_err() {
+        common::fill(out, -1);
+        common::fill(left, -1);
+        fill_lengths(left_length, -1.0);
     }
+    answer
 }

@@ -1,60 +1,77 @@
 -- The walk that looks for an address: what it finds from place i on, below `to`.
-use mathlib.Core.Path.{◌≡◌, sym, ◌∙◌, ap}
-use mathlib.Core.Bool.{true, false, not}
-use mathlib.Core.List.{List}
-use Prim.Native.Nat.{ℕ, zero, suc, ◌+◌, ◌-◌, ◌<◌, ◌≤◌}
-use native.Mathlib.Nat.{lt_of_lt_of_le}
+use mathlib.Core.Path.{◌≡◌, refl, sym, ◌∙◌, ap}
+use mathlib.Core.Bool.{Bool, true, false, ◌&&◌}
+use mathlib.Core.List.{List, [], ◌∷◌}
+use Prim.Native.Nat.{ℕ, suc, ◌+◌, ◌*◌, ◌-◌, ◌<◌}
 use native.Mathlib.Numerals.{add-one}
 use native.Mathlib.Omega.{arith}
 use lib.IntN.{ℤ}
+use lib.ListN.{length}
+use lib.Pointwise.{pointwise}
+use Rattle.std.specs.Prelude.{Option, Some, Err}
+use Rattle.std.specs.Ordering.{int_eq}
+use Rattle.std.proofs.lemmas.Bool.Decides.{same_from_decides, Decides-int_eq}
 use Rattle.integer.specs.Checked.{pick}
+use Rattle.integer.specs.Same.{same}
+use Rattle.integer.proofs.Same.{same-eq, same_refl}
+use Rattle.integer.proofs.Test.{holds, is_true}
 use Rattle.common.specs.Matrix.{Vec, same_vector}
 use Rattle.common.specs.Array.{vector_of}
-use Rattle.bztable.specs.declared.reading.Address.{Address}
-use Rattle.bztable.specs.declared.reading.Found as code-found
-use Rattle.bztable.specs.declared.reading.Found.TheVariants as code-found-at
-use Rattle.bztable.specs.Reading.{Read, got, outside, inside, ◌then◌, Found, here, nowhere, address_at, find}
-use Rattle.bztable.specs.ReadingView.{address_view, FoundBelow}
-use Rattle.bztable.proofs.Inside.{view-failed, view-right}
+use Rattle.common.specs.declared.Refusal.{Refusal}
+use Rattle.bzgrid.specs.declared.GridType.TheVariants.{Sparse}
+use Rattle.bztable.specs.Reading.{Read, got, ◌then◌, address_at, find}
+use Rattle.bztable.specs.Rotate.{among_range, among_images}
 
--- ---- an address that was read, by the code's test
-module _ (r : Address) {x : Read (Vec ℤ)} (e : address_view r ≡ x) where
-  pub read-failed : not r.inside ≡ true → x ≡ outside
-  read-failed h = view-failed r.inside (vector_of r.numbers) e h
+-- ---- `==` of two addresses
+same_numbers : (x y : ℤ) → int_eq x y ≡ same x y
+same_numbers x y = same_from_decides (int_eq x y) (same x y) (Decides-int_eq x y) (λ e. same-eq x y (holds e), λ e. is_true (same x y) (rw e (same_refl y)))
 
-  pub read_right : not r.inside ≡ false → x ≡ got (vector_of r.numbers)
-  read_right h = view-right r.inside (vector_of r.numbers) e h
+three : (x y : List ℤ) → length x ≡ 3 → length y ≡ 3 → pointwise int_eq x y ≡ same_vector (vector_of x) (vector_of y)
+three (x ∷ y ∷ z ∷ []) (p ∷ q ∷ r ∷ []) m n = λ i. same_numbers x p i && (same_numbers y q i && ((ap (λ t. t && true) (same_numbers z r)) ∙ last (same z r)) i)
+  where
+    last : (b : Bool) → b && true ≡ b
+    last true = refl
+    last false = refl
+three [] b m n = absurd (omega (arith, m))
+three (x ∷ []) b m n = absurd (omega (arith, m))
+three (x ∷ y ∷ []) b m n = absurd (omega (arith, m))
+three (x ∷ y ∷ z ∷ w ∷ a) b m n = absurd (omega (arith, m))
+three (x ∷ y ∷ z ∷ []) [] m n = absurd (omega (arith, n))
+three (x ∷ y ∷ z ∷ []) (p ∷ []) m n = absurd (omega (arith, n))
+three (x ∷ y ∷ z ∷ []) (p ∷ q ∷ []) m n = absurd (omega (arith, n))
+three (x ∷ y ∷ z ∷ []) (p ∷ q ∷ r ∷ s ∷ b) m n = absurd (omega (arith, n))
 
--- ---- a place that was found, below a higher bound
-pub found_below : {j k : ℕ} (r : code-found.Found) → j ≤ k → FoundBelow j r → FoundBelow k r
-found_below (code-found-at.At n) h f = lt_of_lt_of_le f h
-found_below code-found-at.Nowhere h f = tt
-found_below code-found-at.Outside h f = tt
+pub same-rows : (x y : List ℤ) → length x ≡ 3 → length y ≡ 3 → {t : Bool} → t ≡ pointwise int_eq x y → {s : Bool} → t ≡ s → same_vector (vector_of x) (vector_of y) ≡ s
+same-rows x y m n e f = sym (three x y m n) ∙ sym e ∙ f
 
 -- ---- a turn
-module _ (l : List ℤ) (a : Vec ℤ) (i to : ℕ) where
-  module _ (h : i < to) where
-    abbrev on : Vec ℤ → Read Found
-    on b = pick (same_vector b a) (got (here i)) (find l a (i + 1) (to - (i + 1)))
+module _ (l : List ℤ) (a : Vec ℤ) (i to : ℕ) (h : i < to) where
+  abbrev on : Vec ℤ → Read (Option ℕ)
+  on b = pick (same_vector b a) (got (Some i)) (find l a (i + 1) (to - (i + 1)))
 
-    step : {x : Read (Vec ℤ)} → address_at l i ≡ x → find l a i (to - i) ≡ (x then on)
-    step e = ap (find l a i) (more i to h) ∙ ap (λ j. address_at l i then λ b. pick (same_vector b a) (got (here i)) (find l a j (to - (i + 1)))) (sym (add-one i)) ∙ ap (λ x. x then on) e
-      where
-        more : (i to : ℕ) → i < to → to - i ≡ suc (to - (i + 1))
-        more i to h = omega arith
-
-    pub find-outside : address_at l i ≡ outside → find l a i (to - i) ≡ outside
-    find-outside e = step e
-
-    module _ (b : Vec ℤ) (e : address_at l i ≡ got b) where
-      pub find-here : same_vector b a ≡ true → find l a i (to - i) ≡ got (here i)
-      find-here t = step e ∙ ap (λ t. pick t (got (here i)) (find l a (i + 1) (to - (i + 1)))) t
-
-      pub find-on : same_vector b a ≡ false → find l a i (to - i) ≡ find l a (i + 1) (to - (i + 1))
-      find-on t = step e ∙ ap (λ t. pick t (got (here i)) (find l a (i + 1) (to - (i + 1)))) t
-
-  pub find-end : to ≤ i → find l a i (to - i) ≡ got nowhere
-  find-end h = ap (find l a i) (none i to h)
+  turn : {x : Read (Vec ℤ)} → x ≡ address_at l i → (x then on) ≡ find l a i (to - i)
+  turn e = ap (λ x. x then on) e ∙ sym (ap (find l a i) (more i to h) ∙ ap (λ j. address_at l i then λ b. pick (same_vector b a) (got (Some i)) (find l a j (to - (i + 1)))) (sym (add-one i)))
     where
-      none : (i to : ℕ) → to ≤ i → to - i ≡ zero
-      none i to h = omega arith
+      more : (i to : ℕ) → i < to → to - i ≡ suc (to - (i + 1))
+      more i to h = omega arith
+
+  pub find-outside : {r : Refusal} → Err r ≡ address_at l i → Err r ≡ find l a i (to - i)
+  find-outside e = turn e
+
+  module _ {b : Vec ℤ} (e : got b ≡ address_at l i) where
+    pub find-here : same_vector b a ≡ true → got (Some i) ≡ find l a i (to - i)
+    find-here t = ap (λ t. pick t (got (Some i)) (find l a (i + 1) (to - (i + 1)))) (sym t) ∙ turn e
+
+    pub find-on : same_vector b a ≡ false → find l a (i + 1) (to - (i + 1)) ≡ find l a i (to - i)
+    find-on t = ap (λ t. pick t (got (Some i)) (find l a (i + 1) (to - (i + 1)))) (sym t) ∙ turn e
+
+-- ---- a sparse table's point p, one of n, whose first image is at its own place
+module _ (l m : List ℤ) (a : Vec ℤ) (p n : ℕ) {b : Vec ℤ} (e : got b ≡ address_at l p) where
+  abbrev from_first : Vec ℤ → Read (Option ℕ)
+  from_first b = pick (same_vector b a) (got (Some p)) (among_range l m a (8 * n + p) n)
+
+  pub first-here : same_vector b a ≡ true → got (Some p) ≡ among_images l m a Sparse p n
+  first-here t = ap (λ t. pick t (got (Some p)) (among_range l m a (8 * n + p) n)) (sym t) ∙ ap (λ x. x then from_first) e
+
+  pub first-on : same_vector b a ≡ false → among_range l m a (8 * n + p) n ≡ among_images l m a Sparse p n
+  first-on t = ap (λ t. pick t (got (Some p)) (among_range l m a (8 * n + p) n)) (sym t) ∙ ap (λ x. x then from_first) e

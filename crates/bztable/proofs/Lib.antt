@@ -3,9 +3,7 @@ pub mod ImageTable
 pub mod DoubledMesh
 pub mod AcceptedCall
 pub mod CallBounds
-pub mod Inside
 pub mod Finding
 pub mod Turning
-pub mod Nearby
 pub mod NeighbourRows
 pub mod NeighbourCall

@@ -1,5 +1,5 @@
 -- `neighboring_grid_points_many`: the tests, the walk over points and offsets, the answer and the output, which has n places.
-use Rattle.std.specs.Prelude.{◌||◌, List, [], ◌∷◌, ◌++◌, ℕ, zero, suc, ◌+◌, ◌*◌, ◌-◌, ◌/◌, ltb, eqb, ℤ, pos, ◌+ℤ◌, length, get_or, Ok, Err}
+use Rattle.std.specs.Prelude.{◌||◌, List, [], ◌∷◌, ◌++◌, ℕ, zero, suc, ◌+◌, ◌*◌, ◌-◌, ◌/◌, ltb, eqb, ℤ, pos, ◌+ℤ◌, length, get_or, unwrap_or}
 use Rattle.integer.specs.Checked.{pick}
 use Rattle.common.specs.Matrix.{Vec, side, vector}
 use Rattle.common.specs.Array.{sides_of}
@@ -11,14 +11,10 @@ use Rattle.bzgrid.specs.declared.GridType.{GridType}
 use Rattle.bzgrid.specs.declared.GridType.TheVariants.{Sparse, Dense, Unknown}
 use Rattle.bzgrid.specs.Table.{doubled, empty}
 use Rattle.bzgrid.specs.BzGridAddresses.{grid_type_of, is_known}
-use Rattle.bztable.specs.Reading.{Read, got, outside, ◌then◌, Found, here, nowhere, whole_addresses, triple_at, address_of, place_at, find, tests_after, list_of}
+use Rattle.bztable.specs.Reading.{Read, got, outside, ◌then◌, whole_addresses, triple_at, address_of, place_at, find, tests_after, list_of}
 
 abbrev pub moved : Vec ℤ → Vec ℤ → Vec ℤ
 moved a o = vector (λ k. side a k +ℤ side o k)
-
-abbrev pub found_or : ℕ → Found → ℕ
-found_or lo (here i) = i
-found_or lo nowhere = lo
 
 -- ---- the image at address b
 -- type 1: the point itself where the doubled mesh holds 8 N: an empty place, or image 8 N, which is taken for one
@@ -27,7 +23,7 @@ sparse_neighbour d map b = place_at map (index (doubled d) b) then λ i. got (pi
 
 -- of several images the one at b, or else the first
 abbrev pub image_among : List ℤ → Vec ℤ → (lo hi : ℕ) → Read ℕ
-image_among addresses b lo hi = pick (ltb 1 (hi - lo)) (find addresses b lo (hi - lo) then λ f. got (found_or lo f)) (got lo)
+image_among addresses b lo hi = pick (ltb 1 (hi - lo)) (find addresses b lo (hi - lo) then λ f. got (unwrap_or f lo)) (got lo)
 
 -- type 2
 abbrev pub dense_neighbour : Vec ℕ → (addresses map : List ℤ) → Vec ℤ → Read ℕ
@@ -65,10 +61,6 @@ abbrev pub read_for : ℕ → Read (List ℤ) → Read (List ℤ)
 read_for zero r = got []
 read_for (suc n) r = r
 
-abbrev pub answer_for : Tested → Tested
-answer_for (Ok _) = Accepted
-answer_for (Err r) = Err r
-
 unfoldable pub input_tests : ℕ → (offsets addresses d : List ℤ) → GridType → ℕ → Tested
 input_tests points offsets addresses d t n =
     require (whole_addresses offsets) WrongLength
@@ -90,7 +82,7 @@ module _ (points offsets addresses map d : List ℤ) (t : GridType) (n : ℕ) wh
 module _ (points offsets addresses map d : List ℤ) (t : ℤ) (n : ℕ) where
   unfoldable pub neighbours_answer : Tested
   unfolding neighbour_tests
-  neighbours_answer = answer_for (neighbour_tests points offsets addresses map d (grid_type_of t) n)
+  neighbours_answer = neighbour_tests points offsets addresses map d (grid_type_of t) n
 
   unfoldable pub neighbours_written : List ℤ
   unfolding neighbour_tests neighbours_read

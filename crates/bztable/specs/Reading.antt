@@ -1,20 +1,26 @@
 -- How an image table is read. It may hold anything: a read is inside the slice and the limits, or `outside`, which is refusal 14.
-use Rattle.std.specs.Prelude.{Bool, true, false, ◌&&◌, List, [], ℕ, zero, suc, ◌*◌, ◌/◌, ◌%◌, ltb, leb, eqb, ℤ, pos, negsuc, length, get_or, Ok, Err}
+use Rattle.std.specs.Prelude.{Bool, true, false, ◌&&◌, List, [], ℕ, zero, suc, ◌*◌, ◌/◌, ◌%◌, ltb, leb, eqb, ℤ, pos, negsuc, length, get_or, Option, Some, None, Result, Ok, Err}
 use Rattle.common.specs.Tested.{Tested, Accepted}
+use Rattle.common.specs.declared.Refusal.{Refusal}
 use Rattle.integer.specs.Checked.{pick}
 use Rattle.common.specs.Matrix.{Vec, side, all_axes, same_vector}
 use Rattle.common.specs.Array.{vector_of, row_at}
 use Rattle.common.specs.Limits.{within}
 use Rattle.common.specs.declared.Refusal.TheVariants.{OutsideTable}
 
-pub data Read (A : Type 0) : Type 0 where
-  got : A → Read A
-  outside : Read A
+abbrev pub Read : Type 0 → Type 0
+Read A = Result A Refusal
+
+abbrev pub got : {A : Type 0} → A → Read A
+got a = Ok a
+
+abbrev pub outside : {A : Type 0} → Read A
+outside = Err OutsideTable
 
 infixl 1 ◌then◌
 abbrev pub ◌then◌ : {A B : Type 0} → Read A → (A → Read B) → Read B
-got a then f = f a
-outside then f = outside
+(Ok a) then f = f a
+(Err r) then f = Err r
 
 abbrev pub inside : {A : Type 0} → Bool → A → Read A
 inside true a = got a
@@ -22,14 +28,12 @@ inside false a = outside
 
 -- the tests of a call that then reads
 abbrev pub tests_after : {A : Type 0} → Tested → Read A → Tested
-tests_after (Ok _) (got l) = Accepted
-tests_after (Ok _) outside = Err OutsideTable
-tests_after (Err r) l = Err r
+tests_after t r = t then λ _. r then λ _. Accepted
 
 -- what was read
 abbrev pub list_of : {A : Type 0} → Read (List A) → List A
-list_of (got l) = l
-list_of outside = []
+list_of (Ok l) = l
+list_of (Err r) = []
 
 -- ---- addresses, three numbers each
 abbrev pub whole_addresses : List ℤ → Bool
@@ -41,6 +45,10 @@ triple_at l i = vector_of (row_at l (3 * i))
 -- each number within 10^13
 abbrev pub near : Vec ℤ → Bool
 near a = all_axes (λ k. within 10000000000000 (side a k))
+
+-- as the code holds one
+abbrev pub vector_read : Read (List ℤ) → Read (Vec ℤ)
+vector_read r = r then λ a. got (vector_of a)
 
 abbrev pub address_at : List ℤ → ℕ → Read (Vec ℤ)
 address_at l i = inside (ltb i (length l / 3) && near (triple_at l i)) (triple_at l i)
@@ -58,12 +66,7 @@ place_of (negsuc n) = outside
 abbrev pub place_at : List ℤ → ℕ → Read ℕ
 place_at map i = inside (ltb i (length map)) (get_or map i (pos 0)) then place_of
 
--- ---- where an address stands
-pub data Found : Type 0 where
-  here : ℕ → Found
-  nowhere : Found
-
--- the first of the n places from i on that holds address a
-abbrev pub find : List ℤ → Vec ℤ → ℕ → ℕ → Read Found
-find l a i zero = got nowhere
-find l a i (suc n) = address_at l i then λ b. pick (same_vector b a) (got (here i)) (find l a (suc i) n)
+-- ---- the first of the n places from i on that holds address a
+abbrev pub find : List ℤ → Vec ℤ → ℕ → ℕ → Read (Option ℕ)
+find l a i zero = got None
+find l a i (suc n) = address_at l i then λ b. pick (same_vector b a) (got (Some i)) (find l a (suc i) n)

@@ -1,18 +1,18 @@
 -- `rotate_bz_grid_index`: the tests, the walk and the answer.
-use Rattle.std.specs.Prelude.{◌&&◌, List, ℕ, ◌+◌, ◌*◌, ◌-◌, ℤ, pos, Ok, Err}
+use Rattle.std.specs.Prelude.{◌&&◌, List, ℕ, ◌+◌, ◌*◌, ◌-◌, ℤ, pos, Option, Some, None}
 use Rattle.integer.specs.Checked.{pick}
 use Rattle.common.specs.Matrix.{Vec, Mat, ◌▹◌, same_vector}
 use Rattle.common.specs.Array.{vector_of, sides_of, matrix_of}
 use Rattle.common.specs.Limits.{matrix_within, diagonal_fits, shift_fits}
 use Rattle.common.specs.Tested.{require, Tested, Accepted}
-use Rattle.common.specs.declared.Refusal.TheVariants.{OutsideLimits, BadGridType, WrongLength, OutsideTable}
+use Rattle.common.specs.declared.Refusal.TheVariants.{OutsideLimits, BadGridType, WrongLength}
 use Rattle.grgrid.specs.Grid.{size, index, double, halve}
 use Rattle.bzgrid.specs.declared.GridType.{GridType}
 use Rattle.bzgrid.specs.declared.GridType.TheVariants.{Sparse, Dense, Unknown}
 use Rattle.bztable.specs.declared.rotate.Rotated.{Rotated}
-use Rattle.bztable.specs.declared.rotate.Rotated.TheVariants.{Image, Fallback, Refused}
+use Rattle.bztable.specs.declared.rotate.Rotated.TheVariants.{Image, Fallback}
 use Rattle.bzgrid.specs.BzGridAddresses.{grid_type_of, is_known}
-use Rattle.bztable.specs.Reading.{Read, got, outside, ◌then◌, Found, here, nowhere, whole_addresses, address_at, address_of, place_at, find}
+use Rattle.bztable.specs.Reading.{Read, got, outside, ◌then◌, whole_addresses, address_at, address_of, place_at, find}
 
 -- double, rotate, halve toward zero
 abbrev pub turned : Mat ℤ → Vec ℤ → Vec ℤ → Vec ℤ
@@ -21,32 +21,24 @@ turned m ps a = halve (m ▹ double a ps) ps
 -- ---- where address a stands among the images of point p, one of n
 module _ (addresses map : List ℤ) (a : Vec ℤ) where
   -- among those whose places, counted from `first` on, the map bounds at k and k + 1
-  abbrev pub among_range : (k first : ℕ) → Read Found
+  abbrev pub among_range : (k first : ℕ) → Read (Option ℕ)
   among_range k first = place_at map k then λ s. place_at map (k + 1) then λ e. find addresses a (s + first) (e - s)
 
   -- a sparse table has the first image at place p, and the counts of the others after the doubled mesh
-  abbrev pub among_images : GridType → (p n : ℕ) → Read Found
-  among_images Sparse p n = address_at addresses p then λ b. pick (same_vector b a) (got (here p)) (among_range (8 * n + p) n)
+  abbrev pub among_images : GridType → (p n : ℕ) → Read (Option ℕ)
+  among_images Sparse p n = address_at addresses p then λ b. pick (same_vector b a) (got (Some p)) (among_range (8 * n + p) n)
   among_images Dense p n = among_range p 0
   among_images Unknown p n = outside
 
 -- the image, or else what the map holds at the point: its first image (type 2), or whatever the doubled mesh has there (type 1)
-abbrev pub image_or : Read ℕ → Found → Read Rotated
-image_or fallback (here i) = got (Image (pos i))
-image_or fallback nowhere = fallback then λ i. got (Fallback (pos i))
+abbrev pub image_or : Read ℕ → Option ℕ → Read Rotated
+image_or fallback (Some i) = got (Image (pos i))
+image_or fallback None = fallback then λ i. got (Fallback (pos i))
 
 abbrev pub image_of : GridType → Vec ℕ → List ℤ → List ℤ → Vec ℤ → Read Rotated
 image_of t d addresses map a = among_images addresses map a t (index d a) (size d) then image_or (place_at map (index d a))
 
 -- ---- the call
-abbrev pub told : Read Rotated → Rotated
-told (got r) = r
-told outside = Refused OutsideTable
-
-abbrev pub answer_after : Tested → Read Rotated → Rotated
-answer_after (Ok _) r = told r
-answer_after (Err n) r = Refused n
-
 unfoldable pub rotate_tests : List (List ℤ) → (addresses d ps : List ℤ) → GridType → Tested
 rotate_tests rotation addresses d ps t =
     require (whole_addresses addresses) WrongLength
@@ -57,6 +49,6 @@ unfoldable pub rotate_read : ℤ → List (List ℤ) → (addresses map d ps : L
 unfolding index
 rotate_read i rotation addresses map d ps t = address_of addresses i then λ b. image_of t (sides_of d) addresses map (turned (matrix_of rotation) (vector_of ps) b)
 
-unfoldable pub rotate_answer : ℤ → List (List ℤ) → (addresses map d ps : List ℤ) → ℤ → Rotated
+unfoldable pub rotate_answer : ℤ → List (List ℤ) → (addresses map d ps : List ℤ) → ℤ → Read Rotated
 unfolding rotate_tests rotate_read
-rotate_answer i rotation addresses map d ps t = answer_after (rotate_tests rotation addresses d ps (grid_type_of t)) (rotate_read i rotation addresses map d ps (grid_type_of t))
+rotate_answer i rotation addresses map d ps t = rotate_tests rotation addresses d ps (grid_type_of t) then λ _. rotate_read i rotation addresses map d ps (grid_type_of t)

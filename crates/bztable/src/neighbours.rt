@@ -1,20 +1,17 @@
 // Neighbours of images.
-ghost use Rattle.std.specs.Prelude.{◌≡◌, ◌||◌, ◌*◌, ◌/◌, ◌<◌, T, eqb, length};
-ghost use Rattle.common.specs.Tested.{Accepted};
+ghost use Rattle.std.specs.Prelude.{◌≡◌, ◌||◌, ◌*◌, ◌/◌, ◌<◌, T, eqb, length, IfOk};
+ghost use Rattle.common.specs.Tested.{Accepted, giving};
 ghost use Rattle.common.specs.Array.{vector_of, items, Sized};
 ghost use Rattle.common.specs.Limits.{all_within};
 ghost use Rattle.grgrid.specs.Sides.{sides};
-ghost use Rattle.bztable.specs.Reading.{inside, list_of};
-ghost use Rattle.bztable.specs.ReadingView.{place_view, PlaceBelow};
-ghost use Rattle.bzgrid.specs.Walked.{MeshFits};
+ghost use Rattle.bztable.specs.Reading.{list_of};
 ghost use Rattle.bzgrid.specs.BzGridAddresses.{is_known};
 ghost use Rattle.bztable.specs.Neighbours.{moved, sparse_neighbour, image_among, dense_neighbour, neighbour, neighbours_from, all_neighbours, input_tests, neighbours_read, neighbour_tests, neighbours_answer, neighbours_written};
 
 use crate::reading;
-use crate::reading::{Found, Place};
+use crate::reading::Table;
 use bzgrid::GridType;
 use common::Refusal;
-use grgrid::Grid;
 
 fn moved(a: [i64; 3], o: [i64; 3]) -> [i64; 3]
     requires fact_1 { Sized 10000000000000 a }
@@ -24,150 +21,99 @@ fn moved(a: [i64; 3], o: [i64; 3]) -> [i64; 3]
     [a[0] + o[0], a[1] + o[1], a[2] + o[2]]
 }
 
-fn sparse_neighbour(b: [i64; 3], map: &[i64], g: Grid) -> Place
-    requires { MeshFits (sides g) }
-    ensures result_value { place_view result ≡ sparse_neighbour (sides g) map.now (vector_of b) }
-    ensures place_below { PlaceBelow 2199023255552 result }
+// A place of the doubled mesh that holds 8 N is empty.
+fn sparse_neighbour(table: &Table, b: [i64; 3]) -> Result<usize, Refusal>
+    ensures value { result ≡ sparse_neighbour (sides table.now.g) table.now.map.now (vector_of b) }
+    ensures below { IfOk result (λ p. p < 2199023255552) }
 {
+    let g = table.g;
     let mesh = bzgrid::doubled(g);
     let at = grgrid::grid_index_from_address(b, mesh);
-    let Place::At(i) = reading::place_at(map, at) else {
-        return Place::Outside;
-    };
+    let i = table.place_at(at)?;
     if i == 8 * grgrid::points(g) {
-        return Place::At(grgrid::grid_index_from_address(b, g));
+        return Ok(grgrid::grid_index_from_address(b, g));
     }
-    Place::At(i)
+    Ok(i)
 }
 
 // Of several images the one at b, or else the first.
-fn image_among(b: [i64; 3], lo: usize, hi: usize, addresses: &[i64]) -> Place
+fn image_among(table: &Table, b: [i64; 3], lo: usize, hi: usize) -> Result<usize, Refusal>
     requires { (lo < 2199023255552) × (hi < 2199023255552) }
-    ensures result_value { place_view result ≡ image_among addresses.now (vector_of b) lo hi }
-    ensures place_below { PlaceBelow 2199023255552 result }
+    ensures value { result ≡ image_among table.now.addresses.now (vector_of b) lo hi }
+    ensures below { IfOk result (λ p. p < 2199023255552) }
 {
     if hi <= lo + 1 {
-        return Place::At(lo);
+        return Ok(lo);
     }
-    match reading::find(addresses, b, lo, hi) {
-        Found::At(i) => Place::At(i),
-        Found::Nowhere => Place::At(lo),
-        Found::Outside => Place::Outside,
-    }
+    Ok(table.find(b, lo, hi)?.unwrap_or(lo))
 }
 
-fn dense_neighbour(b: [i64; 3], addresses: &[i64], map: &[i64], g: Grid) -> Place
-    requires { MeshFits (sides g) }
-    ensures result_value { place_view result ≡ dense_neighbour (sides g) addresses.now map.now (vector_of b) }
-    ensures place_below { PlaceBelow 2199023255552 result }
+fn dense_neighbour(table: &Table, b: [i64; 3]) -> Result<usize, Refusal>
+    ensures value { result ≡ dense_neighbour (sides table.now.g) table.now.addresses.now table.now.map.now (vector_of b) }
+    ensures below { IfOk result (λ p. p < 2199023255552) }
 {
-    let p = grgrid::grid_index_from_address(b, g);
-    let Place::At(lo) = reading::place_at(map, p) else {
-        return Place::Outside;
-    };
-    let Place::At(hi) = reading::place_at(map, p + 1) else {
-        return Place::Outside;
-    };
-    image_among(b, lo, hi, addresses)
+    let p = grgrid::grid_index_from_address(b, table.g);
+    let lo = table.place_at(p)?;
+    let hi = table.place_at(p + 1)?;
+    image_among(table, b, lo, hi)
 }
 
-fn neighbour(t: GridType, b: [i64; 3], addresses: &[i64], map: &[i64], g: Grid) -> Place
-    requires { MeshFits (sides g) }
-    ensures result_value { place_view result ≡ neighbour (sides g) addresses.now map.now (vector_of b) t }
-    ensures place_below { PlaceBelow 2199023255552 result }
+fn neighbour(table: &Table, b: [i64; 3]) -> Result<usize, Refusal>
+    ensures value { result ≡ neighbour (sides table.now.g) table.now.addresses.now table.now.map.now (vector_of b) table.now.t }
+    ensures below { IfOk result (λ p. p < 2199023255552) }
 {
-    match t {
-        GridType::Sparse => sparse_neighbour(b, map, g),
-        GridType::Dense => dense_neighbour(b, addresses, map, g),
-        GridType::Unknown => Place::Outside,
+    match table.t {
+        GridType::Sparse => sparse_neighbour(table, b),
+        GridType::Dense => dense_neighbour(table, b),
+        GridType::Unknown => Err(Refusal::OutsideTable),
     }
 }
 
-// Along each offset, or that a read was outside.
-fn fill_row(
-    t: GridType,
-    base: [i64; 3],
-    offsets: &[i64],
-    addresses: &[i64],
-    map: &[i64],
-    g: Grid,
-    out: &mut [i64],
-) -> bool
+// Along each offset.
+fn fill_row(table: &Table, base: [i64; 3], offsets: &[i64], out: &mut [i64]) -> Result<(), Refusal>
     requires fact_1 { Sized 10000000000000 base }
     requires fact_2 { T (all_within 1000 offsets.now) }
-    requires fact_3 { MeshFits (sides g) }
-    requires fact_4 { length out.old ≡ length offsets.now / 3 }
-    ensures { inside result out.new ≡ neighbours_from t (sides g) offsets.now addresses.now map.now (vector_of base) }
+    requires fact_3 { length out.old ≡ length offsets.now / 3 }
+    ensures { giving result out.new ≡ neighbours_from table.now.t (sides table.now.g) offsets.now table.now.addresses.now table.now.map.now (vector_of base) }
 {
-    let mut j = 0;
-    while j < out.len() {
+    for j in 0..out.len() {
         let b = moved(base, common::row_at(offsets, 3 * j));
-        let Place::At(i) = neighbour(t, b, addresses, map, g) else {
-            return false;
-        };
-        out[j] = i as i64;
-        j += 1;
+        out[j] = neighbour(table, b)? as i64;
     }
-    true
+    Ok(())
 }
 
 // A row for each point.
-fn fill_rows(
-    t: GridType,
-    points: &[i64],
-    offsets: &[i64],
-    addresses: &[i64],
-    map: &[i64],
-    g: Grid,
-    out: &mut [i64],
-) -> bool
+fn fill_rows(table: &Table, points: &[i64], offsets: &[i64], out: &mut [i64]) -> Result<(), Refusal>
     requires fact_1 { T (all_within 1000 offsets.now) }
-    requires fact_2 { MeshFits (sides g) }
-    requires fact_3 { length out.old ≡ length points.now * (length offsets.now / 3) }
-    ensures { inside result out.new ≡ all_neighbours t (sides g) offsets.now addresses.now map.now points.now }
+    requires fact_2 { length out.old ≡ length points.now * (length offsets.now / 3) }
+    ensures { giving result out.new ≡ all_neighbours table.now.t (sides table.now.g) offsets.now table.now.addresses.now table.now.map.now points.now }
 {
     let n = offsets.len() / 3;
     let mut at = 0;
-    let mut i = 0;
-    while i < points.len() {
-        let base = reading::address_of(addresses, points[i]);
-        if !base.inside {
-            return false;
-        }
-        let a = base.numbers;
+    for point in points {
+        let base = table.address_of(*point)?;
         let end = at + n;
-        if !fill_row(t, a, offsets, addresses, map, g, &mut out[at..end]) {
-            return false;
-        }
+        fill_row(table, base, offsets, &mut out[at..end])?;
         at = end;
-        i += 1;
     }
-    true
+    Ok(())
 }
 
 // Whether n is a·b.
 fn is_product(n: usize, a: usize, b: usize) -> bool
     ensures { result ≡ eqb n (a * b) }
 {
-    if b == 0 {
-        return n == 0;
-    }
-    let q = n / b;
-    if q == a {
-        return q * b == n;
-    }
-    false
+    a.checked_mul(b) == Some(n)
 }
 
 fn type_fits(t: GridType, places: usize) -> bool
     ensures { result ≡ eqb places 0 || is_known t }
 {
-    if places == 0 {
-        return true;
-    }
-    bzgrid::is_known(t)
+    places == 0 || bzgrid::is_known(t)
 }
 
+#[tactic(auto, unfolding(crate::specs::Neighbours::input_tests))]
 fn input_tests(
     points: usize,
     offsets: &[i64],
@@ -212,18 +158,17 @@ fn neighbour_tests(
     ensures value { result ≡ neighbour_tests points.now offsets.now addresses.now map.now d t (length out.old) }
     ensures out_after { result ≡ Accepted → out.new ≡ list_of (neighbours_read points.now offsets.now addresses.now map.now d t (length out.old)) }
 {
-    match input_tests(points.len(), offsets, addresses, d, t, out.len()) {
-        Ok(()) => {
-            if out.len() == 0 {
-                return Ok(());
-            }
-            if fill_rows(t, points, offsets, addresses, map, grgrid::grid_of(d), out) {
-                return Ok(());
-            }
-            Err(Refusal::OutsideTable)
-        }
-        Err(r) => Err(r),
+    input_tests(points.len(), offsets, addresses, d, t, out.len())?;
+    if out.is_empty() {
+        return Ok(());
     }
+    let table = Table {
+        t,
+        g: grgrid::grid_of(d),
+        addresses,
+        map,
+    };
+    fill_rows(&table, points, offsets, out)
 }
 
 // The neighbours of each point along each offset: place i·n + j holds that of point i along offset j of n.
@@ -240,11 +185,9 @@ pub fn neighboring_grid_points_many(
     ensures out_after { out.new ≡ neighbours_written points.now offsets.now addresses.now map.now d bz_grid_type (length out.old) }
 {
     let t = bzgrid::grid_type(bz_grid_type);
-    match neighbour_tests(points, offsets, addresses, map, d, t, out) {
-        Ok(()) => Ok(()),
-        Err(r) => {
-            common::fill(out, -1);
-            Err(r)
-        }
+    let answer = neighbour_tests(points, offsets, addresses, map, d, t, out);
+    if answer.is_err() {
+        common::fill(out, -1);
     }
+    answer
 }

@@ -1,29 +1,22 @@
 // How image tables are read. They may hold anything, so every read is tested.
-ghost use Rattle.std.specs.Prelude.{◌≡◌, ◌-◌};
+ghost use Rattle.std.specs.Prelude.{◌≡◌, ◌-◌, ◌<◌, IfOk, IfSome};
 ghost use Rattle.common.specs.Array.{vector_of, Sized};
-ghost use Rattle.bztable.specs.Reading.{whole_addresses, address_at, address_of, place_of, place_at, find};
-ghost use Rattle.bztable.specs.ReadingView.{address_view, place_view, PlaceBelow, found_view, FoundBelow};
+ghost use Rattle.grgrid.specs.Sides.{sides};
+ghost use Rattle.bzgrid.specs.Walked.{MeshFits};
+ghost use Rattle.bztable.specs.Reading.{vector_read, whole_addresses, address_at, address_of, place_of, place_at, find};
 
-// Three numbers that were read, zeros where they lie outside.
-#[derive(Clone, Copy)]
-pub struct Address {
-    pub numbers: [i64; 3],
-    pub inside: bool,
-}
+use bzgrid::GridType;
+use common::Refusal;
+use grgrid::Grid;
 
-// A number of a map.
+// An image table of a grid: the addresses of the images, and the map that says which of them a point has.
 #[derive(Clone, Copy)]
-pub enum Place {
-    At(usize),
-    Outside,
-}
-
-// Where an address stands.
-#[derive(Clone, Copy)]
-pub enum Found {
-    At(usize),
-    Nowhere,
-    Outside,
+pub struct Table<'a> {
+    pub t: GridType,
+    pub g: Grid,
+    pub addresses: &'a [i64],
+    pub map: &'a [i64],
+    ghost fits: { MeshFits (sides g) },
 }
 
 pub fn whole_addresses(list: &[i64]) -> bool
@@ -32,80 +25,60 @@ pub fn whole_addresses(list: &[i64]) -> bool
     list.len() % 3 == 0
 }
 
-pub fn address_at(addresses: &[i64], i: usize) -> Address
-    ensures result_value { address_view result ≡ address_at addresses.now i }
-    ensures sized { Sized 10000000000000 result.numbers }
+// 0 to 2^40.
+fn place_of(n: i64) -> Result<usize, Refusal>
+    ensures value { result ≡ place_of n }
+    ensures below { IfOk result (λ p. p < 2199023255552) }
 {
-    if i < addresses.len() / 3 {
-        let a = common::row_at(addresses, 3 * i);
-        if common::row_within(a, 10000000000000) {
-            return Address {
-                numbers: a,
-                inside: true,
-            };
+    if n < 0 || n > 1099511627776 {
+        return Err(Refusal::OutsideTable);
+    }
+    Ok(n as usize)
+}
+
+impl<'a> Table<'a> {
+    // Each number within 10^13.
+    pub fn address_at(&self, i: usize) -> Result<[i64; 3], Refusal>
+        ensures value { vector_read result ≡ address_at self.now.addresses.now i }
+        ensures sized { IfOk result (λ a. Sized 10000000000000 a) }
+    {
+        if i < self.addresses.len() / 3 {
+            let a = common::row_at(self.addresses, 3 * i);
+            if common::row_within(a, 10000000000000) {
+                return Ok(a);
+            }
         }
+        Err(Refusal::OutsideTable)
     }
-    let none = [0, 0, 0];
-    Address {
-        numbers: none,
-        inside: false,
-    }
-}
 
-// Of an index that was asked for.
-pub fn address_of(addresses: &[i64], i: i64) -> Address
-    ensures result_value { address_view result ≡ address_of addresses.now i }
-    ensures sized { Sized 10000000000000 result.numbers }
-{
-    if i < 0 {
-        let none = [0, 0, 0];
-        return Address {
-            numbers: none,
-            inside: false,
-        };
-    }
-    address_at(addresses, i as usize)
-}
-
-fn place_of(n: i64) -> Place
-    ensures result_value { place_view result ≡ place_of n }
-    ensures place_below { PlaceBelow 2199023255552 result }
-{
-    if n < 0 {
-        return Place::Outside;
-    }
-    if n > 1099511627776 {
-        return Place::Outside;
-    }
-    Place::At(n as usize)
-}
-
-pub fn place_at(map: &[i64], i: usize) -> Place
-    ensures result_value { place_view result ≡ place_at map.now i }
-    ensures place_below { PlaceBelow 2199023255552 result }
-{
-    if i < map.len() {
-        return place_of(map[i]);
-    }
-    Place::Outside
-}
-
-// The first place from `from` on and below `to` that holds address a.
-pub fn find(addresses: &[i64], a: [i64; 3], from: usize, to: usize) -> Found
-    ensures result_value { found_view result ≡ find addresses.now (vector_of a) from (to - from) }
-    ensures found_below { FoundBelow to result }
-{
-    let mut i = from;
-    while i < to {
-        let b = address_at(addresses, i);
-        if !b.inside {
-            return Found::Outside;
+    // Of an index that was asked for.
+    pub fn address_of(&self, i: i64) -> Result<[i64; 3], Refusal>
+        ensures value { vector_read result ≡ address_of self.now.addresses.now i }
+        ensures sized { IfOk result (λ a. Sized 10000000000000 a) }
+    {
+        if i < 0 {
+            return Err(Refusal::OutsideTable);
         }
-        let n = b.numbers;
-        if common::same_row(n, a) {
-            return Found::At(i);
-        }
-        i += 1;
+        self.address_at(i as usize)
     }
-    Found::Nowhere
+
+    pub fn place_at(&self, i: usize) -> Result<usize, Refusal>
+        ensures value { result ≡ place_at self.now.map.now i }
+        ensures below { IfOk result (λ p. p < 2199023255552) }
+    {
+        place_of(*self.map.get(i).ok_or(Refusal::OutsideTable)?)
+    }
+
+    // The first place from `from` on and below `to` that holds address a.
+    pub fn find(&self, a: [i64; 3], from: usize, to: usize) -> Result<Option<usize>, Refusal>
+        ensures value { result ≡ find self.now.addresses.now (vector_of a) from (to - from) }
+        ensures below { IfOk result (λ f. IfSome f (λ i. i < to)) }
+    {
+        for i in from..to {
+            if self.address_at(i)? == a {
+                return Ok(Some(i));
+            }
+        }
+        Ok(None)
+    }
 }

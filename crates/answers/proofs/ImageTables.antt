@@ -26,7 +26,7 @@ use Rattle.bzgrid.specs.BzGridAddresses.{has_room, input_tests, bz_answer, addre
 use Rattle.bztable.specs.Rotate.{rotate_tests, rotate_read, rotate_answer}
 use Rattle.bztable.specs.Neighbours.{input_tests as neighbour_input, neighbours_read, neighbour_tests, neighbours_answer, neighbours_written}
 use Rattle.bztable.proofs.AcceptedCall.{call-accepted}
-use Rattle.answers.specs.Images.{image_lengths, images_told, Held, LengthsFit, BzGridAddressesTold, rotate_lengths, rotated_number, rotated_told, RotateTold, NeighboursTold}
+use Rattle.answers.specs.Images.{image_lengths, images_told, Held, LengthsFit, BzGridAddressesTold, rotate_lengths, rotated_told, RotateTold, NeighboursTold}
 use Rattle.answers.proofs.Lengths.{taken, left, both, three-lengths}
 
 abbrev unwritten : ℕ → List ℤ
@@ -116,22 +116,22 @@ rotate-lengths rotation d ps told e =
     (eqb-true rotation 9 f.0, g.0, g.1, g.2)
 
 module _ (index : ℤ) (rotation addresses map d ps : List ℤ) (t : ℤ) (n : ℕ) where
-  abbrev turned : Rotated
+  abbrev turned : Result Rotated Refusal
   turned = rotate_answer index (rows (matrix_at rotation 0)) addresses map d ps t
 
   module _ {r : ℤ} {told : List ℤ} where
     pub rotate-unsized : rotate_lengths (length rotation) (length d) (length ps) n ≡ false → r ≡ pos (number_of WrongLength) → told ≡ unwritten n → RotateTold index rotation addresses map d ps t n r told
     rotate-unsized e er et = record {
-      answer = er ∙ left (rotated_number turned) (pos (number_of WrongLength)) e;
+      answer = er ∙ left (answer_of turned) (pos (number_of WrongLength)) e;
       value = et ∙ left (rotated_told turned) (unwritten n) e;
     }
 
-    pub rotate-passed : rotate_lengths (length rotation) (length d) (length ps) n ≡ true → {u v : List ℤ} {m : List (List ℤ)} {i z : ℤ} {b : Rotated} → i ≡ index → z ≡ t → m ≡ rows (matrix_at rotation 0) → u ≡ row_at d 0 → v ≡ row_at ps 0
-        → b ≡ rotate_answer i m addresses map u v z → r ≡ rotated_number b → told ≡ rotated_told b → RotateTold index rotation addresses map d ps t n r told
+    pub rotate-passed : rotate_lengths (length rotation) (length d) (length ps) n ≡ true → {u v : List ℤ} {m : List (List ℤ)} {i z : ℤ} {b : Result Rotated Refusal} → i ≡ index → z ≡ t → m ≡ rows (matrix_at rotation 0) → u ≡ row_at d 0 → v ≡ row_at ps 0
+        → b ≡ rotate_answer i m addresses map u v z → r ≡ answer_of b → told ≡ rotated_told b → RotateTold index rotation addresses map d ps t n r told
     unfolding rotate_tests rotate_read rotate_answer
     rotate-passed e {u} {v} {m} ei ez em eu ev eb er et =
         let same : _ ≡ turned = eb ∙ ap₂ (λ i z. rotate_answer i m addresses map u v z) ei ez ∙ ap (λ m. rotate_answer index m addresses map u v t) em ∙ ap₂ (λ u v. rotate_answer index (rows (matrix_at rotation 0)) addresses map u v t) eu ev in record {
-          answer = er ∙ ap rotated_number same ∙ taken (rotated_number turned) (pos (number_of WrongLength)) e;
+          answer = er ∙ ap answer_of same ∙ taken (answer_of turned) (pos (number_of WrongLength)) e;
           value = et ∙ ap rotated_told same ∙ taken (rotated_told turned) (unwritten n) e;
         }
 

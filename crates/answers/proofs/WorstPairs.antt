@@ -11,39 +11,38 @@ use borrow.Author.Tests.{eq-eqb, ne_eqb}
 use mir.Syntax.{w64}
 use mir.Val.{to_z}
 use mir.Facts.{to_z_pos}
+use Rattle.std.specs.Prelude.{Result, Ok, Err}
+use Rattle.common.specs.declared.Refusal.{Refusal}
 use Rattle.common.specs.declared.Refusal.TheVariants.{WrongLength}
 use Rattle.common.specs.Refusal.{number_of}
+use Rattle.common.specs.Tested.{answer_of}
 use Rattle.snf_steps.proofs.Divisions.{few-steps}
 use Rattle.worst_pair.specs.declared.WorstPair.{WorstPair}
-use Rattle.worst_pair.specs.declared.WorstPair.TheVariants.{Found, Refused}
 use Rattle.worst_pair.specs.WorstPair.{Answers}
 use Rattle.worst_pair.proofs.Limit.{limit-of}
-use Rattle.answers.specs.WorstPairs.{pair_number, pair_told, PairFits, WorstPairTold}
+use Rattle.answers.specs.WorstPairs.{pair_told, PairFits, WorstPairTold}
 use Rattle.answers.proofs.Lengths.{taken, left}
 
-pub pair_fits : (limit : ℤ) (w : WorstPair) → Answers limit w → PairFits w
-pair_fits limit (Found a b n) h =
+pub pair_fits : (limit : ℤ) (w : Result WorstPair Refusal) → Answers limit w → PairFits w
+pair_fits limit (Ok w) h =
     let high = (limit-of limit h.0).high in
     let u = h.1.0.worst.up_to in
-    (omega (arith, high, u.first-high), omega (arith, high, u.second-high), omega (arith, h.1.1, few-steps (pos a) (pos b) (omega (arith, high, u.second-high))))
-pair_fits limit (Refused r) h = tt
+    (omega (arith, high, u.first-high), omega (arith, high, u.second-high), omega (arith, h.1.1, few-steps (pos w.a) (pos w.b) (omega (arith, high, u.second-high))))
+pair_fits limit (Err r) h = tt
 
-pub held-pair : {a b n : ℕ} → PairFits (Found a b n) → to_z w64 a ∷ to_z w64 b ∷ to_z w64 n ∷ [] ≡ pos a ∷ pos b ∷ pos n ∷ []
-held-pair {a} {b} {n} h = rw (to_z_pos w64 {n = a} h.0, to_z_pos w64 {n = b} h.1, to_z_pos w64 {n = n} h.2)
-
-module _ (limit : ℤ) (n : ℕ) {r : ℤ} {told : List ℤ} (w : WorstPair) (h : Answers limit w) where
+module _ (limit : ℤ) (n : ℕ) {r : ℤ} {told : List ℤ} (w : Result WorstPair Refusal) (h : Answers limit w) where
   pub pair-unsized : (n ≡ 3 → ⊥) → r ≡ pos (number_of WrongLength) → told ≡ replicate n (negsuc 0) → WorstPairTold limit n r told
   pair-unsized e er et = record {
     pair = w;
     answers = h;
-    answer = er ∙ left (pair_number w) (pos (number_of WrongLength)) (ne_eqb n 3 e);
+    answer = er ∙ left (answer_of w) (pos (number_of WrongLength)) (ne_eqb n 3 e);
     value = et ∙ left (pair_told w) (replicate n (negsuc 0)) (ne_eqb n 3 e);
   }
 
-  pub pair-passed : n ≡ 3 → r ≡ pair_number w → told ≡ pair_told w → WorstPairTold limit n r told
+  pub pair-passed : n ≡ 3 → r ≡ answer_of w → told ≡ pair_told w → WorstPairTold limit n r told
   pair-passed e er et = record {
     pair = w;
     answers = h;
-    answer = er ∙ taken (pair_number w) (pos (number_of WrongLength)) (eq-eqb n 3 e);
+    answer = er ∙ taken (answer_of w) (pos (number_of WrongLength)) (eq-eqb n 3 e);
     value = et ∙ taken (pair_told w) (replicate n (negsuc 0)) (eq-eqb n 3 e);
   }

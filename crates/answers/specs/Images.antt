@@ -41,16 +41,13 @@ pub record BzGridAddressesTold (d q ps : List ℤ) (lattice : List Float) (t : �
   pub lengths : told ≡ pick (image_lengths (length d) (length q) (length ps) (length lattice) nt) (images_told (bz_answer d (rows (matrix_at q 0)) ps (rows (float_nine lattice)) t na nm ng)) (replicate nt (negsuc 0))
 
 -- ---- the rotation of an image
-abbrev pub rotated_number : Rotated → ℤ
-rotated_number (rotated.Image i) = pos 0
-rotated_number (rotated.Fallback i) = pos 0
-rotated_number (rotated.Refused r) = pos (number_of r)
-
 -- the index, and 1 for a fallback
-abbrev pub rotated_told : Rotated → List ℤ
-rotated_told (rotated.Image i) = i ∷ pos 0 ∷ []
-rotated_told (rotated.Fallback i) = i ∷ pos 1 ∷ []
-rotated_told (rotated.Refused r) = negsuc 0 ∷ negsuc 0 ∷ []
+abbrev pub rotated_places : Rotated → List ℤ
+rotated_places (rotated.Image i) = i ∷ pos 0 ∷ []
+rotated_places (rotated.Fallback i) = i ∷ pos 1 ∷ []
+
+abbrev pub rotated_told : Result Rotated Refusal → List ℤ
+rotated_told = told_of rotated_places 2
 
 -- of the rotation, d, ps and `told`
 abbrev pub rotate_lengths : ℕ → ℕ → ℕ → ℕ → Bool
@@ -58,7 +55,7 @@ rotate_lengths rotation d ps told = eqb rotation 9 && (eqb d 3 && (eqb ps 3 && e
 
 -- the answer r and `told`, which had n places
 pub record RotateTold (index : ℤ) (rotation addresses map d ps : List ℤ) (t : ℤ) (n : ℕ) (r : ℤ) (told : List ℤ) : Type 0 where
-  pub answer : r ≡ pick (rotate_lengths (length rotation) (length d) (length ps) n) (rotated_number (rotate_answer index (rows (matrix_at rotation 0)) addresses map d ps t)) (pos (number_of WrongLength))
+  pub answer : r ≡ pick (rotate_lengths (length rotation) (length d) (length ps) n) (answer_of (rotate_answer index (rows (matrix_at rotation 0)) addresses map d ps t)) (pos (number_of WrongLength))
   pub value : told ≡ pick (rotate_lengths (length rotation) (length d) (length ps) n) (rotated_told (rotate_answer index (rows (matrix_at rotation 0)) addresses map d ps t)) (replicate n (negsuc 0))
 
 -- ---- neighbours

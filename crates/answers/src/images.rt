@@ -3,7 +3,7 @@ ghost use Rattle.std.specs.Prelude.{◌≡◌, length};
 ghost use Rattle.common.specs.Tested.{answer_of};
 ghost use Rattle.common.specs.Array.{rows};
 ghost use Rattle.bzsearch.specs.SearchView.{float_nine};
-ghost use Rattle.answers.specs.Images.{image_lengths, images_told, LengthsFit, rotate_lengths, rotated_number, rotated_told};
+ghost use Rattle.answers.specs.Images.{image_lengths, images_told, LengthsFit, rotate_lengths, rotated_told};
 
 use crate::tell;
 use bzgrid::Lengths;
@@ -43,26 +43,17 @@ pub fn rotate_lengths(rotation: usize, d: usize, ps: usize, told: usize) -> bool
 }
 
 // The index, and 1 for a fallback.
-pub fn tell_rotated(answer: Rotated, told: &mut [i64]) -> i64
+pub fn tell_rotated(answer: Result<Rotated, Refusal>, told: &mut [i64]) -> i64
     requires { length told.old ≡ 2 }
-    ensures value { result ≡ rotated_number answer }
+    ensures value { result ≡ answer_of answer }
     ensures told_after { told.new ≡ rotated_told answer }
 {
     match answer {
-        Rotated::Image(i) => {
-            told[0] = i;
-            told[1] = 0;
-            0
-        }
-        Rotated::Fallback(i) => {
+        Ok(Rotated::Image(i)) => tell(Ok([i, 0]), told),
+        Ok(Rotated::Fallback(i)) => {
             let fallback = 1;
-            told[0] = i;
-            told[1] = fallback;
-            0
+            tell(Ok([i, fallback]), told)
         }
-        Rotated::Refused(r) => {
-            common::fill(told, -1);
-            r.answer()
-        }
+        Err(r) => tell::<2>(Err(r), told),
     }
 }

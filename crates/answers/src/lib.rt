@@ -64,9 +64,9 @@ pub fn refuse_three(a: &mut [i64], b: &mut [i64], c: &mut [i64]) -> i64
     ensures b_after { b.new ≡ replicate (length b.old) (negsuc 0) }
     ensures c_after { c.new ≡ replicate (length c.old) (negsuc 0) }
 {
-    common::fill(a, -1);
-    common::fill(b, -1);
-    common::fill(c, -1);
+    a.fill(-1);
+    b.fill(-1);
+    c.fill(-1);
     Refusal::WrongLength.answer()
 }
 
@@ -77,6 +77,6 @@ pub fn refuse_four(a: &mut [i64], b: &mut [i64], c: &mut [i64], d: &mut [i64]) -
     ensures c_after { c.new ≡ replicate (length c.old) (negsuc 0) }
     ensures d_after { d.new ≡ replicate (length d.old) (negsuc 0) }
 {
-    common::fill(a, -1);
+    a.fill(-1);
     refuse_three(b, c, d)
 }

@@ -7,11 +7,7 @@ use mark_candidates::Ranges;
 pub fn mark_lengths(d: usize, q: usize, ps: usize, lowest: usize, highest: usize) -> bool
     ensures { result ≡ mark_lengths d q ps lowest highest }
 {
-    common::all_three(
-        common::all_three(d == 3, q == 9, ps == 3),
-        lowest == 6,
-        highest == 6,
-    )
+    (d == 3 && q == 9 && ps == 3) && lowest == 6 && highest == 6
 }
 
 fn six_at(l: &[i64]) -> [i64; 6]

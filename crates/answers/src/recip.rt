@@ -11,8 +11,8 @@ pub fn tell_group(answer: Result<usize, Refusal>, out: &mut [i64], told: &mut [i
     ensures { PointGroupTold answer out.old (length out.old) (length told.old) result out.new told.new }
 {
     if told.len() != 1 {
-        common::fill(out, -1);
-        common::fill(told, -1);
+        out.fill(-1);
+        told.fill(-1);
         return Refusal::WrongLength.answer();
     }
     match answer {

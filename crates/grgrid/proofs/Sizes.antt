@@ -7,7 +7,7 @@ use lib.Dec.{T}
 use lib.IntN.{ℤ, pos, nat_abs, ◌+ℤ◌, ◌*ℤ◌}
 use lib.ListN.{get_or}
 use Rattle.integer.proofs.Plain.{plain, p_atom, plain-within}
-use Rattle.common.specs.Matrix.{Vec}
+use Rattle.common.specs.Matrix.{Vec, Axis, X, Y, Z, side}
 use Rattle.common.proofs.Bounds.{entry-within}
 use Rattle.common.specs.Array.{vector_of, items, rows, matrix_at, Sized, SizedRows}
 use Rattle.common.specs.Limits.{all_within}
@@ -31,6 +31,11 @@ grid-few g = le_mul (g.x * g.y) g.z (le_mul g.x g.y g.fits.1 g.fits.3) g.fits.5
   where
     le_mul : {k : ℕ} (a b : ℕ) → a ≤ k → b ≤ 512 → a * b ≤ k * 512
     le_mul {k} a b h l = omega (arith, mul-le-mul_right b h, mul-le-mul_left k l)
+
+pub sides-small : (g : Grid) (k : Axis) → side (sides g) k ≤ 512
+sides-small g X = g.fits.1
+sides-small g Y = g.fits.3
+sides-small g Z = g.fits.5
 
 module _ (g : Grid) (p : ℕ) (h : p < size (sides g)) where
   pub address-sized : Sized 10000000000000 (items (address (sides g) p))

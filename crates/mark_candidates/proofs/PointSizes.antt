@@ -16,13 +16,12 @@ use Rattle.common.proofs.Matrix.{all-axes, side-vector}
 use Rattle.common.proofs.Whole.{sized-dot}
 use Rattle.common.proofs.Bounds.{p-sized, matrix-sizes}
 use Rattle.grgrid.specs.Grid.{size, address, double}
-use Rattle.grgrid.specs.Sides.{GridFits}
 use Rattle.grgrid.proofs.Sizes.{sized-items}
 use Rattle.mark_candidates.specs.ScaledCoordinates.{shares, scaled_by, scaled, rest, rests}
 use Rattle.mark_candidates.specs.Code.Table.{weights}
 use Rattle.mark_candidates.proofs.Rounding.{rest-size}
 
-module _ (d : Vec ℕ) (f : GridFits d) (few : size d ≤ 65536) (p : ℕ) (h : p < size d) where
+module _ (d : Vec ℕ) (few : size d ≤ 65536) (p : ℕ) (h : p < size d) where
   address-small : Sized 65536 (items (address d p))
   unfolding address
   address-small =
@@ -41,16 +40,16 @@ module _ (d : Vec ℕ) (f : GridFits d) (few : size d ≤ 65536) (p : ℕ) (h : 
       at n = twice (get_or (items (address d p)) n (pos 0)) (get_or s n (pos 0)) (address-small.each n) (g.each n)
 
 -- ---- by the shares
-module _ (d : Vec ℕ) (f : GridFits d) {a : List ℤ} (g : Sized 131073 a) where
+module _ (d : Vec ℕ) (f : (k : Axis) → side d k ≤ 512) {a : List ℤ} (g : Sized 131073 a) where
   share : (x y : ℕ) (z : ℤ) → x ≤ 512 → y ≤ 512 → nat_abs z ≤ 131073 → nat_abs (z *ℤ pos (x * y)) ≤ 34360000512
   share x y z h k l = le_trans (le_of_eq (abs-mul z (pos (x * y)))) (mul-le-mul l (mul-le-mul h k))
 
   pub shared-small : Sized 34360000512 (items (scaled_by (shares d) (vector_of a)))
   shared-small =
       sized-items (scaled_by (shares d) (vector_of a))
-      (share d.y d.z (get_or a 0 (pos 0)) (f.small Y) (f.small Z) (g.each 0))
-      (share d.x d.z (get_or a 1 (pos 0)) (f.small X) (f.small Z) (g.each 1))
-      (share d.x d.y (get_or a 2 (pos 0)) (f.small X) (f.small Y) (g.each 2))
+      (share d.y d.z (get_or a 0 (pos 0)) (f Y) (f Z) (g.each 0))
+      (share d.x d.z (get_or a 1 (pos 0)) (f X) (f Z) (g.each 1))
+      (share d.x d.y (get_or a 2 (pos 0)) (f X) (f Y) (g.each 2))
 
 -- ---- by Q
 dot-small : (a b c x y z : ℤ) → nat_abs a ≤ 1000 → nat_abs b ≤ 1000 → nat_abs c ≤ 1000 → nat_abs x ≤ 34360000512 → nat_abs y ≤ 34360000512 → nat_abs z ≤ 34360000512
@@ -73,12 +72,12 @@ applied-fits m {v} t g =
     column : (k : Axis) → nat_abs (side (vector_of v) k) ≤ 34360000512
     column k = rw (side-vector (along v) k) (g.each (number k))
 
-pub scaled_small : (d : Vec ℕ) → GridFits d → size d ≤ 65536 → (p : ℕ) → p < size d → {s : List ℤ} → Sized 1 s → (m : Mat ℤ) → T (matrix_within 1000 m)
+pub scaled_small : (d : Vec ℕ) → ((k : Axis) → side d k ≤ 512) → size d ≤ 65536 → (p : ℕ) → p < size d → {s : List ℤ} → Sized 1 s → (m : Mat ℤ) → T (matrix_within 1000 m)
     → Sized 110000000000000 (items (scaled d (vector_of s) m p))
 unfolding scaled
 scaled_small d f few p h {s} g m k =
     applied-small m {v = items (scaled_by (shares d) (double (address d p) (vector_of s)))} k
-    (shared-small d f {a = items (double (address d p) (vector_of s))} (doubled-small d f few p h g))
+    (shared-small d f {a = items (double (address d p) (vector_of s))} (doubled-small d few p h g))
 
 -- ---- what is left
 pub rests-small : (d : Vec ℕ) → 0 < size d → size d ≤ 65536 → (ps : Vec ℤ) (q : Mat ℤ) (p : ℕ) → Sized 65536 (items (rests d ps q p))

@@ -5,7 +5,7 @@ ghost use Rattle.common.specs.Matrix.{vector};
 ghost use Rattle.common.specs.Array.{along, vector_of, matrix_of, items, Sized};
 ghost use Rattle.common.specs.Limits.{matrix_within};
 ghost use Rattle.grgrid.specs.Grid.{size};
-ghost use Rattle.grgrid.specs.Sides.{sides, GridFits};
+ghost use Rattle.grgrid.specs.Sides.{sides};
 ghost use Rattle.mark_candidates.specs.ScaledCoordinates.{shares, scaled_by, scaled, outwards, rest, rests};
 
 use grgrid::Grid;
@@ -50,8 +50,7 @@ fn times(u: i64, a: usize, b: usize) -> i64
 
 // 2N times the grid coordinates of a doubled address.
 fn scaled_grid(a: [i64; 3], g: Grid) -> [i64; 3]
-    requires fact_1 { Sized 131073 a }
-    requires fact_2 { GridFits (sides g) }
+    requires { Sized 131073 a }
     ensures { result ≡ items (scaled_by (shares (sides g)) (vector_of a)) }
 {
     [
@@ -73,8 +72,7 @@ fn scaled(p: usize, g: Grid, ps: [i64; 3], q: [[i64; 3]; 3]) -> [i64; 3]
     requires fact_1 { p < size (sides g) }
     requires fact_2 { Sized 1 ps }
     requires fact_3 { T (matrix_within 1000 (matrix_of q)) }
-    requires fact_4 { GridFits (sides g) }
-    requires fact_5 { size (sides g) ≤ 65536 }
+    requires fact_4 { size (sides g) ≤ 65536 }
     ensures { result ≡ items (scaled (sides g) (vector_of ps) (matrix_of q) p) }
 {
     let a = grgrid::double_grid_address(grgrid::grid_address_from_index(p, g), ps);
@@ -86,8 +84,7 @@ pub fn rests_of(p: usize, g: Grid, ps: [i64; 3], q: [[i64; 3]; 3]) -> [i64; 3]
     requires fact_1 { p < size (sides g) }
     requires fact_2 { Sized 1 ps }
     requires fact_3 { T (matrix_within 1000 (matrix_of q)) }
-    requires fact_4 { GridFits (sides g) }
-    requires fact_5 { size (sides g) ≤ 65536 }
+    requires fact_4 { size (sides g) ≤ 65536 }
     ensures { result ≡ items (rests (sides g) (vector_of ps) (matrix_of q) p) }
 {
     rests(scaled(p, g, ps, q), grgrid::points(g))

@@ -14,8 +14,8 @@ pub fn zone_ir_grid_map(
     ensures { IrGridMapTold rotations.now d.now ps.now (length map.old) (length told.old) result map.new told.new }
 {
     if !answers::class_lengths(d.len(), ps.len(), told.len()) {
-        common::fill(map, -1);
-        common::fill(told, -1);
+        map.fill(-1);
+        told.fill(-1);
         return Refusal::WrongLength.answer();
     }
     answers::tell_classes(
@@ -28,7 +28,7 @@ pub fn zone_all_grid_addresses(d: &[i64], out: &mut [i64]) -> i64
     ensures { AddressesTold d.now (length out.old) result out.new }
 {
     if d.len() != 3 {
-        common::fill(out, -1);
+        out.fill(-1);
         return Refusal::WrongLength.answer();
     }
     answers::number(grgrid::all_grid_addresses(common::row_at(d, 0), out))

@@ -48,7 +48,7 @@ pub fn zone_rotate_bz_grid_index(
     ensures { RotateTold index rotation.now addresses.now map.now d.now ps.now bz_grid_type (length told.old) result told.new }
 {
     if !answers::rotate_lengths(rotation.len(), d.len(), ps.len(), told.len()) {
-        common::fill(told, -1);
+        told.fill(-1);
         return Refusal::WrongLength.answer();
     }
     answers::tell_rotated(
@@ -77,7 +77,7 @@ pub fn zone_neighboring_grid_points(
     ensures { NeighboursTold points.now offsets.now addresses.now map.now d.now bz_grid_type (length out.old) result out.new }
 {
     if d.len() != 3 {
-        common::fill(out, -1);
+        out.fill(-1);
         return Refusal::WrongLength.answer();
     }
     answers::number(bztable::neighboring_grid_points_many(

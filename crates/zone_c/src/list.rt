@@ -55,7 +55,7 @@ pub fn zone_list(job: &[u8], text: &mut [u8], told: &mut [i64]) -> i64
 {
     if told.len() != 1 {
         job::clear(text);
-        common::fill(told, -1);
+        told.fill(-1);
         return Refusal::WrongLength.answer();
     }
     tell_listing(list_job(job, text), told)

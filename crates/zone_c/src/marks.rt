@@ -17,7 +17,7 @@ pub fn zone_mark_candidates(
         out (length marks.old) result marks.new }
 {
     if !answers::mark_lengths(d.len(), q.len(), ps.len(), lowest.len(), highest.len()) {
-        common::fill(marks, -1);
+        marks.fill(-1);
         return Refusal::WrongLength.answer();
     }
     answers::number(mark_candidates::mark_candidates(

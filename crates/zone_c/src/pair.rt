@@ -9,7 +9,7 @@ pub fn zone_worst_pair(limit: i64, told: &mut [i64]) -> i64
 {
     let pair = worst_pair::worst_pair(limit);
     if told.len() != 3 {
-        common::fill(told, -1);
+        told.fill(-1);
         return Refusal::WrongLength.answer();
     }
     answers::tell_pair(pair, told)

@@ -8,7 +8,7 @@ pub fn zone_transform_rotations(rotations: &[i64], d: &[i64], q: &[i64], out: &m
     ensures { TransformRotationsTold rotations.now d.now q.now (length out.old) result out.new }
 {
     if !answers::transform_lengths(d.len(), q.len()) {
-        common::fill(out, -1);
+        out.fill(-1);
         return Refusal::WrongLength.answer();
     }
     let answer = transform_rotations::transform_rotations(

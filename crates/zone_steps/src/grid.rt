@@ -113,6 +113,7 @@ fn choose_triplets(
 }
 
 // -1 in every place.
+#[tactic(auto, using(bz_triplets::proofs::Measured::minus-one-literal))]
 pub fn wipe_lists(
     classes: &mut [i64],
     points: &mut [i64],
@@ -126,11 +127,11 @@ pub fn wipe_lists(
     ensures left_after { left.new ≡ replicate (length left.old) (negsuc 0) }
     ensures lengths_after { lengths.new ≡ replicate (length lengths.old) (of_int binary64 (negsuc 0)) }
 {
-    common::fill(classes, -1);
-    common::fill(points, -1);
-    common::fill(triplets, -1);
-    common::fill(left, -1);
-    bz_triplets::fill_lengths(lengths, -1.0);
+    classes.fill(-1);
+    points.fill(-1);
+    triplets.fill(-1);
+    left.fill(-1);
+    lengths.fill(-1.0);
 }
 
 // Classes and triplets of n points, from tables that were built. A refusal may leave anything in the outputs.

@@ -14,9 +14,9 @@ pub fn wipe_tables(addresses: &mut [i64], map: &mut [i64], grg: &mut [i64])
     ensures map_after { map.new ≡ replicate (length map.old) (negsuc 0) }
     ensures grg_after { grg.new ≡ replicate (length grg.old) (negsuc 0) }
 {
-    common::fill(addresses, -1);
-    common::fill(map, -1);
-    common::fill(grg, -1);
+    addresses.fill(-1);
+    map.fill(-1);
+    grg.fill(-1);
 }
 
 // Images, classes and triplets, of rotations in the basis of the grid. A refusal may leave anything in the outputs.

@@ -6,7 +6,6 @@ use mir.Facts.{to_z-of_z}
 use Rattle.integer.proofs.Fits.{held-natural}
 use Rattle.common.specs.Array.{sides_of, vector_of, matrix_of, items}
 use Rattle.grgrid.specs.Grid.{size}
-use Rattle.grgrid.specs.Sides.{GridFits}
 use Rattle.grgrid.proofs.Accepted.{grid-fits, few-points, shift-sized}
 use Rattle.mark_candidates.specs.ScaledCoordinates.{rests, position, candidates125}
 use Rattle.mark_candidates.specs.MarkCandidates.{mark, ranges_of, marks}
@@ -46,12 +45,8 @@ rests_of-s-requires c =
       fact_1 = rw (to_z-of_z c.ranges.point) (subst (λ d. nat_abs c.args.point < size d) e (point s).1);
       fact_2 = shift-sized c.args.ps three (within s).shift;
       fact_3 = (within s).entries;
-      fact_4 = subst GridFits e (grid-fits c.args.d (within s).grid);
-      fact_5 = subst (λ d. size d ≤ 65536) e (few s);
+      fact_4 = subst (λ d. size d ≤ 65536) e (few s);
     }
-
-pub points-requires : goal.points-requires
-points-requires c = subst GridFits (sym c.grid_of-g.ensures) (grid-fits c.args.d (within (goal.at.points-requires c).Start).grid)
 
 rested : (c : After-rests_of-s) → let a = c.args in c.rests_of-s.result ≡ items (rests (sides_of a.d) (vector_of a.ps) (matrix_of a.q) (nat_abs a.point))
 rested c = let a = c.args in c.rests_of-s.ensures ∙ ap₂ (λ d p. items (rests d (vector_of a.ps) (matrix_of a.q) (nat_abs p))) c.grid_of-g.ensures (to_z-of_z c.ranges.point)

@@ -6,8 +6,7 @@ use Rattle.integer.proofs.Test.{holds, and_l}
 use Rattle.common.specs.Array.{sides_of, matrix_of}
 use Rattle.common.specs.Limits.{matrix_within, diagonal_fits, shift_fits, point_fits}
 use Rattle.grgrid.specs.Grid.{size}
-use Rattle.grgrid.specs.Sides.{GridFits}
-use Rattle.grgrid.proofs.Accepted.{grid-fits, few-points}
+use Rattle.grgrid.proofs.Accepted.{few-points}
 use Rattle.mark_candidates.specs.MarkCandidates.{grid_fits}
 use Rattle.mark_candidates.proofs.within_limits.Goals as goal
 use Rattle.mark_candidates.proofs.within_limits.Goals.{Else-not-grid_fits, After-points-n}
@@ -17,9 +16,6 @@ fits c = sym c.grid_fits.ensures ∙ c.if-not-grid_fits.false
 
 diagonal : (c : Else-not-grid_fits) → T (diagonal_fits c.args.d)
 diagonal c = and_l (diagonal_fits c.args.d) (matrix_within 1000 (matrix_of c.args.q) && shift_fits c.args.ps) (holds (fits c))
-
-pub points-n-requires : goal.points-n-requires
-points-n-requires c = subst GridFits (sym c.grid_of.ensures) (grid-fits c.args.d (diagonal (goal.at.points-n-requires c).Else-not-grid_fits))
 
 -- how many points there are
 counted : (c : After-points-n) → c.points-n.result ≡ size (sides_of c.args.d)

@@ -4,6 +4,7 @@ use Rattle.common.specs.Array.{along, items, matrix_of}
 use Rattle.mark_candidates.proofs.PointSizes.{scaled_small}
 use mathlib.Core.Path.{◌∙◌, ap₂}
 use Rattle.grgrid.specs.Sides.{sides}
+use Rattle.grgrid.proofs.Sizes.{sides-small}
 use Rattle.mark_candidates.specs.ScaledCoordinates.{rest, rests}
 use Rattle.mark_candidates.proofs.coordinates.rests_of.Goals as goal
 
@@ -11,8 +12,8 @@ pub rests-requires : goal.rests-requires
 rests-requires c =
     let s = c in
     record {
-      fact_1 = rw c.scaled.ensures (scaled_small (sides s.args.g) s.requires.fact_4 s.requires.fact_5 s.args.p s.requires.fact_1 s.requires.fact_2 (matrix_of s.args.q) s.requires.fact_3);
-      fact_2 = (rw c.points.ensures (omega (arith, s.requires.fact_1)), rw c.points.ensures s.requires.fact_5);
+      fact_1 = rw c.scaled.ensures (scaled_small (sides s.args.g) (sides-small s.args.g) s.requires.fact_4 s.args.p s.requires.fact_1 s.requires.fact_2 (matrix_of s.args.q) s.requires.fact_3);
+      fact_2 = (rw c.points.ensures (omega (arith, s.requires.fact_1)), rw c.points.ensures s.requires.fact_4);
     }
 
 pub returns : goal.returns

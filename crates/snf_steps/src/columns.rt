@@ -50,18 +50,21 @@ pub fn combined(a: i64, b: i64) -> Option<Combination>
     })
 }
 
-// Only where the sizes leave it open are the products tested.
+// Only where the sizes leave it open are the products tested. Taken apart and built again, a pair is copied without a call.
 fn combine(i: usize, j: usize, c: Combination, s: Pair) -> Option<Pair>
     requires { (i < 3) × (j < 3) }
     ensures { pair_of result ≡ columns.multiply (columns.combination_matrix i j c) (matrices_of s) }
 {
-    if i < j && mixing::all_small(c, s.a, s.p) {
-        return Some(Pair {
-            a: mixing::mixed(i, j, c, s.a),
-            p: mixing::mixed(i, j, c, s.p),
-        });
+    let Pair { a, p } = s;
+    if i < j && mixing::all_small(c, a, p) {
+        let a = mixing::mixed(i, j, c, a);
+        let p = mixing::mixed(i, j, c, p);
+        return Some(Pair { a, p });
     }
-    multiply(elementary::elementary_set_zero(i, j, c.s, c.t, c.v, c.u), s)
+    multiply(
+        elementary::elementary_set_zero(i, j, c.s, c.t, c.v, c.u),
+        Pair { a, p },
+    )
 }
 
 // Row j becomes 0 in column i by the pivot in row i.
@@ -70,11 +73,12 @@ fn make_zero(i: usize, j: usize, s: Pair) -> Option<Pair>
     requires { (i < 3) × (j < 3) }
     ensures { pair_of result ≡ columns.make_zero i j (entry_of s i i) (entry_of s j i) (matrices_of s) }
 {
-    let b = s.a[j][i];
+    let Pair { a, p } = s;
+    let b = a[j][i];
     if b == 0 {
-        return Some(s);
+        return Some(Pair { a, p });
     }
-    combine(i, j, combined(s.a[i][i], b)?, s)
+    combine(i, j, combined(a[i][i], b)?, Pair { a, p })
 }
 
 // ---- the first column

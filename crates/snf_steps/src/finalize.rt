@@ -40,10 +40,11 @@ fn order(i: usize, j: usize, s: Triple) -> Option<Triple>
     requires { (i < 3) × (j < 3) }
     ensures { triple_of result ≡ finalize.order i j (on_diagonal s i) (on_diagonal s j) (three_of s) }
 {
-    if s.a[i][i] > s.a[j][j] {
-        return swap_diag_elems(i, j, s);
+    let Triple { a, p, q } = s;
+    if a[i][i] > a[j][j] {
+        return swap_diag_elems(i, j, Triple { a, p, q });
     }
-    Some(s)
+    Some(Triple { a, p, q })
 }
 
 #[tactic(auto, unfolding(crate::specs::Finalize::finalize_sort))]

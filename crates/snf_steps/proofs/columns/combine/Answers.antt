@@ -29,17 +29,17 @@ module _ (c : Combination) (s : Pair) (h : true ≡ small_combination c && (smal
   small-p : T p
   small-p = and_r a p (and_r k (a && p) (holds (sym h)))
 
-pub mixed-requires : goal.mixed-requires
-mixed-requires c = let h = c.if-all_small.ensures in (c.if-i-j.true, c.requires.1, small-c c.args.c c.args.s h, small-a c.args.c c.args.s h)
+pub mixed-a-requires : goal.mixed-a-requires
+mixed-a-requires c = let h = c.if-all_small.ensures in (c.if-i-j.true, c.requires.1, small-c c.args.c c.args.s h, small-a c.args.c c.args.s h)
 
-pub mixed-requires-then-all_small : goal.mixed-requires-then-all_small
-mixed-requires-then-all_small c = let h = c.if-all_small.ensures in (c.if-i-j.true, c.requires.1, small-c c.args.c c.args.s h, small-p c.args.c c.args.s h)
+pub mixed-p-requires : goal.mixed-p-requires
+mixed-p-requires c = let h = c.if-all_small.ensures in (c.if-i-j.true, c.requires.1, small-c c.args.c c.args.s h, small-p c.args.c c.args.s h)
 
 pub returns-then-all_small : goal.returns-then-all_small
 returns-then-all_small c =
     let a = c.args in
     let h = c.if-all_small.ensures in
-    (λ n. Some (record { a = c.mixed.ensures n; p = c.mixed-then-all_small.ensures n })) ∙ sym (small-step a.i a.j a.c (small-c c.args.c c.args.s h) (matrices_of a.s) (small-a c.args.c c.args.s h) (small-p c.args.c c.args.s h))
+    (λ n. Some (record { a = c.mixed-a.ensures n; p = c.mixed-p.ensures n })) ∙ sym (small-step a.i a.j a.c (small-c c.args.c c.args.s h) (matrices_of a.s) (small-a c.args.c c.args.s h) (small-p c.args.c c.args.s h))
 
 pub returns : goal.returns
 returns c =

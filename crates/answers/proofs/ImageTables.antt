@@ -116,7 +116,7 @@ rotate-lengths rotation d ps told e =
     (eqb-true rotation 9 f.0, g.0, g.1, g.2)
 
 module _ (index : ℤ) (rotation addresses map d ps : List ℤ) (t : ℤ) (n : ℕ) where
-  abbrev turned : Rotated
+  abbrev turned : Result Rotated Refusal
   turned = rotate_answer index (rows (matrix_at rotation 0)) addresses map d ps t
 
   module _ {r : ℤ} {told : List ℤ} where
@@ -126,7 +126,7 @@ module _ (index : ℤ) (rotation addresses map d ps : List ℤ) (t : ℤ) (n : �
       value = et ∙ left (rotated_told turned) (unwritten n) e;
     }
 
-    pub rotate-passed : rotate_lengths (length rotation) (length d) (length ps) n ≡ true → {u v : List ℤ} {m : List (List ℤ)} {i z : ℤ} {b : Rotated} → i ≡ index → z ≡ t → m ≡ rows (matrix_at rotation 0) → u ≡ row_at d 0 → v ≡ row_at ps 0
+    pub rotate-passed : rotate_lengths (length rotation) (length d) (length ps) n ≡ true → {u v : List ℤ} {m : List (List ℤ)} {i z : ℤ} {b : Result Rotated Refusal} → i ≡ index → z ≡ t → m ≡ rows (matrix_at rotation 0) → u ≡ row_at d 0 → v ≡ row_at ps 0
         → b ≡ rotate_answer i m addresses map u v z → r ≡ rotated_number b → told ≡ rotated_told b → RotateTold index rotation addresses map d ps t n r told
     unfolding rotate_tests rotate_read rotate_answer
     rotate-passed e {u} {v} {m} ei ez em eu ev eb er et =

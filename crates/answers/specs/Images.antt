@@ -46,16 +46,15 @@ pub record BzGridAddressesTold (d q ps : List ℤ) (lattice : List Float) (t : �
   pub lengths : told ≡ pick (image_lengths (length d) (length q) (length ps) (length lattice) nt) (images_told (bz_answer d (rows (matrix_at q 0)) ps (rows (float_nine lattice)) t na nm ng)) (replicate nt (negsuc 0))
 
 -- ---- the rotation of an image
-abbrev pub rotated_number : Rotated → ℤ
-rotated_number (rotated.Image i) = pos 0
-rotated_number (rotated.Fallback i) = pos 0
-rotated_number (rotated.Refused r) = pos (number_of r)
+abbrev pub rotated_number : Result Rotated Refusal → ℤ
+rotated_number (Ok a) = pos 0
+rotated_number (Err r) = pos (number_of r)
 
 -- the index, and 1 for a fallback
-abbrev pub rotated_told : Rotated → List ℤ
-rotated_told (rotated.Image i) = i ∷ pos 0 ∷ []
-rotated_told (rotated.Fallback i) = i ∷ pos 1 ∷ []
-rotated_told (rotated.Refused r) = negsuc 0 ∷ negsuc 0 ∷ []
+abbrev pub rotated_told : Result Rotated Refusal → List ℤ
+rotated_told (Ok (rotated.Image i)) = i ∷ pos 0 ∷ []
+rotated_told (Ok (rotated.Fallback i)) = i ∷ pos 1 ∷ []
+rotated_told (Err r) = negsuc 0 ∷ negsuc 0 ∷ []
 
 -- of the rotation, d, ps and `told`
 abbrev pub rotate_lengths : ℕ → ℕ → ℕ → ℕ → Bool

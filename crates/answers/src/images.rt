@@ -53,24 +53,24 @@ pub fn rotate_lengths(rotation: usize, d: usize, ps: usize, told: usize) -> bool
 }
 
 // The index, and 1 for a fallback.
-pub fn tell_rotated(answer: Rotated, told: &mut [i64]) -> i64
+pub fn tell_rotated(answer: Result<Rotated, Refusal>, told: &mut [i64]) -> i64
     requires { length told.old ≡ 2 }
     ensures value { result ≡ rotated_number answer }
     ensures told_after { told.new ≡ rotated_told answer }
 {
     match answer {
-        Rotated::Image(i) => {
+        Ok(Rotated::Image(i)) => {
             told[0] = i;
             told[1] = 0;
             0
         }
-        Rotated::Fallback(i) => {
+        Ok(Rotated::Fallback(i)) => {
             let fallback = 1;
             told[0] = i;
             told[1] = fallback;
             0
         }
-        Rotated::Refused(r) => {
+        Err(r) => {
             common::fill(told, -1);
             r.answer()
         }

@@ -25,14 +25,14 @@ use Rattle.bzgrid.specs.declared.GridType.TheVariants.{Sparse, Dense, Unknown}
 use Rattle.bzsearch.specs.Search.{rows, numbers_from}
 use Rattle.bzgrid.specs.Table.{Image, others}
 use Rattle.bzgrid.specs.BzGridAddresses.{grid_type_of, map_of}
-use Rattle.bztable.specs.Reading.{Read, got, outside, triple_at, place_at, address_at, tests_after, list_of}
+use Rattle.bztable.specs.Reading.{Read, got, triple_at, place_at, address_at, tests_after, list_of}
 use Rattle.bztable.specs.Access.{number_in, image_places}
 use Rattle.bztable.proofs.TableRead.{sparse-start}
 use Rattle.bzsearch.proofs.Listing.{length-rows}
 use Rattle.triplet_grid.specs.IrTriplets.{input_tests, triplet_tests, map_triplets_of, classes_at, ir_triplets_answer}
 use Rattle.triplet_grid.specs.IrTriplets as class
 use Rattle.triplet_grid.proofs.Outcome.{InputAccepted, input-accepted}
-use Rattle.bz_triplets.specs.BzTriplets.{State, first_of, point_of, triplet_list, triplets_read, answer_for, bz_triplet_tests, bz_triplets_answer, triplets_written}
+use Rattle.bz_triplets.specs.BzTriplets.{State, first_of, point_of, triplet_list, triplets_read, bz_triplet_tests, bz_triplets_answer, triplets_written}
 use Rattle.bz_triplets.specs.BzTriplets as triplet
 use Rattle.demand3.specs.FinishedList.{Starts}
 use Rattle.demand3.proofs.TableWalks.{Counts, not-got, then-got, place-got, address-got}
@@ -113,22 +113,15 @@ module _ (q0 : ℤ) (addresses map classes d : List ℤ) (q : List (List ℤ)) (
 
   passed : tests ≡ Accepted
   unfolding bz_triplets_answer
-  passed = go tests refl e
-    where
-      never : (r : Refusal) → Err r ≡ Accepted → ⊥
-      never r e = let z : ◌≡◌ {A = ℕ} 0 1 = cc in omega arith
-
-      go : (x : Tested) → tests ≡ x → answer_for x ≡ Accepted → tests ≡ Accepted
-      go (Ok _) p e = p
-      go (Err r) p e = absurd (never r e)
+  passed = e
 
   all_read : (s : List State) × (reads ≡ got s)
   unfolding bz_triplet_tests
   all_read = go (triplet.input_tests q0 addresses classes d q lattice (grid_type_of t) n m l) reads passed
     where
       go : (x : Tested) (r : Read (List State)) → tests_after x r ≡ Accepted → (s : List State) × (r ≡ got s)
-      go (Ok _) (got s) e = (s, refl)
-      go (Ok _) outside e = absurd (not-accepted e)
+      go (Ok _) (Ok s) e = (s, refl)
+      go (Ok _) (Err r) e = absurd (not-accepted e)
       go (Err r) s e = absurd (not-accepted e)
 
   pub triplets-accepted : TripletsAccepted q0 addresses map classes d q lattice t n m l

@@ -9,11 +9,13 @@ use lib.Dec.{ltb, leb}
 use lib.IntN.{ℤ, pos, negsuc, nat_abs}
 use lib.ListN.{length, get_or, length-append}
 use lib.Ieee.{Float, binary64, sub, lt}
+use Rattle.std.specs.Prelude.{Ok, Err}
 use Rattle.common.specs.Matrix.{Vec}
 use Rattle.common.specs.Array.{vector_of}
+use Rattle.common.specs.declared.Refusal.{Refusal}
 use Rattle.bzgrid.specs.declared.GridType.{GridType}
 use Rattle.bzgrid.specs.declared.GridType.TheVariants.{Sparse, Dense, Unknown}
-use Rattle.bztable.specs.Reading.{Read, got, outside, ◌then◌, inside, near, triple_at, address_at, place_of, place_at}
+use Rattle.bztable.specs.Reading.{Read, got, ◌then◌, inside, near, triple_at, address_at, place_of, place_at}
 use Rattle.bztable.specs.Access.{number_in, places_from, image_places}
 use Rattle.bzgrid.specs.Table.{listed}
 use Rattle.bzsearch.specs.Search.{numbers_from}
@@ -23,18 +25,18 @@ use Rattle.bz_triplets.proofs.Choosing.{choices, nested_is}
 
 -- ---- one read
 abbrev Missing : {A : Type 0} → Read A → Type 0
-Missing (got a) = ⊥
-Missing outside = Unit {0}
+Missing (Ok a) = ⊥
+Missing (Err r) = Unit {0}
 
-pub not-got : {A : Type 0} {a : A} → outside ≡ got a → ⊥
+pub not-got : {A : Type 0} {a : A} {r : Refusal} → ◌≡◌ {A = Read A} (Err r) (got a) → ⊥
 not-got e = subst Missing e tt
 
 pub got-is : {A : Type 0} {a b : A} → got a ≡ got b → a ≡ b
 got-is e = cc
 
 pub then-got : {A B : Type 0} (r : Read A) (f : A → Read B) {b : B} → (r then f) ≡ got b → (a : A) × (r ≡ got a) × (f a ≡ got b)
-then-got (got a) f e = (a, refl, e)
-then-got outside f e = absurd (not-got e)
+then-got (Ok a) f e = (a, refl, e)
+then-got (Err r) f e = absurd (not-got e)
 
 inside-got : {A : Type 0} (t : Bool) {x a : A} → inside t x ≡ got a → x ≡ a
 inside-got true e = got-is e
@@ -124,10 +126,10 @@ module _ (w : Walk) where
 
   try-got : (r : Read State) (p : Vec ℕ) {u : State} → try_at w r p ≡ got u → (s : State) × (r ≡ got s) × (step s p ≡ u)
   unfolding try_at
-  try-got (got start) p e = (start, refl, read_step start p e)
-  try-got (got (left x b)) p e = (left x b, refl, read_step (left x b) p e)
-  try-got (got (closed b)) p e = (closed b, refl, got-is e)
-  try-got outside p e = absurd (not-got e)
+  try-got (Ok start) p e = (start, refl, read_step start p e)
+  try-got (Ok (left x b)) p e = (left x b, refl, read_step (left x b) p e)
+  try-got (Ok (closed b)) p e = (closed b, refl, got-is e)
+  try-got (Err r) p e = absurd (not-got e)
 
   walk-got : (r : Read State) (l : List (Vec ℕ)) {u : State} → foldl (try_at w) r l ≡ got u → (s : State) × (r ≡ got s) × (foldl step s l ≡ u)
   walk-got r [] {u} e = (u, e, refl)

@@ -96,12 +96,12 @@ module _ (d : Vec ℕ) (q0 : ℕ) where
       front-room h = omega (arith, passing-few keeps (matrices_from before 0 count), length_from before 0 count)
 
       -- the part from 0 on that holds them
-      pub front-part : {group : List ℤ} → group ≡ laid (front count) before → take (kept * 9 - 0) group ≡ flat (front count)
+      pub front-part : {group : List ℤ} → group ≡ laid (front count) before → take (kept * 9) group ≡ flat (front count)
       front-part e =
-          let n : kept * 9 - 0 ≡ length (front count) * 9 = omega arith in
+          let n : kept * 9 ≡ length (front count) * 9 = omega arith in
           ap₂ take n e ∙ take_at (flat (front count)) (drop (length (front count) * 9) before) (length (front count) * 9) (length-flat (front count))
 
-      pub front-matrices : {group : List ℤ} → group ≡ laid (front count) before → matrices (take (kept * 9 - 0) group) ≡ front count
+      pub front-matrices : {group : List ℤ} → group ≡ laid (front count) before → matrices (take (kept * 9) group) ≡ front count
       front-matrices e = ap matrices (front-part e) ∙ matrices-flat (front count)
 
     pub front-within : (count : ℕ) → T (all_within 100000 before) → T (all_within 100000 (flat (front count)))

@@ -4,7 +4,7 @@
 ghost use Rattle.std.specs.Prelude.{IfOk, ◌≡◌, true, false, map, ◌+◌, ◌*◌, ◌≤◌, ◌<◌, T, pos, nat_abs, length, get_or, Err};
 ghost use Rattle.common.specs.Tested.{Accepted};
 ghost use Rattle.common.specs.Matrix.{◌▹◌};
-ghost use Rattle.common.specs.Array.{vector_of, matrices_from, matrix_of, items, matrices, Sized, SizedRows};
+ghost use Rattle.common.specs.Array.{vector_of, matrix_of, items, matrices, Sized, SizedRows};
 ghost use Rattle.common.specs.Limits.{all_within, whole_matrices, rotations_fit};
 ghost use Rattle.grgrid.specs.Grid.{size, index, address};
 ghost use Rattle.grgrid.specs.Sides.{sides};
@@ -36,16 +36,15 @@ fn carried(rotation: [[i64; 3]; 3], address: [i64; 3], g: Grid) -> usize
 }
 
 // Moves the matrices that keep q0 to the front, and answers how many there are.
-fn keep_stabilizer(group: &mut [i64], count: usize, g: Grid, q0: usize) -> usize
+fn keep_stabilizer(group: &mut [i64], g: Grid, q0: usize) -> usize
     requires fact_1 { q0 < size (sides g) }
-    requires fact_2 { count * 9 ≤ length group.old }
-    requires fact_3 { T (all_within 100000 group.old) }
-    ensures group_after { group.new ≡ laid (stabilizer (sides g) q0 (matrices_from group.old 0 count)) group.old }
-    ensures value { result ≡ length (stabilizer (sides g) q0 (matrices_from group.old 0 count)) }
+    requires fact_2 { T (all_within 100000 group.old) }
+    ensures group_after { group.new ≡ laid (stabilizer (sides g) q0 (matrices group.old)) group.old }
+    ensures value { result ≡ length (stabilizer (sides g) q0 (matrices group.old)) }
 {
     let address = grgrid::grid_address_from_index(q0, g);
     let mut kept = 0;
-    for n in 0..count {
+    for n in 0..group.len() / 9 {
         let m = common::matrix_at(group, n);
         if carried(m, address, g) == q0 {
             group[kept * 9..kept * 9 + 9].copy_from_slice(&integer_matrix::flat(m));
@@ -55,16 +54,15 @@ fn keep_stabilizer(group: &mut [i64], count: usize, g: Grid, q0: usize) -> usize
     kept
 }
 
-// The classes under those of the first `count` matrices of `group` that keep q0.
-fn number_classes(group: &mut [i64], count: usize, g: Grid, q0: usize, map_q: &mut [i64])
+// The classes under those matrices of `group` that keep q0.
+fn number_classes(group: &mut [i64], g: Grid, q0: usize, map_q: &mut [i64])
     requires fact_1 { q0 < size (sides g) }
-    requires fact_2 { count * 9 ≤ length group.old }
-    requires fact_3 { T (all_within 100000 group.old) }
-    requires fact_4 { length map_q.old ≡ size (sides g) }
-    ensures { map_q.new ≡ map pos (map_q_of (sides g) q0 (matrices_from group.old 0 count)) }
+    requires fact_2 { T (all_within 100000 group.old) }
+    requires fact_3 { length map_q.old ≡ size (sides g) }
+    ensures { map_q.new ≡ map pos (map_q_of (sides g) q0 (matrices group.old)) }
 {
-    let kept = keep_stabilizer(&mut *group, count, g, q0);
-    grgrid::number_points(&group[0..kept * 9], g, [0, 0, 0], map_q);
+    let kept = keep_stabilizer(&mut *group, g, q0);
+    grgrid::number_points(&group[..kept * 9], g, [0, 0, 0], map_q);
 }
 
 // The class number of q1, which is its own, or that of its partner if it is lower.
@@ -151,7 +149,7 @@ fn classes_at(
         false,
         &mut group,
     )?;
-    number_classes(&mut group, count, g, q0, map_q);
+    number_classes(&mut group[..count * 9], g, q0, map_q);
     Ok(())
 }
 

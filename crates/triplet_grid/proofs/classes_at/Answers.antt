@@ -14,15 +14,29 @@ returns-in_err-count-clause-value c =
     let h : c.from_residual.result ≡ Err c.in_err-count.field-0.0 = search rules in
     h ∙ refused s.rotations.now s.is_time_reversal c.requires.fact_2 c.requires.fact_3 432 refl c.get_reciprocal_point_group.ensures.value c.in_err-count.was
 
-pub number_classes-requires-clause-fact_2 : goal.number_classes-requires-clause-fact_2
-number_classes-requires-clause-fact_2 c =
+pub overflow_mul-group : goal.overflow_mul-group
+overflow_mul-group c =
     let s = c.args in
     let e = c.get_reciprocal_point_group.ensures in
     let t = group-told s.rotations.now s.is_time_reversal c.requires.fact_2 c.requires.fact_3 432 refl e.value c.in_ok-count.was e.out_after in
     search rules
 
-pub number_classes-requires-clause-fact_3 : goal.number_classes-requires-clause-fact_3
-number_classes-requires-clause-fact_3 c =
+pub slice_bounds-group-end : goal.slice_bounds-group-end
+slice_bounds-group-end c =
+    let s = c.args in
+    let e = c.get_reciprocal_point_group.ensures in
+    let t = group-told s.rotations.now s.is_time_reversal c.requires.fact_2 c.requires.fact_3 432 refl e.value c.in_ok-count.was e.out_after in
+    search rules
+
+pub slice_bounds-number_classes-end : goal.slice_bounds-number_classes-end
+slice_bounds-number_classes-end c =
+    let s = c.args in
+    let e = c.get_reciprocal_point_group.ensures in
+    let t = group-told s.rotations.now s.is_time_reversal c.requires.fact_2 c.requires.fact_3 432 refl e.value c.in_ok-count.was e.out_after in
+    search rules
+
+pub number_classes-requires-clause-fact_2 : goal.number_classes-requires-clause-fact_2
+number_classes-requires-clause-fact_2 c =
     let s = c.args in
     let e = c.get_reciprocal_point_group.ensures in
     (group-told s.rotations.now s.is_time_reversal c.requires.fact_2 c.requires.fact_3 432 refl e.value c.in_ok-count.was e.out_after).within

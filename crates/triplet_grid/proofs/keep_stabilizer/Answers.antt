@@ -18,7 +18,7 @@ pub carried-requires-clause-fact_1 : goal.carried-requires-clause-fact_1
 carried-requires-clause-fact_1 c =
     let s = c.args in
     let l = c.loop-n in
-    rw (c.matrix_at-m.ensures ∙ ap rows (front_read (sides s.g) s.q0 s.group.now l.invariant)) (rotation-sized 100000 s.group.now c.requires.fact_3 l.n)
+    rw (c.matrix_at-m.ensures ∙ ap rows (front_read (sides s.g) s.q0 s.group.now l.invariant)) (rotation-sized 100000 s.group.now c.requires.fact_2 l.n)
 
 pub carried-requires-clause-fact_2 : goal.carried-requires-clause-fact_2
 carried-requires-clause-fact_2 c = rw c.grid_address_from_index-address.ensures (address-sized c.args.g c.args.q0 c.requires.fact_1)

@@ -1,6 +1,9 @@
 use mathlib.Core.Path.{◌∙◌, ap}
 use mathlib.Core.List.{map}
+use Prim.Native.Nat.{◌/◌}
+use native.Mathlib.Nat.{div-mul-le_self}
 use lib.IntN.{pos}
+use lib.ListN.{length}
 use borrow.Author.Rules.{rules}
 use Rattle.common.specs.Matrix.{origin}
 use Rattle.grgrid.specs.Sides.{sides}
@@ -12,24 +15,33 @@ use Rattle.triplet_grid.proofs.number_classes.Goals as goal
 pub overflow_mul-kept : goal.overflow_mul-kept
 overflow_mul-kept c =
     let s = c.args in
-    let h = front-room (sides s.g) s.q0 s.group.now s.count c.keep_stabilizer-kept.ensures.value c.requires.fact_2 in
+    let n = length s.group.now in
+    let h = front-room (sides s.g) s.q0 s.group.now (n / 9) c.keep_stabilizer-kept.ensures.value (div-mul-le_self n 9) in
     search rules
 
 pub slice_bounds-number_points-end : goal.slice_bounds-number_points-end
 slice_bounds-number_points-end c =
     let s = c.args in
-    let h = front-room (sides s.g) s.q0 s.group.now s.count c.keep_stabilizer-kept.ensures.value c.requires.fact_2 in
+    let n = length s.group.now in
+    let h = front-room (sides s.g) s.q0 s.group.now (n / 9) c.keep_stabilizer-kept.ensures.value (div-mul-le_self n 9) in
+    search rules
+
+pub slice_bounds-number_points-end-2 : goal.slice_bounds-number_points-end-2
+slice_bounds-number_points-end-2 c =
+    let s = c.args in
+    let n = length s.group.now in
+    let h = front-room (sides s.g) s.q0 s.group.now (n / 9) c.keep_stabilizer-kept.ensures.value (div-mul-le_self n 9) in
     search rules
 
 pub number_points-requires-clause-fact_1 : goal.number_points-requires-clause-fact_1
 number_points-requires-clause-fact_1 c =
     let s = c.args in
     let k = c.keep_stabilizer-kept.ensures in
-    rw (front-part (sides s.g) s.q0 s.group.now s.count k.value k.group_after) (front-within (sides s.g) s.q0 s.group.now s.count c.requires.fact_3)
+    rw (front-part (sides s.g) s.q0 s.group.now (length s.group.now / 9) k.value k.group_after) (front-within (sides s.g) s.q0 s.group.now (length s.group.now / 9) c.requires.fact_2)
 
 pub returns : goal.returns
 unfolding map_q_of
 returns c =
     let s = c.args in
     let k = c.keep_stabilizer-kept.ensures in
-    c.number_points.ensures ∙ ap (λ l. map pos (class_map_of (sides s.g) origin l)) (front-matrices (sides s.g) s.q0 s.group.now s.count k.value k.group_after)
+    c.number_points.ensures ∙ ap (λ l. map pos (class_map_of (sides s.g) origin l)) (front-matrices (sides s.g) s.q0 s.group.now (length s.group.now / 9) k.value k.group_after)

@@ -20,7 +20,6 @@ pub fn triplet_lengths(d: usize, q: usize, lattice: usize) -> bool
     d == 3 && q == 9 && lattice == 9
 }
 
-#[tactic(auto, using(bz_triplets::proofs::Measured::minus-one-literal))]
 pub fn refuse_triplets(out: &mut [i64], left: &mut [i64], left_length: &mut [f64]) -> i64
     ensures value { result ≡ pos (number_of WrongLength) }
     ensures out_after { out.new ≡ replicate (length out.old) (negsuc 0) }

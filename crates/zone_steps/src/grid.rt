@@ -113,7 +113,6 @@ fn choose_triplets(
 }
 
 // -1 in every place.
-#[tactic(auto, using(bz_triplets::proofs::Measured::minus-one-literal))]
 pub fn wipe_lists(
     classes: &mut [i64],
     points: &mut [i64],

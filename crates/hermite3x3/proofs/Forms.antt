@@ -3,8 +3,7 @@ use mathlib.Core.Path.{◌≡◌, refl, sym, ◌∙◌, ap, subst}
 use mathlib.Core.Logic.{◌↔◌}
 use mathlib.Core.List.{List, []}
 use lib.IntN.{ℤ}
-use lib.ListN.{length}
-use Rattle.std.specs.Prelude.{Option, Some, Result, Ok, Err, IfOk}
+use Rattle.std.specs.Prelude.{Option, Result, Ok, Err, IfOk}
 use Rattle.std.specs.declared.cmp.Ordering.{Ordering}
 use Rattle.std.specs.declared.cmp.Ordering.TheVariants.{Less, Equal, Greater}
 use Rattle.std.specs.Ordering.{is_eq}
@@ -13,7 +12,7 @@ use Rattle.integer.specs.Checked.{is_zero, pick}
 use Rattle.integer.proofs.Test.{pick-cases}
 use Rattle.integer.proofs.Size.{nonzero-test}
 use Rattle.common.specs.declared.Refusal.{Refusal}
-use Rattle.common.specs.declared.Refusal.TheVariants.{Singular, OutsideLimits, Overflow}
+use Rattle.common.specs.declared.Refusal.TheVariants.{Singular, OutsideLimits}
 use Rattle.common.specs.Limits.{matrix_within}
 use Rattle.common.specs.Matrix.{Mat, entries, det}
 use Rattle.common.specs.Array.{matrix_at}

@@ -1,5 +1,5 @@
 -- The order of forms: equal exactly if the numbers are; exchanged it is the reverse; and it is transitive.
-use Rattle.std.proofs.Common.{◌≡◌, ◌↔◌, List, [], ◌∷◌, ℤ, ◌<ℤ◌, Ordering, Less, Equal, Greater, true, refl, sym, ◌∙◌, ap, ap₂}
+use Rattle.std.proofs.Common.{◌≡◌, ◌↔◌, List, [], ◌∷◌, ℤ, ◌<ℤ◌, Ordering, Less, Equal, Greater, refl, sym, ◌∙◌, ap, ap₂}
 use Rattle.std.specs.Ordering.{int_cmp, is_eq, ordering_then, MatchOrdering}
 use Rattle.std.specs.Cmp.{IsTotalOrder}
 use Rattle.std.specs.Cmp.Lexicographic.{slice_cmp}

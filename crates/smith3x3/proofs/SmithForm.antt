@@ -2,7 +2,7 @@
 use mathlib.Core.Path.{◌≡◌, refl, sym, ◌∙◌, ap, ap₂, subst}
 use mathlib.Core.Bool.{◌&&◌}
 use mathlib.Core.Logic.{inr}
-use Prim.Native.Nat.{ℕ, zero, ◌*◌, ◌<◌}
+use Prim.Native.Nat.{ℕ, zero, ◌<◌}
 use native.Mathlib.Nat.{mul-pos}
 use lib.Dec.{T_not, lt→ltb}
 use lib.IntN.{ℤ, pos, nat_abs, ◌*ℤ◌}

@@ -8,7 +8,7 @@ use native.Mathlib.Omega.{arith}
 use lib.Dec.{T, lit≤, lit<, le→leb}
 use lib.IntN.{ℤ, nat_abs, ◌*ℤ◌}
 use Rattle.std.specs.Prelude.{Option, Some, None, Result, Ok, Err}
-use Rattle.integer.specs.Checked.{is_zero, pick}
+use Rattle.integer.specs.Checked.{is_zero}
 use Rattle.integer.specs.Divides.{Divides}
 use Rattle.integer.proofs.Ring.{*ℤ-1, *ℤ-assoc}
 use Rattle.integer.proofs.Test.{pick-cases}
@@ -20,7 +20,6 @@ use Rattle.common.specs.declared.Refusal.{Refusal}
 use Rattle.common.specs.declared.Refusal.TheVariants.{Singular, NotConverged, OutsideLimits, Overflow}
 use Rattle.common.specs.Limits.{matrix_within}
 use Rattle.common.specs.Matrix.{Axis, X, Y, Z, Mat, entry, det}
-use Rattle.common.proofs.Tests.{not-accepted}
 use Rattle.common.proofs.Bounds.{matrix-sizes}
 use Rattle.common.proofs.Unimodular.{Regular}
 use Rattle.common.proofs.Whole.{det-size}

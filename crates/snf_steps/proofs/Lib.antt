@@ -1,6 +1,5 @@
 pub mod Fitting
 pub mod Remainders
-pub mod Binding
 pub mod Settled
 pub mod Accepted
 pub mod Halving

@@ -36,6 +36,7 @@ fn swap_diag_elems(i: usize, j: usize, s: Triple) -> Option<Triple>
     on_columns(l, on_rows(l, s)?)
 }
 
+// Taken apart and built again, a triple is copied without a call.
 fn order(i: usize, j: usize, s: Triple) -> Option<Triple>
     requires { (i < 3) × (j < 3) }
     ensures { triple_of result ≡ finalize.order i j (on_diagonal s i) (on_diagonal s j) (three_of s) }

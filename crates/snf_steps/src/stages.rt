@@ -18,7 +18,7 @@ pub struct Triple {
     pub q: [[i64; 3]; 3],
 }
 
-// What a stage leaves, and whether it is through.
+// What a stage leaves, and whether it is through: both ways leave a triple, so an enum of the two would only add a match to read it.
 #[derive(Clone, Copy)]
 pub struct Outcome {
     pub left: Triple,
@@ -129,7 +129,7 @@ pub fn first(s: Triple) -> Option<Outcome>
     first_tests(t.a[0][0], t.a[1][0], t.a[2][0], t)
 }
 
-// ---- second
+// ---- second: its own functions, as one with the column's step for a parameter would have a contract about every step that may be passed
 #[tactic(auto, unfolding(crate::specs::Stages::one_loop))]
 fn second_one_loop(s: Triple) -> Option<Triple>
     ensures { triple_of result ≡ stages.one_loop columns.second_column (three_of s) }

@@ -1,6 +1,5 @@
-use Rattle.std.proofs.Common.{◌≡◌, length, Ok, Some, sym, ◌∙◌, rules}
+use Rattle.std.proofs.Common.{◌≡◌, length, ◌∙◌, rules}
 use Rattle.common.specs.Array.{vector_of, matrix_at}
-use Rattle.smith3x3.specs.Written.{product_of}
 use Rattle.smith3x3.proofs.Joining.{three-items, both-products, multiplied-by}
 use Rattle.smith3x3.proofs.multiplied.Goals as goal
 

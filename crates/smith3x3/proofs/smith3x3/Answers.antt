@@ -1,4 +1,4 @@
-use Rattle.std.proofs.Common.{◌≡◌, Result, Ok, Err, ◌∙◌, ap, rules}
+use Rattle.std.proofs.Common.{◌≡◌, Err, ◌∙◌, ap, rules}
 use Rattle.common.specs.Matrix.{diagonal}
 use Rattle.common.specs.Array.{vector_of, matrix_of, matrix_at}
 use Rattle.snf3x3.specs.Snf3x3.{snf3x3, snf3x3_unlimited}

@@ -1,4 +1,4 @@
-use Rattle.std.proofs.Common.{◌≡◌, [], ◌∷◌, Ok, pos, get_or, to_z, w64, rules, arith}
+use Rattle.std.proofs.Common.{◌≡◌, [], ◌∷◌, Ok, pos, get_or, w64, rules, arith}
 use mir.Facts.{to_z_pos}
 use Rattle.integer.proofs.Fits.{held}
 use Rattle.common.specs.Matrix.{entries, transpose}

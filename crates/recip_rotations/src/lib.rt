@@ -35,7 +35,12 @@ pub fn contains(a: &[i64], n: usize, list: &[i64], count: usize) -> bool
     requires { (n * 9 + 9 ≤ length a.now) × (count * 9 ≤ length list.now) }
     ensures { result ≡ among (matrix_at a.now n) (matrices_from list.now 0 count) }
 {
-    (0..count).any(|k| same_matrix(a, n, list, k))
+    for k in 0..count {
+        if same_matrix(a, n, list, k) {
+            return true;
+        }
+    }
+    false
 }
 
 fn transpose_at(list: &mut [i64], at: usize)

@@ -8,19 +8,16 @@ use mathlib.Core.List.Memᴰ.{not-nil}
 use mathlib.Core.List.Memᴰ.{tail as there}
 use mathlib.Core.List.{List, [], ◌∷◌, map}
 use Prim.Native.Nat.{ℕ}
-use native.Mathlib.Omega.{arith}
 use lib.Dec.{T, leb}
 use lib.IntN.{ℤ, pos, nat_abs}
-use Rattle.std.specs.Prelude.{Err}
 use Rattle.integer.proofs.Test.{and_l, and_r, and_in, holds, is_true}
 use Rattle.common.specs.Matrix.{Axis, X, Y, Z, Vec, Mat, side, entries, diagonal}
 use Rattle.common.specs.Array.{along, vector_of, sides_of, matrix_of, matrices, flat}
 use Rattle.common.specs.Limits.{side_fits, diagonal_fits}
 use Rattle.common.specs.Tested.{require, output_of, after, Tested, Accepted}
-use Rattle.common.specs.declared.Refusal.{Refusal}
 use Rattle.common.specs.declared.Refusal.TheVariants.{SymmetryBroken}
 use Rattle.common.proofs.Matrix.{axes-of, same-vector}
-use Rattle.common.proofs.Tests.{passed, passed-by, both-accepted}
+use Rattle.common.proofs.Tests.{passed, both-accepted}
 use Rattle.common.proofs.Bounds.{side-above}
 use Rattle.grgrid.specs.Grid.{size}
 use Rattle.grgrid.proofs.Lists.{◌∈◌}

@@ -7,7 +7,8 @@ use native.Mathlib.Omega.{arith}
 use lib.IntN.{ℤ}
 use lib.Ieee.{Float}
 use lib.ListN.{length, take, drop, length-append, take-append-drop, drop_of_length-le}
-use lib.Seq.{sets, sets-eq, take_at, length-take-le}
+use lib.Seq.{sets, sets-eq, take_at, length-take-le, drop-drop}
+use borrow.Rule.Slice.PartMut.{put_mid}
 use Rattle.common.specs.Matrix.{Mat, entries}
 use Rattle.common.specs.Array.{matrix_of, rows, matrix_at, matrices_from}
 use Rattle.common.specs.FloatMatrix.{float_matrix}
@@ -21,6 +22,17 @@ module _ (out : List ℤ) (at : ℕ) (m : Mat ℤ) (h : at + 9 ≤ length out) w
 
   length_front : length front ≡ at + 9
   length_front = length-append (take at out) (entries m []) ∙ ap (λ n. n + 9) (length-take-le at out (omega arith))
+
+  -- nine numbers copied
+  pub copied : put_mid at (at + 9 - at) out (entries m []) ≡ sets out at (entries m [])
+  copied =
+      ap (λ k. put_mid at k out (entries m [])) nine
+      ∙ ap (λ t. take at out ++ (entries m [] ++ t)) (drop-drop 9 at out)
+      ∙ sym (append_assoc (take at out) (entries m []) (drop (at + 9) out))
+      ∙ sym (sets-eq (entries m []) out at h)
+    where
+      nine : at + 9 - at ≡ 9
+      nine = omega arith
 
   -- after nine stores
   taken-sets : take (at + 9) (sets out at (entries m [])) ≡ front
@@ -63,8 +75,8 @@ module _ (g : Mat ℤ → Mat Float) (l : List ℤ) (count : ℕ) where
         plus_one n = omega arith
 
     module _ {out : List ℤ} (t : Turned g l count n out) where
-      pub broken : is_whole (g (matrix_at l n)) ≡ false → false ≡ whole_by g (matrices_from l 0 count)
-      broken e = sym (ap (λ b. b && whole_by g (matrices_from l (n + 1) (count - (n + 1)))) e) ∙ sym (ap (whole_by g) next) ∙ t.whole
+      pub broken : is_whole (g (matrix_at l n)) ≡ false → whole_by g (matrices_from l 0 count) ≡ false
+      broken e = sym t.whole ∙ ap (whole_by g) next ∙ ap (λ b. b && whole_by g (matrices_from l (n + 1) (count - (n + 1)))) e
 
       -- one more rotation tested and written
       module _ (r : n * 9 + 9 ≤ length out) (e : is_whole (g (matrix_at l n)) ≡ true) where

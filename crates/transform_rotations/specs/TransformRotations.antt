@@ -1,5 +1,5 @@
 -- `transform_rotations`: the tests, the answer and the output, which has n places.
-use Rattle.std.specs.Prelude.{Bool, true, not, ◌&&◌, List, [], ◌∷◌, ℕ, leb, eqb, ℤ, pos, length, Ok, Err}
+use Rattle.std.specs.Prelude.{Bool, true, not, ◌&&◌, List, [], ◌∷◌, ℕ, leb, eqb, ℤ, pos, length}
 use Rattle.std.specs.Float.{binary64}
 use Rattle.std.specs.Float.Ieee.{of_int, eq}
 use Rattle.common.specs.Matrix.{Vec, Mat, entries, det_over}

@@ -5,7 +5,8 @@ ghost use Rattle.std.specs.Prelude.{◌≡◌, true, ◌&&◌, [], ◌+◌, ◌*
 ghost use Rattle.std.specs.Float.{nan, binary64};
 ghost use Rattle.std.specs.Float.Ieee.{div};
 ghost use Rattle.std.proofs.lemmas.List.Edits.{sets};
-ghost use Rattle.common.specs.Tested.{Accepted};
+ghost use Rattle.common.specs.Tested.{require, Accepted};
+ghost use Rattle.common.specs.declared.Refusal.TheVariants.{SymmetryBroken};
 ghost use Rattle.float.specs.Rounding.{nint_of};
 ghost use Rattle.common.specs.Matrix.{all_axes, cross, entries, map_vec};
 ghost use Rattle.common.specs.Array.{number, along, vector_of, items, matrix_of, rows, row_at, matrix_at, matrices};
@@ -41,13 +42,11 @@ fn inverse_row(a: [f64; 3], b: [f64; 3], det: f64) -> [f64; 3]
 fn inverse_f64(m: [[f64; 3]; 3], det: f64) -> [[f64; 3]; 3]
     ensures { result ≡ rows (inverse_over (float_matrix m) det) }
 {
-    let x = [m[0][0], m[1][0], m[2][0]];
-    let y = [m[0][1], m[1][1], m[2][1]];
-    let z = [m[0][2], m[1][2], m[2][2]];
+    let [[a, b, c], [d, e, f], [g, h, i]] = m;
     [
-        inverse_row(y, z, det),
-        inverse_row(z, x, det),
-        inverse_row(x, y, det),
+        inverse_row([b, e, h], [c, f, i], det),
+        inverse_row([c, f, i], [a, d, g], det),
+        inverse_row([a, d, g], [b, e, h], det),
     ]
 }
 
@@ -58,13 +57,11 @@ fn scaled_row(a: [f64; 3], dj: f64, d: [f64; 3]) -> [f64; 3]
     [a[0] * dj / d[0], a[1] * dj / d[1], a[2] * dj / d[2]]
 }
 
+#[tactic(auto, unfolding(crate::specs::Steps::transform_over))]
 fn transform(q_inv: [[f64; 3]; 3], q: [[f64; 3]; 3], d: [f64; 3], r: [[f64; 3]; 3]) -> [[f64; 3]; 3]
     ensures { result ≡ rows (transform_over (float_matrix q_inv) (float_matrix q) (float_vector d) (float_matrix r)) }
 {
-    let m = float_matrix::matmul_d(float_matrix::matmul_d(q_inv, r), q);
-    let x = m[0];
-    let y = m[1];
-    let z = m[2];
+    let [x, y, z] = float_matrix::matmul_d(float_matrix::matmul_d(q_inv, r), q);
     [
         scaled_row(x, d[0], d),
         scaled_row(y, d[1], d),
@@ -72,30 +69,11 @@ fn transform(q_inv: [[f64; 3]; 3], q: [[f64; 3]; 3], d: [f64; 3], r: [[f64; 3]; 
     ]
 }
 
-// Three entries of the rotations as f64. With the limit in force the casts are exact.
-fn rotation_row(rotations: &[i64], at: usize) -> [f64; 3]
-    requires fact_1 { at + 3 ≤ length rotations.now }
-    requires fact_2 { T (all_within 100 rotations.now) }
-    ensures { result ≡ row_d (row_at rotations.now at) }
-{
-    [
-        rotations[at] as f64,
-        rotations[at + 1] as f64,
-        rotations[at + 2] as f64,
-    ]
-}
-
 fn rotation_at(rotations: &[i64], n: usize) -> [[f64; 3]; 3]
-    requires fact_1 { n * 9 + 9 ≤ length rotations.now }
-    requires fact_2 { T (all_within 100 rotations.now) }
+    requires { n * 9 + 9 ≤ length rotations.now }
     ensures { result ≡ rows (to_d (matrix_at rotations.now n)) }
 {
-    let at = n * 9;
-    [
-        rotation_row(rotations, at),
-        rotation_row(rotations, at + 3),
-        rotation_row(rotations, at + 6),
-    ]
+    float_matrix::mat_i_to_d(common::matrix_at(rotations, n))
 }
 
 // From the bits of x + 2^52 + 2^51, whose last binary digits are those of the whole number nearest to x: that number, if it is of a size up to 2^51.
@@ -140,12 +118,11 @@ fn nint_row(a: [f64; 3]) -> [i64; 3]
     [nint_entry(a[0]), nint_entry(a[1]), nint_entry(a[2])]
 }
 
+#[tactic(auto, unfolding(crate::specs::Transform::rounded))]
 fn nint_matrix(m: [[f64; 3]; 3]) -> [[i64; 3]; 3]
     ensures { result ≡ rows (rounded (float_matrix m)) }
 {
-    let x = m[0];
-    let y = m[1];
-    let z = m[2];
+    let [x, y, z] = m;
     [nint_row(x), nint_row(y), nint_row(z)]
 }
 
@@ -158,77 +135,66 @@ fn near(n: i64, x: f64) -> bool
 fn row_near(n: [i64; 3], a: [f64; 3]) -> bool
     ensures { result ≡ all_axes (λ k. near (along n k) (get_or a (number k) nan)) }
 {
-    common::all_three(near(n[0], a[0]), near(n[1], a[1]), near(n[2], a[2]))
+    near(n[0], a[0]) && near(n[1], a[1]) && near(n[2], a[2])
 }
 
+#[tactic(auto, unfolding(crate::specs::Steps::all_near))]
 fn all_near(n: [[i64; 3]; 3], m: [[f64; 3]; 3]) -> bool
     ensures { result ≡ all_near (matrix_of n) (float_matrix m) }
 {
-    let a = n[0];
-    let b = n[1];
-    let c = n[2];
-    let x = m[0];
-    let y = m[1];
-    let z = m[2];
-    common::all_three(row_near(a, x), row_near(b, y), row_near(c, z))
+    row_near(n[0], m[0]) && row_near(n[1], m[1]) && row_near(n[2], m[2])
 }
 
-fn store_row(out: &mut [i64], at: usize, a: [i64; 3])
-    requires { at + 3 ≤ length out.old }
-    ensures { out.new ≡ sets out.old at (items (vector_of a)) }
+// A twin of that of `integer_matrix`, on which this crate does not stand.
+fn flat(m: [[i64; 3]; 3]) -> [i64; 9]
+    ensures { result ≡ entries (matrix_of m) [] }
 {
-    out[at] = a[0];
-    out[at + 1] = a[1];
-    out[at + 2] = a[2];
+    let [[a, b, c], [d, e, f], [g, h, i]] = m;
+    [a, b, c, d, e, f, g, h, i]
 }
 
 fn store(out: &mut [i64], at: usize, m: [[i64; 3]; 3])
     requires { at + 9 ≤ length out.old }
     ensures { out.new ≡ sets out.old at (entries (matrix_of m) []) }
 {
-    let x = m[0];
-    let y = m[1];
-    let z = m[2];
-    store_row(out, at, x);
-    store_row(out, at + 3, y);
-    store_row(out, at + 6, z);
+    out[at..at + 9].copy_from_slice(&flat(m));
 }
 
-// Whether each rotation is transformed to whole numbers, which the output then holds.
+// Each rotation transformed, where all come to whole numbers. A refusal may leave anything in the output.
 fn transform_each(
     rotations: &[i64],
     q_inv: [[f64; 3]; 3],
     q: [[f64; 3]; 3],
     d: [f64; 3],
     out: &mut [i64],
-) -> bool
-    requires fact_1 { length out.old ≡ length rotations.now }
-    requires fact_2 { T (whole_matrices rotations.now) }
-    requires fact_3 { T (all_within 100 rotations.now) }
-    ensures value { result ≡ whole_by (transform_by (float_matrix q_inv) (float_matrix q) (float_vector d)) (matrices rotations.now) }
-    ensures out_after { result ≡ true → out.new ≡ list_by (transform_by (float_matrix q_inv) (float_matrix q) (float_vector d)) (matrices rotations.now) }
+) -> Result<(), Refusal>
+    requires same_length { length out.old ≡ length rotations.now }
+    requires whole { T (whole_matrices rotations.now) }
+    ensures value { result ≡ require (whole_by (transform_by (float_matrix q_inv) (float_matrix q) (float_vector d)) (matrices rotations.now)) SymmetryBroken Accepted }
+    ensures out_after { result ≡ Accepted → out.new ≡ list_by (transform_by (float_matrix q_inv) (float_matrix q) (float_vector d)) (matrices rotations.now) }
 {
-    let count = rotations.len() / 9;
-    let mut n = 0;
-    while n < count {
+    for n in 0..rotations.len() / 9 {
         let m = transform(q_inv, q, d, rotation_at(rotations, n));
         let rounded = nint_matrix(m);
         if !all_near(rounded, m) {
-            return false;
+            return Err(Refusal::SymmetryBroken);
         }
         store(out, n * 9, rounded);
-        n += 1;
     }
-    true
+    Ok(())
 }
 
 // Q, its inverse and D are f64 once for all rotations.
-fn transform_all(rotations: &[i64], d: [i64; 3], q: [[i64; 3]; 3], out: &mut [i64]) -> bool
-    requires fact_1 { length out.old ≡ length rotations.now }
-    requires fact_2 { T (whole_matrices rotations.now) }
-    requires fact_3 { T (all_within 100 rotations.now) }
-    ensures value { result ≡ all_whole (vector_of d) (matrix_of q) (matrices rotations.now) }
-    ensures out_after { result ≡ true → out.new ≡ transformed_list (vector_of d) (matrix_of q) (matrices rotations.now) }
+fn transform_all(
+    rotations: &[i64],
+    d: [i64; 3],
+    q: [[i64; 3]; 3],
+    out: &mut [i64],
+) -> Result<(), Refusal>
+    requires same_length { length out.old ≡ length rotations.now }
+    requires whole { T (whole_matrices rotations.now) }
+    ensures value { result ≡ require (all_whole (vector_of d) (matrix_of q) (matrices rotations.now)) SymmetryBroken Accepted }
+    ensures out_after { result ≡ Accepted → out.new ≡ transformed_list (vector_of d) (matrix_of q) (matrices rotations.now) }
 {
     let q_d = float_matrix::mat_i_to_d(q);
     let q_inv = inverse_f64(q_d, float_matrix::det_d(q_d));
@@ -244,16 +210,16 @@ fn singular_q(q: [[i64; 3]; 3]) -> bool
 fn entries_fit(rotations: &[i64], d: [i64; 3], q: [[i64; 3]; 3]) -> bool
     ensures { result ≡ all_within 100 rotations.now && (matrix_within 1000 (matrix_of q) && diagonal_fits d) }
 {
-    if !common::all_within(rotations, 100) {
-        return false;
-    }
-    if !common::matrix_within(q, 1000) {
-        return false;
-    }
-    common::diagonal_fits(d)
+    common::all_within(rotations, 100) && common::matrix_within(q, 1000) && common::diagonal_fits(d)
 }
 
-fn input_tests(rotations: &[i64], d: [i64; 3], q: [[i64; 3]; 3], places: usize) -> Result<(), Refusal>
+#[tactic(auto, unfolding(crate::specs::TransformRotations::input_tests))]
+fn input_tests(
+    rotations: &[i64],
+    d: [i64; 3],
+    q: [[i64; 3]; 3],
+    places: usize,
+) -> Result<(), Refusal>
     ensures { result ≡ input_tests rotations.now d q places }
 {
     if !common::whole_matrices(rotations) {
@@ -275,19 +241,17 @@ fn input_tests(rotations: &[i64], d: [i64; 3], q: [[i64; 3]; 3], places: usize) 
 }
 
 // With the tests of the input. A refusal may leave anything in the output.
-fn transform_tests(rotations: &[i64], d: [i64; 3], q: [[i64; 3]; 3], out: &mut [i64]) -> Result<(), Refusal>
+fn transform_tests(
+    rotations: &[i64],
+    d: [i64; 3],
+    q: [[i64; 3]; 3],
+    out: &mut [i64],
+) -> Result<(), Refusal>
     ensures value { result ≡ transform_tests rotations.now d q (length out.old) }
     ensures out_after { result ≡ Accepted → out.new ≡ transformed_list (vector_of d) (matrix_of q) (matrices rotations.now) }
 {
-    match input_tests(rotations, d, q, out.len()) {
-        Ok(()) => {
-            if transform_all(rotations, d, q, out) {
-                return Ok(());
-            }
-            Err(Refusal::SymmetryBroken)
-        }
-        Err(r) => Err(r),
-    }
+    input_tests(rotations, d, q, out.len())?;
+    transform_all(rotations, d, q, out)
 }
 
 // D·Q⁻¹·R·Q·D⁻¹ of each rotation R, nine numbers each.
@@ -303,7 +267,7 @@ pub fn transform_rotations(
     match transform_tests(rotations, d, q, out) {
         Ok(()) => Ok(()),
         Err(r) => {
-            common::fill(out, -1);
+            out.fill(-1);
             Err(r)
         }
     }

@@ -1,17 +1,24 @@
-use mathlib.Core.Path.{refl, ◌∙◌}
-use native.Mathlib.Omega.{arith}
+use mathlib.Core.Path.{sym, ◌∙◌}
+use native.Mathlib.Nat.{sub-zero}
 use borrow.Author.Rules.{rules}
-use borrow.Author.Tests.{tests}
-use Rattle.std.proofs.lemmas.Iterator.{YieldsList-from_range}
-use Rattle.std.proofs.lemmas.Iterator.Search.{any_from_yields_List}
 use Rattle.common.specs.Array.{matrix_at}
-use Rattle.recip_rotations.specs.Unique.{same_matrix}
-use Rattle.recip_rotations.proofs.Among.{any-among}
+use Rattle.recip_rotations.proofs.Among.{found, further, nowhere}
 use Rattle.recip_rotations.proofs.contains.Goals as goal
+
+pub loop-k-init : goal.loop-k-init
+loop-k-init c = rw sub-zero
+
+pub returns-then-same_matrix : goal.returns-then-same_matrix
+returns-then-same_matrix c =
+    let a = c.args in
+    sym (c.loop-k.invariant ∙ found a.list.now c.loop-k.k a.count (matrix_at a.a.now a.n) (search rules) (sym c.same_matrix.ensures ∙ c.if-same_matrix.true))
+
+pub loop-k-preserved : goal.loop-k-preserved
+loop-k-preserved c =
+    let a = c.args in
+    c.loop-k.invariant ∙ further a.list.now c.loop-k.k a.count (matrix_at a.a.now a.n) (search rules) (sym c.same_matrix.ensures ∙ c.if-same_matrix.false)
 
 pub returns : goal.returns
 returns c =
     let a = c.args in
-    let m = matrix_at a.a.now a.n in
-    any_from_yields_List (λ k. same_matrix m (matrix_at a.list.now k)) _ _ _ c.any.ensures.ran (YieldsList-from_range 0 a.count a.count refl (omega arith)) (λ x b q k. search (rules, tests))
-    ∙ any-among m a.list.now 0 a.count
+    sym (c.loop-k.invariant ∙ nowhere a.list.now c.loop-k.k a.count (matrix_at a.a.now a.n) (search rules))

@@ -1,0 +1,61 @@
+use mathlib.Core.Path.{◌≡◌, sym, ◌∙◌, ap}
+use mathlib.Core.List.{[]}
+use Prim.Native.Nat.{ℕ, ◌*◌, ◌/◌, ◌%◌, ◌≤◌}
+use native.Mathlib.Omega.{arith}
+use native.Mathlib.Nat.{div-add-mod}
+use lib.Seq.{sets}
+use lib.Dec.{T, eqb, eqb→eq}
+use lib.ListN.{length}
+use borrow.Author.Rules.{rules}
+use Rattle.common.specs.FloatMatrix.{float_vector, float_matrix}
+use Rattle.common.specs.Array.{matrix_of, rows, matrix_at}
+use Rattle.common.specs.Matrix.{entries}
+use Rattle.common.specs.Tested.{require, Accepted}
+use Rattle.common.specs.declared.Refusal.TheVariants.{SymmetryBroken}
+use Rattle.common.proofs.Tests.{not-accepted}
+use Rattle.transform_rotations.specs.Steps.{transform_over, transform_by}
+use Rattle.transform_rotations.proofs.Turns.{turned_none, turned_on, broken, all_whole_lem, all_listed, rounded-rows, near-whole}
+use Rattle.transform_rotations.proofs.transform_each.Goals as goal
+
+-- whole matrices leave no place after the last
+ended : (m n : ℕ) {k : ℕ} → T (eqb (m % 9) 0) → m / 9 ≤ n → k ≡ m → k ≤ n * 9
+ended m n t h e = let z : m % 9 ≡ 0 = eqb→eq (m % 9) 0 t in omega (arith, div-add-mod m 9)
+
+pub loop-n-init : goal.loop-n-init
+loop-n-init c =
+    let a = c.args in
+    turned_none (transform_by (float_matrix a.q_inv) (float_matrix a.q) (float_vector a.d)) a.rotations.now (length a.rotations.now / 9) a.out.now
+
+pub returns-then-not-all_near : goal.returns-then-not-all_near
+returns-then-not-all_near c =
+    let s = c in
+    let l = c.loop-n in
+    let g = transform_by (float_matrix s.args.q_inv) (float_matrix s.args.q) (float_vector s.args.d) in
+    let m = matrix_at s.args.rotations.now l.n in
+    let e = c.transform-m.ensures ∙ ap (λ r. rows (transform_over (float_matrix s.args.q_inv) (float_matrix s.args.q) (float_vector s.args.d) (float_matrix r))) c.rotation_at.ensures in
+    let f = near-whole (g m) e c.nint_matrix-rounded.ensures c.all_near.ensures in
+    let b = broken g s.args.rotations.now (length s.args.rotations.now / 9) l.n (search rules) l.invariant (sym f ∙ c.if-not-all_near.true) in
+    record { value = sym (ap (λ b. require b SymmetryBroken Accepted) b); out_after = λ h. absurd (not-accepted h) }
+
+pub loop-n-preserved : goal.loop-n-preserved
+loop-n-preserved c =
+    let s = c in
+    let l = c.loop-n in
+    let g = transform_by (float_matrix s.args.q_inv) (float_matrix s.args.q) (float_vector s.args.d) in
+    let m = matrix_at s.args.rotations.now l.n in
+    let e = c.transform-m.ensures ∙ ap (λ r. rows (transform_over (float_matrix s.args.q_inv) (float_matrix s.args.q) (float_vector s.args.d) (float_matrix r))) c.rotation_at.ensures in
+    let f = near-whole (g m) e c.nint_matrix-rounded.ensures c.all_near.ensures in
+    let k = ap (λ k. sets l.out (l.n * 9) (entries (matrix_of k) [])) (rounded-rows (g m) e c.nint_matrix-rounded.ensures) in
+    turned_on g s.args.rotations.now (length s.args.rotations.now / 9) l.n (search rules) l.invariant (search rules) (sym f ∙ c.if-not-all_near.false) (c.store.ensures ∙ k)
+
+pub returns : goal.returns
+returns c =
+    let s = c in
+    let l = c.loop-n in
+    let g = transform_by (float_matrix s.args.q_inv) (float_matrix s.args.q) (float_vector s.args.d) in
+    let n = length s.args.rotations.now in
+    let over : n / 9 ≤ l.n = search rules in
+    record {
+      value = ap (λ b. require b SymmetryBroken Accepted) (all_whole_lem g s.args.rotations.now (n / 9) l.n over l.invariant);
+      out_after = λ _. all_listed g s.args.rotations.now (n / 9) l.n over l.invariant (ended n l.n s.requires.whole over (search rules));
+    }

@@ -1,5 +1,5 @@
 -- Demand 3 of the chain: an accepted chain has made the five calls, each accepted and each given what those before it left, and its list is a group.
-use mathlib.Core.Path.{◌≡◌, refl, sym, ◌∙◌, ap, subst}
+use mathlib.Core.Path.{◌≡◌, refl, sym, ap, subst}
 use mathlib.Core.Bool.{true}
 use mathlib.Core.List.{List}
 use Prim.Native.Nat.{ℕ, ◌+◌, ◌*◌, ◌-◌, ◌<◌}
@@ -17,11 +17,9 @@ use Rattle.common.specs.Tested.{after, giving, Tested, Accepted, without_value}
 use Rattle.snf3x3.specs.Snf3x3.{Answer, refused, diagonalised, snf3x3}
 use Rattle.snf3x3.specs.Written.{written}
 use Rattle.recip_rotations.specs.PointGroup.{point_group, point_group_answer, point_group_written}
-use Rattle.recip_rotations.specs.PointGroup as reciprocal
 use Rattle.rotation_group.specs.ReciprocalGroup.{reciprocal_tests}
 use Rattle.rotation_group.proofs.Accepted.{accepted-joined, accepted-call}
 use Rattle.transform_rotations.specs.TransformRotations.{transform_tests, transform_answer, transform_written}
-use Rattle.transform_rotations.specs.TransformRotations as transforming
 use Rattle.bzgrid.specs.declared.GridType.{GridType}
 use Rattle.bzgrid.specs.declared.GridType.TheVariants.{Sparse, Dense, Unknown}
 use Rattle.bzgrid.specs.declared.Lengths.{Lengths}
@@ -34,10 +32,9 @@ use Rattle.triplet_grid.specs.IrTriplets.{ir_triplets_answer, map_triplets_writt
 use Rattle.bz_triplets.specs.BzTriplets as triplet
 use Rattle.bz_triplets.specs.BzTriplets.{bz_triplets_answer, triplets_written, triplets_read}
 use Rattle.bz_triplets.proofs.CallOutcome.{asked-for}
-use Rattle.zone.specs.declared.Finished.{Finished}
 use Rattle.demand3.specs.FinishedList.{Given, as-returned, Starts, Calls}
 use Rattle.zone_steps.specs.Steps.{Rooms, Grid, Lists, group, transformed, rotation_tests, start_of, points_of, class_map_of, class_tests, count, start, choice_tests, triplets, list_tests, lists_of, image_addresses, image_map, image_tests, grid_tests, grid_lists}
-use Rattle.zone.specs.Chain.{Job, rooms_agree, diagonal, change, grid_of, chain_tests, chain_answer}
+use Rattle.zone.specs.Chain.{Job, rooms_agree, diagonal, grid_of, chain_tests}
 use Rattle.zone_steps.specs.StepsView.{grid, Listed}
 use Rattle.zone.specs.ChainFinished.{FinishedChain}
 use Rattle.demand3.proofs.TableWalks.{then-got}
@@ -45,7 +42,6 @@ use Rattle.demand3.proofs.AcceptedTriplets.{triplets-accepted, first-in}
 use Rattle.recip_rotations.proofs.ToldPart.{told_part}
 use Rattle.demand3.proofs.FinishedList.{finished-list}
 use Rattle.zone_steps.proofs.ListedClasses.{passed-classes}
-use Rattle.zone.proofs.ChainWhole.{tests}
 
 -- ---- a number that is not negative
 whole : (z : ℤ) → T (non_neg z) → z ≡ pos (nat_abs z)
@@ -275,7 +271,3 @@ chain-finished-list j r e {x} {y} {z} {l} k = go (snf3x3 (matrix_of j.matrix)) r
     go (diagonalised d p q n) f e k =
         let b = both-accepted (rotation_tests j.rotations j.time_reversal (items d) (rows q)) (grid_tests (grid_by (diagonalised d p q n)) j.shift r) e in
         finished-calls j r d p q n f b.0 b.1 k
-
--- by the answer
-pub answer-finished-list : (j : Job) (r : Rooms) {f : Finished} → f ≡ chain_answer j r → f.tested ≡ Accepted → {x y z : List ℤ} {l : Lists} → Listed (grid_of j) j.shift r x y z l → FinishedChain j x y l r.classes
-answer-finished-list j r e n k = chain-finished-list j r (sym (tests j r e) ∙ n) k

@@ -1,12 +1,12 @@
 -- The numbers in an accepted chain's list, whatever the list of rotations: each class number is a point, and each image index lies in the tables.
 use mathlib.Core.Path.{◌≡◌, refl, sym, ◌∙◌, ap, subst}
 use mathlib.Core.List.{List, ◌++◌}
-use Prim.Native.Nat.{ℕ, zero, suc, ◌+◌, ◌*◌, ◌/◌, ◌%◌, ◌≤◌, ◌<◌}
+use Prim.Native.Nat.{ℕ, zero, suc, ◌+◌, ◌*◌, ◌/◌, ◌%◌, ◌<◌}
 use native.Mathlib.Omega.{arith}
 use lib.IntN.{ℤ, pos, nat_abs}
 use lib.ListN.{length, get_or, take}
 use lib.Seq.{take_at}
-use Rattle.common.specs.Matrix.{Axis, X, Y, Z, Vec, Mat, side, map_vec}
+use Rattle.common.specs.Matrix.{Axis, X, Y, Z, Vec, side, map_vec}
 use Rattle.common.specs.Array.{matrix_of, matrix_at, items, rows, sides_of}
 use Rattle.common.specs.Tested.{after, Tested, Accepted}
 use Rattle.common.specs.declared.Refusal.TheVariants.{WrongLength}
@@ -18,14 +18,13 @@ use Rattle.bztable.specs.Reading.{triple_at}
 use Rattle.bz_triplets.proofs.Rising.{length-own, own-points}
 use Rattle.snf3x3.specs.Snf3x3.{Answer, refused, diagonalised, snf3x3}
 use Rattle.snf3x3.specs.Written.{written}
-use Rattle.zone_steps.specs.Steps.{Rooms, Grid, Lists, transformed, rotation_tests, class_map_of, count, grid_tests, grid_lists, lists_of, image_addresses, image_map, triplets}
+use Rattle.zone_steps.specs.Steps.{Rooms, Grid, Lists, transformed, rotation_tests, count, grid_tests, grid_lists, lists_of}
 use Rattle.zone_steps.specs.StepsView.{grid}
 use Rattle.demand3.specs.FinishedList.{Calls, points, lowest_points}
-use Rattle.zone.specs.Chain as chain
-use Rattle.zone.specs.Chain.{Job, rooms_agree, diagonal, grid_of, lists_for, chain_tests, chain_answer, chain_lists}
+use Rattle.zone.specs.Chain.{Job, rooms_agree, diagonal, grid_of, lists_for, chain_finished, chain_tests, chain_lists}
 use Rattle.demand3.proofs.FinishedClasses.{every-number, number-low}
 use Rattle.demand3.proofs.FinishedTriplets.{finished-triplets, best-inside, images-room}
-use Rattle.zone.proofs.ChainFinished.{calls, Left, calls-left}
+use Rattle.zone.proofs.ChainFinished.{calls, calls-left}
 
 -- every number of a list is natural and below m
 abbrev pub Below : ℕ → List ℤ → Type 0
@@ -103,8 +102,8 @@ module _ (j : Job) (r : Rooms) where
         triplets-listed = front _ l.triplets-are ((finished-triplets c (every-number c)).0 ∙ ap (λ k. k * 3) own) (subst (λ n. Below n c.triplets) l.room-is (triplets-below c));
       }
 
-  pub chain-numbers : chain_tests j r ≡ Accepted → Numbers (chain_answer j r).d (nat_abs (chain_answer j r).num_ir) (chain_lists j r) r.grg
-  unfolding chain_answer chain_lists chain_tests diagonal grid_of
+  pub chain-numbers : chain_tests j r ≡ Accepted → Numbers (chain_finished j).d (nat_abs (chain_finished j).num_ir) (chain_lists j r) r.grg
+  unfolding chain_finished chain_lists chain_tests diagonal grid_of
   chain-numbers e =
-      subst (λ t. Numbers (chain.answer_for t (diagonal j.matrix) (count (grid_of j))).d (nat_abs (chain.answer_for t (diagonal j.matrix) (count (grid_of j))).num_ir) (lists_for t r (grid_lists (grid_of j) j.shift r)) r.grg) (sym e)
+      subst (λ t. Numbers (chain_finished j).d (nat_abs (chain_finished j).num_ir) (lists_for t r (grid_lists (grid_of j) j.shift r)) r.grg) (sym e)
       (numbers-by (snf3x3 (matrix_of j.matrix)) refl (passed (rooms_agree r) WrongLength _ e).1)

@@ -1,6 +1,6 @@
 -- What the chain answers and leaves, from what its steps do.
 use mathlib.Core.Path.{◌≡◌, refl, sym, ◌∙◌, ap, ap₂, subst}
-use mathlib.Core.Bool.{Bool, true, false, ◌&&◌}
+use mathlib.Core.Bool.{true, false, ◌&&◌}
 use mathlib.Core.List.{List, ◌++◌}
 use Prim.Native.Nat.{ℕ, zero, suc, ◌+◌, ◌*◌, ◌-◌, ◌≤◌}
 use native.Mathlib.Nat.{le_of_lt, le_refl}
@@ -11,10 +11,10 @@ use lib.Ieee.{Float}
 use lib.ListN.{length, get_or, replicate, length-append, length-replicate, get_or-replicate, get_or-append}
 use lib.Seq.{get_or-append-add}
 use borrow.Author.Tests.{eqb-true}
-use Rattle.std.specs.Prelude.{Ok, Err}
+use Rattle.std.specs.Prelude.{Result, Ok, Err, is_err, OnOk}
 use Rattle.integer.proofs.Test.{holds, and_l, and_r, is_true}
 use Rattle.common.specs.Array.{matrix_at, matrix_of, rows}
-use Rattle.common.specs.Tested.{require, output_of, after, Tested, Accepted}
+use Rattle.common.specs.Tested.{require, output_of, after, giving, Tested, Accepted, without_value}
 use Rattle.common.specs.declared.Refusal.{Refusal}
 use Rattle.common.specs.declared.Refusal.TheVariants.{WrongLength}
 use Rattle.grgrid.specs.Own.{is_place, own_places}
@@ -23,9 +23,8 @@ use Rattle.snf3x3.specs.Snf3x3.{snf3x3}
 use Rattle.snf3x3.specs.Written.{written}
 use Rattle.zone.specs.declared.Finished.{Finished}
 use Rattle.zone_steps.specs.Steps.{Rooms, Grid, Lists, transformed, rotation_tests, class_map_of, count, lists_of, grid_tests, grid_lists, image_addresses, image_map, image_grg}
-use Rattle.zone.specs.Chain.{Job, rooms_agree, diagonal, sides, change, answer_for, wiped, lists_for, grid_of, chain_tests, chain_answer, chain_addresses, chain_map, chain_grg, chain_lists}
+use Rattle.zone.specs.Chain.{Job, rooms_agree, diagonal, diagonal_tests, sides, change, wiped, lists_for, grid_of, chain_finished, chain_tests, chain_answer, chain_addresses, chain_map, chain_grg, chain_lists}
 use Rattle.zone_steps.specs.StepsView.{grid, lists, Agreed, Listed}
-use Rattle.zone.specs.ChainView.{job, finished_with, refused_with}
 
 -- ---- -1 is no place
 abbrev counted-on : ℕ → ℤ → ℕ → ℕ
@@ -70,21 +69,21 @@ rooms-agreed r e =
       lengths-agree = eqb-true r.lengths r.classes (is_true f (and_r l f k));
     }
 
+not-both : true ≡ false → ⊥
+not-both e = let z : ◌≡◌ {A = ℕ} 0 1 = cc in omega arith
+
 module _ (j : Job) (r : Rooms) where
   abbrev gridded : Tested
   gridded = after (rotation_tests j.rotations j.time_reversal (sides j.matrix) (change j.matrix)) (grid_tests (grid_of j) j.shift r)
 
-  answered : {t : Tested} → t ≡ chain_tests j r → answer_for t (diagonal j.matrix) (count (grid_of j)) ≡ chain_answer j r
+  answered : {t : Tested} → t ≡ chain_tests j r → giving t (chain_finished j) ≡ chain_answer j r
   unfolding chain_answer
-  answered e = ap (λ t. answer_for t (diagonal j.matrix) (count (grid_of j))) e
-
-  refused-answer : {x : Refusal} {f : Finished} → f ≡ refused_with x → Err x ≡ chain_tests j r → f ≡ chain_answer j r
-  refused-answer e t = e ∙ answered t
+  answered e = ap (λ t. giving t (chain_finished j)) e
 
   -- ---- the refusals
-  pub rooms-refused : rooms_agree r ≡ false → {f : Finished} → f ≡ refused_with WrongLength → f ≡ chain_answer j r
+  pub rooms-refused : rooms_agree r ≡ false → Err WrongLength ≡ chain_answer j r
   unfolding chain_tests
-  rooms-refused h e = refused-answer e (sym (ap (λ b. require b WrongLength (after (diagonal j.matrix).tested gridded)) h))
+  rooms-refused h = answered (sym (ap (λ b. require b WrongLength (after (diagonal_tests j.matrix) gridded)) h))
 
   module _ (h : rooms_agree r ≡ true) {s : Snf} (es : s ≡ written (snf3x3 (matrix_of j.matrix))) where
     diagonal-is : s ≡ diagonal j.matrix
@@ -95,10 +94,10 @@ module _ (j : Job) (r : Rooms) where
     unfolding chain_tests
     tests-are e =
         sym (ap (λ t. after t gridded) (sym (ap (λ s. s.tested) diagonal-is) ∙ e))
-        ∙ sym (ap (λ b. require b WrongLength (after (diagonal j.matrix).tested gridded)) h)
+        ∙ sym (ap (λ b. require b WrongLength (after (diagonal_tests j.matrix) gridded)) h)
 
-    pub diagonal-refused : {x : Refusal} → s.tested ≡ Err x → {f : Finished} → f ≡ refused_with x → f ≡ chain_answer j r
-    diagonal-refused e k = refused-answer k (tests-are e)
+    pub diagonal-refused : {x : Refusal} → s.tested ≡ Err x → Err x ≡ chain_answer j r
+    diagonal-refused e = answered (tests-are e)
 
     -- ---- the grid, by what stands for its change of basis, type and q0
     module _ (f : s.tested ≡ Accepted) {q : List (List ℤ)} (eq : q ≡ rows (matrix_at s.q 0)) {u p : ℤ} (eu : u ≡ j.type) (ep : p ≡ j.q0) where
@@ -124,8 +123,8 @@ module _ (j : Job) (r : Rooms) where
       stepped-is : stepped ≡ chain_tests j r
       stepped-is = (λ i. after (rotation_tests j.rotations j.time_reversal (side-path i) (change-path i)) (grid_tests (grid-path i) j.shift r)) ∙ tests-are f
 
-      pub grid-refused : {v : Tested} → v ≡ stepped → {x : Refusal} → v ≡ Err x → {k : Finished} → k ≡ refused_with x → k ≡ chain_answer j r
-      grid-refused e n k = refused-answer k (sym n ∙ e ∙ stepped-is)
+      pub grid-refused : {v : Tested} → v ≡ stepped → {x : Refusal} → v ≡ Err x → Err x ≡ chain_answer j r
+      grid-refused e n = answered (sym n ∙ e ∙ stepped-is)
 
       module _ {v : Tested} (ev : v ≡ stepped) (n : v ≡ Accepted) {a b c : List ℤ} {classes points triplets left : List ℤ} {lengths : List Float} (l : Listed (given s.d_diag q u p) j.shift r a b c (lists classes points triplets left lengths)) where
         pub chain-listed : Listed (grid_of j) j.shift r a b c (lists classes points triplets left lengths)
@@ -139,42 +138,79 @@ module _ (j : Job) (r : Rooms) where
         unfolding lists_of
         counted = ap (λ l. own_places l (length l)) classes-are ∙ own-padded (class_map_of (grid_of j)) (r.classes - length (class_map_of (grid_of j)))
 
-        pub chain-finished : {k : Finished} → k ≡ finished_with s.d_diag (own_places classes (length classes)) → k ≡ chain_answer j r
-        chain-finished e = e ∙ (λ i. finished_with (side-path i) (counted i)) ∙ answered (sym n ∙ ev ∙ stepped-is)
+        pub chain-given : (k : ℤ) → k ≡ pos (own_places classes (length classes)) → Ok (record { d = s.d_diag; num_ir = k }) ≡ chain_answer j r
+        unfolding chain_finished
+        chain-given k e =
+            let m = e ∙ ap pos counted in
+            let f : ◌≡◌ {A = Finished} (record { d = s.d_diag; num_ir = k }) (chain_finished j) = (λ i. record { d = side-path i; num_ir = m i }) in
+            ap Ok f ∙ answered (sym n ∙ ev ∙ stepped-is)
 
   -- ---- the outputs
-  tested-is : (chain_answer j r).tested ≡ chain_tests j r
+  tested-is : without_value (chain_answer j r) ≡ chain_tests j r
   unfolding chain_answer
   tested-is = again (chain_tests j r)
     where
-      again : (t : Tested) → (answer_for t (diagonal j.matrix) (count (grid_of j))).tested ≡ t
+      again : (t : Tested) → without_value (giving t (chain_finished j)) ≡ t
       again (Ok _) = refl
       again (Err x) = refl
 
-  abbrev Left : List ℤ → List ℤ → List ℤ → Lists → Type 0
-  Left a b c l = (a ≡ chain_addresses j r) × ((b ≡ chain_map j r) × ((c ≡ chain_grg j r) × (l ≡ chain_lists j r)))
+  pub record Left (a b c : List ℤ) (l : Lists) : Type 0 where
+    pub addresses-are : a ≡ chain_addresses j r
+    pub map_is : b ≡ chain_map j r
+    pub grg-is : c ≡ chain_grg j r
+    pub lists-are : l ≡ chain_lists j r
 
-  left_by : {a b c : List ℤ} {l : Lists} (t : Tested) → t ≡ chain_tests j r → a ≡ output_of t r.addresses (image_addresses (grid_of j) j.shift r) → b ≡ output_of t r.map (image_map (grid_of j) j.shift r) → c ≡ output_of t r.grg (image_grg (grid_of j) j.shift r)
-      → l ≡ lists_for t r (grid_lists (grid_of j) j.shift r) → Left a b c l
-  unfolding chain_addresses chain_map chain_grg chain_lists
-  left_by t e a b c l = (
-    a ∙ ap (λ t. output_of t r.addresses (image_addresses (grid_of j) j.shift r)) e,
-    (b ∙ ap (λ t. output_of t r.map (image_map (grid_of j) j.shift r)) e, (c ∙ ap (λ t. output_of t r.grg (image_grg (grid_of j) j.shift r)) e, l ∙ ap (λ t. lists_for t r (grid_lists (grid_of j) j.shift r)) e)),
-  )
+  module _ {f : Result Finished Refusal} (e : f ≡ chain_answer j r) where
+    pub tests : without_value f ≡ chain_tests j r
+    tests = ap without_value e ∙ tested-is
 
-  module _ {f : Finished} (e : f ≡ chain_answer j r) where
-    pub tests : f.tested ≡ chain_tests j r
-    tests = ap (λ f. f.tested) e ∙ tested-is
+    pub passed-tests : is_err f ≡ false → chain_tests j r ≡ Accepted
+    passed-tests h = sym tests ∙ answers f h
+      where
+        answers : (f : Result Finished Refusal) → is_err f ≡ false → without_value f ≡ Accepted
+        answers (Ok v) h = refl
+        answers (Err x) h = absurd (not-both h)
 
-    pub left-accepted : f.tested ≡ Accepted → {a b c : List ℤ} {l : Lists} → Listed (grid_of j) j.shift r a b c l → Left a b c l
-    left-accepted n k = left_by Accepted (sym n ∙ tests) k.addresses-are k.map_is k.grg-is k.lists-are
+    pub left-accepted : is_err f ≡ false → {a b c : List ℤ} {l : Lists} → Listed (grid_of j) j.shift r a b c l → Left a b c l
+    unfolding chain_addresses chain_map chain_grg chain_lists
+    left-accepted h k =
+        let t = sym (passed-tests h) in
+        record {
+          addresses-are = k.addresses-are ∙ ap (λ t. output_of t r.addresses (image_addresses (grid_of j) j.shift r)) t;
+          map_is = k.map_is ∙ ap (λ t. output_of t r.map (image_map (grid_of j) j.shift r)) t;
+          grg-is = k.grg-is ∙ ap (λ t. output_of t r.grg (image_grg (grid_of j) j.shift r)) t;
+          lists-are = k.lists-are ∙ ap (λ t. lists_for t r (grid_lists (grid_of j) j.shift r)) t;
+        }
 
-    pub left-refused : {x : Refusal} → f.tested ≡ Err x → {a b c : List ℤ} {l : Lists} → a ≡ replicate r.addresses (negsuc 0) → b ≡ replicate r.map (negsuc 0) → c ≡ replicate r.grg (negsuc 0) → l ≡ wiped r → Left a b c l
-    left-refused {x} n a b c l = left_by (Err x) (sym n ∙ tests) a b c l
+    module _ (h : is_err f ≡ true) where
+      refusal : (x : Refusal) × (Err x ≡ chain_tests j r)
+      refusal = let x = of f h in (x.0, sym x.1 ∙ tests)
+        where
+          of : (f : Result Finished Refusal) → is_err f ≡ true → (x : Refusal) × (without_value f ≡ Err x)
+          of (Ok v) h = absurd (not-both (sym h))
+          of (Err x) h = (x, refl)
 
--- by numbers that stand for the type and q0
-pub listed-as : {u type p q0 : ℤ} → u ≡ type → p ≡ q0 → (matrix : List (List ℤ)) (rotations : List ℤ) (lattice : List (List Float)) (shift : List ℤ) (time swappable : Bool) (r : Rooms) {a b c : List ℤ} {l : Lists}
-    → Listed (grid_of (job matrix rotations lattice shift time swappable u p)) shift r a b c l → Listed (grid_of (job matrix rotations lattice shift time swappable type q0)) shift r a b c l
-listed-as {type = type} {p = p} eu ep matrix rotations lattice shift time swappable r {a} {b} {c} {l} k =
-    subst (λ p. Listed (grid_of (job matrix rotations lattice shift time swappable type p)) shift r a b c l) ep
-    (subst (λ u. Listed (grid_of (job matrix rotations lattice shift time swappable u p)) shift r a b c l) eu k)
+      pub addresses-wiped : {l : List ℤ} → l ≡ replicate r.addresses (negsuc 0) → l ≡ chain_addresses j r
+      unfolding chain_addresses
+      addresses-wiped e = e ∙ ap (λ t. output_of t r.addresses (image_addresses (grid_of j) j.shift r)) refusal.1
+
+      pub map-wiped : {l : List ℤ} → l ≡ replicate r.map (negsuc 0) → l ≡ chain_map j r
+      unfolding chain_map
+      map-wiped e = e ∙ ap (λ t. output_of t r.map (image_map (grid_of j) j.shift r)) refusal.1
+
+      pub grg-wiped : {l : List ℤ} → l ≡ replicate r.grg (negsuc 0) → l ≡ chain_grg j r
+      unfolding chain_grg
+      grg-wiped e = e ∙ ap (λ t. output_of t r.grg (image_grg (grid_of j) j.shift r)) refusal.1
+
+      pub lists-wiped : {l : Lists} → l ≡ wiped r → l ≡ chain_lists j r
+      unfolding chain_lists
+      lists-wiped e = e ∙ ap (λ t. lists_for t r (grid_lists (grid_of j) j.shift r)) refusal.1
+
+-- what holds of an answer that is no refusal
+pub had : {A : Type 0} (f : Result Finished Refusal) → is_err f ≡ false → OnOk f A → A
+had (Ok v) h a = a
+had (Err x) h a = absurd (not-both h)
+
+pub told : {A : Type 0} (f : Result Finished Refusal) → A → OnOk f A
+told (Ok v) a = a
+told (Err x) a = tt

@@ -1,10 +1,11 @@
 -- The chain of calls: diagonalise, take the reciprocal rotations of a group, transform them, build the images, number the classes, choose the
 -- triplets.
-use Rattle.std.specs.Prelude.{Bool, ◌&&◌, List, ℕ, ◌*◌, ◌-◌, eqb, ℤ, pos, negsuc, replicate, Float, Ok, Err}
+use Rattle.std.specs.Prelude.{Bool, ◌&&◌, List, ◌*◌, eqb, ℤ, pos, negsuc, replicate, Float, Result, Ok, Err}
 use Rattle.std.specs.Float.{binary64}
 use Rattle.std.specs.Float.Ieee.{of_int}
 use Rattle.common.specs.Array.{matrix_of, matrix_at, rows}
-use Rattle.common.specs.Tested.{require, output_of, after, Tested, Accepted}
+use Rattle.common.specs.Tested.{require, output_of, after, giving, Tested}
+use Rattle.common.specs.declared.Refusal.{Refusal}
 use Rattle.common.specs.declared.Refusal.TheVariants.{WrongLength}
 use Rattle.snf3x3.specs.declared.Snf.{Snf}
 use Rattle.snf3x3.specs.Snf3x3.{snf3x3}
@@ -31,6 +32,9 @@ module _ (matrix : List (List ℤ)) where
   unfoldable pub diagonal : Snf
   diagonal = written (snf3x3 (matrix_of matrix))
 
+  abbrev pub diagonal_tests : Tested
+  diagonal_tests = diagonal.tested
+
   abbrev pub sides : List ℤ
   sides = diagonal.d_diag
 
@@ -38,10 +42,6 @@ module _ (matrix : List (List ℤ)) where
   change = rows (matrix_at diagonal.q 0)
 
 -- ---- the chain
-abbrev pub answer_for : Tested → Snf → ℕ → Finished
-answer_for (Ok _) s n = record { tested = Accepted; d = s.d_diag; num_ir = pos n }
-answer_for (Err r) s n = record { tested = Err r; d = replicate 3 (negsuc 0); num_ir = negsuc 0 }
-
 -- -1 in every place
 abbrev pub wiped : Rooms → Lists
 wiped r = record {
@@ -69,18 +69,23 @@ grid_of j = record {
   q0 = j.q0;
 }
 
+-- what it answers where its tests pass
+unfoldable pub chain_finished : Job → Finished
+unfolding diagonal grid_of class_map_of
+chain_finished j = record { d = sides j.matrix; num_ir = pos (count (grid_of j)) }
+
 module _ (j : Job) (r : Rooms) where
   unfoldable pub chain_tests : Tested
   unfolding diagonal rotation_tests grid_of grid_tests
   chain_tests =
       require (rooms_agree r) WrongLength
-      (after (diagonal j.matrix).tested
+      (after (diagonal_tests j.matrix)
       (after (rotation_tests j.rotations j.time_reversal (sides j.matrix) (change j.matrix))
       (grid_tests (grid_of j) j.shift r)))
 
-  unfoldable pub chain_answer : Finished
-  unfolding chain_tests diagonal grid_of class_map_of
-  chain_answer = answer_for chain_tests (diagonal j.matrix) (count (grid_of j))
+  unfoldable pub chain_answer : Result Finished Refusal
+  unfolding chain_tests chain_finished
+  chain_answer = giving chain_tests (chain_finished j)
 
   unfoldable pub chain_addresses : List ℤ
   unfolding chain_tests grid_of image_addresses

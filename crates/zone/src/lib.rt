@@ -1,59 +1,29 @@
 // The chain of calls, from a matrix and its rotations to the finished list.
 #![tactic(auto)]
 
-ghost use Rattle.std.specs.Prelude.{◌≡◌, ◌&&◌, ◌*◌, ◌<◌, eqb, length};
-ghost use Rattle.common.specs.Tested.{Accepted};
-ghost use Rattle.grgrid.specs.Own.{own_places};
+ghost use Rattle.std.specs.Prelude.{◌≡◌, ◌&&◌, ◌*◌, eqb, length, OnOk};
 ghost use Rattle.zone.specs.Chain.{grid_of, chain_answer, chain_addresses, chain_map, chain_grg, chain_lists};
 ghost use Rattle.zone.specs.ChainFinished.{FinishedChain};
 ghost use Rattle.zone_steps.specs.StepsView.{rooms, lists, Listed};
-ghost use Rattle.zone.specs.ChainView.{job, finished_with, refused_with};
+ghost use Rattle.zone.specs.ChainView.{job};
 
 use common::Refusal;
 
-// The diagonal and the number of classes; -1 in every place after a refusal.
+// The diagonal and the number of classes.
 #[derive(Clone, Copy)]
 pub struct Finished {
-    pub tested: Result<(), Refusal>,
     pub d: [i64; 3],
     pub num_ir: i64,
-}
-
-pub fn refused(r: Refusal) -> Finished
-    ensures { result ≡ refused_with r }
-{
-    Finished {
-        tested: Err(r),
-        d: [-1, -1, -1],
-        num_ir: -1,
-    }
-}
-
-// The places past the class map hold -1, which is no place.
-fn count_classes(d: [i64; 3], classes: &[i64]) -> Finished
-    requires { length classes.now < 9223372036854775808 }
-    ensures { result ≡ finished_with d (own_places classes.now (length classes.now)) }
-{
-    let num_ir = grgrid::own_places(classes) as i64;
-    Finished {
-        tested: Ok(()),
-        d,
-        num_ir,
-    }
 }
 
 // Room for as many points in each.
 fn rooms_agree(classes: usize, points: usize, triplets: usize, left: usize, lengths: usize) -> bool
     ensures { result ≡ eqb points classes && (eqb triplets (classes * 3) && (eqb left classes && eqb lengths classes)) }
 {
-    if points != classes {
-        return false;
-    }
-    common::all_three(
-        common::is_thrice(triplets, classes),
-        left == classes,
-        lengths == classes,
-    )
+    points == classes
+        && common::is_thrice(triplets, classes)
+        && left == classes
+        && lengths == classes
 }
 
 // A refusal may leave anything in the outputs.
@@ -74,9 +44,9 @@ fn run_chain(
     triplets: &mut [i64],
     left: &mut [i64],
     lengths: &mut [f64],
-) -> Finished
+) -> Result<Finished, Refusal>
     ensures value { result ≡ chain_answer (job a rotations.now lattice ps is_time_reversal swappable bz_grid_type q0) (rooms (length addresses.old) (length map.old) (length grg.old) (length classes.old) (length points.old) (length triplets.old) (length left.old) (length lengths.old)) }
-    ensures listed { result.tested ≡ Accepted → Listed (grid_of (job a rotations.now lattice ps is_time_reversal swappable bz_grid_type q0)) ps (rooms (length addresses.old) (length map.old) (length grg.old) (length classes.old) (length points.old) (length triplets.old) (length left.old) (length lengths.old)) addresses.new map.new grg.new (lists classes.new points.new triplets.new left.new lengths.new) }
+    ensures listed { OnOk result (Listed (grid_of (job a rotations.now lattice ps is_time_reversal swappable bz_grid_type q0)) ps (rooms (length addresses.old) (length map.old) (length grg.old) (length classes.old) (length points.old) (length triplets.old) (length left.old) (length lengths.old)) addresses.new map.new grg.new (lists classes.new points.new triplets.new left.new lengths.new)) }
 {
     if !rooms_agree(
         classes.len(),
@@ -85,18 +55,15 @@ fn run_chain(
         left.len(),
         lengths.len(),
     ) {
-        return refused(Refusal::WrongLength);
+        return Err(Refusal::WrongLength);
     }
     let s = snf3x3::snf3x3(a);
+    s.tested?;
     let d = s.d_diag;
-    let f = s.q;
-    let t = s.tested;
-    if let Err(r) = t {
-        return refused(r);
-    }
-    match zone_steps::list_in_basis(
+    let q = s.q;
+    zone_steps::list_in_basis(
         d,
-        integer_matrix::nested(f),
+        integer_matrix::nested(q),
         rotations,
         lattice,
         ps,
@@ -112,10 +79,10 @@ fn run_chain(
         triplets,
         left,
         lengths,
-    ) {
-        Ok(()) => count_classes(d, classes),
-        Err(r) => refused(r),
-    }
+    )?;
+    // The places past the class map hold -1, which is no place.
+    let num_ir = grgrid::own_places(classes) as i64;
+    Ok(Finished { d, num_ir })
 }
 
 // Diagonalises a, takes the reciprocal rotations of a list that must be a group, transforms them, and runs images, classes and triplets. An output
@@ -137,13 +104,13 @@ pub fn finished_list(
     triplets: &mut [i64],
     left: &mut [i64],
     lengths: &mut [f64],
-) -> Finished
+) -> Result<Finished, Refusal>
     ensures value { result ≡ chain_answer (job a rotations.now lattice ps is_time_reversal swappable bz_grid_type q0) (rooms (length addresses.old) (length map.old) (length grg.old) (length classes.old) (length points.old) (length triplets.old) (length left.old) (length lengths.old)) }
     ensures addresses_after { addresses.new ≡ chain_addresses (job a rotations.now lattice ps is_time_reversal swappable bz_grid_type q0) (rooms (length addresses.old) (length map.old) (length grg.old) (length classes.old) (length points.old) (length triplets.old) (length left.old) (length lengths.old)) }
     ensures map_after { map.new ≡ chain_map (job a rotations.now lattice ps is_time_reversal swappable bz_grid_type q0) (rooms (length addresses.old) (length map.old) (length grg.old) (length classes.old) (length points.old) (length triplets.old) (length left.old) (length lengths.old)) }
     ensures grg_after { grg.new ≡ chain_grg (job a rotations.now lattice ps is_time_reversal swappable bz_grid_type q0) (rooms (length addresses.old) (length map.old) (length grg.old) (length classes.old) (length points.old) (length triplets.old) (length left.old) (length lengths.old)) }
     ensures lengths_after { lists classes.new points.new triplets.new left.new lengths.new ≡ chain_lists (job a rotations.now lattice ps is_time_reversal swappable bz_grid_type q0) (rooms (length addresses.old) (length map.old) (length grg.old) (length classes.old) (length points.old) (length triplets.old) (length left.old) (length lengths.old)) }
-    ensures finished_chain { result.tested ≡ Accepted → FinishedChain (job a rotations.now lattice ps is_time_reversal swappable bz_grid_type q0) addresses.new map.new (lists classes.new points.new triplets.new left.new lengths.new) (length classes.old) }
+    ensures finished_chain { OnOk result (FinishedChain (job a rotations.now lattice ps is_time_reversal swappable bz_grid_type q0) addresses.new map.new (lists classes.new points.new triplets.new left.new lengths.new) (length classes.old)) }
 {
     let f = run_chain(
         a,
@@ -163,11 +130,9 @@ pub fn finished_list(
         &mut *left,
         &mut *lengths,
     );
-    let t = f.tested;
-    if let Err(_) = t {
+    if f.is_err() {
         zone_steps::wipe_tables(addresses, map, grg);
         zone_steps::wipe_lists(classes, points, triplets, left, lengths);
-        return f;
     }
     f
 }

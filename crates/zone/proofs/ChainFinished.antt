@@ -34,7 +34,7 @@ use Rattle.bz_triplets.specs.BzTriplets.{bz_triplets_answer, triplets_written, t
 use Rattle.bz_triplets.proofs.CallOutcome.{asked-for}
 use Rattle.demand3.specs.FinishedList.{Given, as-returned, Starts, Calls}
 use Rattle.zone_steps.specs.Steps.{Rooms, Grid, Lists, group, transformed, rotation_tests, start_of, points_of, class_map_of, class_tests, count, start, choice_tests, triplets, list_tests, lists_of, image_addresses, image_map, image_tests, grid_tests, grid_lists}
-use Rattle.zone.specs.Chain.{Job, rooms_agree, diagonal, grid_of, chain_tests}
+use Rattle.zone.specs.Chain.{Job, rooms_agree, sides_in, change_in, diagonal, grid_of, chain_tests}
 use Rattle.zone_steps.specs.StepsView.{grid, Listed}
 use Rattle.zone.specs.ChainFinished.{FinishedChain}
 use Rattle.demand3.proofs.TableWalks.{then-got}
@@ -262,10 +262,10 @@ unfolding chain_tests diagonal grid_of
 chain-finished-list j r e {x} {y} {z} {l} k = go (snf3x3 (matrix_of j.matrix)) refl (passed (rooms_agree r) WrongLength _ e).1 k
   where
     grid_by : Answer → Grid
-    grid_by w = grid (written w).d_diag (rows (matrix_at (written w).q 0)) (transformed j.rotations j.time_reversal (written w).d_diag (rows (matrix_at (written w).q 0))) j.lattice j.time_reversal j.swappable j.type j.q0
+    grid_by w = grid (sides_in (written w)) (change_in (written w)) (transformed j.rotations j.time_reversal (sides_in (written w)) (change_in (written w))) j.lattice j.time_reversal j.swappable j.type j.q0
 
     go : (w : Answer) → snf3x3 (matrix_of j.matrix) ≡ w
-        → after (written w).tested (after (rotation_tests j.rotations j.time_reversal (written w).d_diag (rows (matrix_at (written w).q 0))) (grid_tests (grid_by w) j.shift r)) ≡ Accepted
+        → after (without_value (written w)) (after (rotation_tests j.rotations j.time_reversal (sides_in (written w)) (change_in (written w))) (grid_tests (grid_by w) j.shift r)) ≡ Accepted
         → Listed (grid_by w) j.shift r x y z l → FinishedChain j x y l r.classes
     go (refused c) f e k = absurd (not-accepted e)
     go (diagonalised d p q n) f e k =

@@ -8,7 +8,7 @@ use lib.ListN.{length, get_or, take}
 use lib.Seq.{take_at}
 use Rattle.common.specs.Matrix.{Axis, X, Y, Z, Vec, side, map_vec}
 use Rattle.common.specs.Array.{matrix_of, matrix_at, items, rows, sides_of}
-use Rattle.common.specs.Tested.{after, Tested, Accepted}
+use Rattle.common.specs.Tested.{after, Tested, Accepted, without_value}
 use Rattle.common.specs.declared.Refusal.TheVariants.{WrongLength}
 use Rattle.common.proofs.Tests.{passed, not-accepted, both-accepted}
 use Rattle.grgrid.specs.Grid.{size}
@@ -21,7 +21,7 @@ use Rattle.snf3x3.specs.Written.{written}
 use Rattle.zone_steps.specs.Steps.{Rooms, Grid, Lists, transformed, rotation_tests, count, grid_tests, grid_lists, lists_of}
 use Rattle.zone_steps.specs.StepsView.{grid}
 use Rattle.demand3.specs.FinishedList.{Calls, points, lowest_points}
-use Rattle.zone.specs.Chain.{Job, rooms_agree, diagonal, grid_of, lists_for, chain_finished, chain_tests, chain_lists}
+use Rattle.zone.specs.Chain.{Job, rooms_agree, sides_in, change_in, diagonal, grid_of, lists_for, chain_finished, chain_tests, chain_lists}
 use Rattle.demand3.proofs.FinishedClasses.{every-number, number-low}
 use Rattle.demand3.proofs.FinishedTriplets.{finished-triplets, best-inside, images-room}
 use Rattle.zone.proofs.ChainFinished.{calls, calls-left}
@@ -77,16 +77,16 @@ pub record Numbers (d : List ℤ) (k : ℕ) (l : Lists) (m : ℕ) : Type 0 where
 module _ (j : Job) (r : Rooms) where
   abbrev grid_by : Answer → Grid
   grid_by w =
-      let d = (written w).d_diag in
-      let q = rows (matrix_at (written w).q 0) in
+      let d = (sides_in (written w)) in
+      let q = change_in (written w) in
       grid d q (transformed j.rotations j.time_reversal d q) j.lattice j.time_reversal j.swappable j.type j.q0
 
   abbrev tests_by : Answer → Tested
   tests_by w =
-      after (written w).tested
-      (after (rotation_tests j.rotations j.time_reversal (written w).d_diag (rows (matrix_at (written w).q 0))) (grid_tests (grid_by w) j.shift r))
+      after (without_value (written w))
+      (after (rotation_tests j.rotations j.time_reversal (sides_in (written w)) (change_in (written w))) (grid_tests (grid_by w) j.shift r))
 
-  numbers-by : (w : Answer) → snf3x3 (matrix_of j.matrix) ≡ w → tests_by w ≡ Accepted → Numbers (written w).d_diag (count (grid_by w)) (grid_lists (grid_by w) j.shift r) r.grg
+  numbers-by : (w : Answer) → snf3x3 (matrix_of j.matrix) ≡ w → tests_by w ≡ Accepted → Numbers (sides_in (written w)) (count (grid_by w)) (grid_lists (grid_by w) j.shift r) r.grg
   unfolding grid_lists lists_of
   numbers-by (refused c) f e = absurd (not-accepted e)
   numbers-by (diagonalised d p q n) f e =

@@ -23,7 +23,7 @@ use Rattle.snf3x3.specs.Snf3x3.{snf3x3}
 use Rattle.snf3x3.specs.Written.{written}
 use Rattle.zone.specs.declared.Finished.{Finished}
 use Rattle.zone_steps.specs.Steps.{Rooms, Grid, Lists, transformed, rotation_tests, class_map_of, count, lists_of, grid_tests, grid_lists, image_addresses, image_map, image_grg}
-use Rattle.zone.specs.Chain.{Job, rooms_agree, diagonal, diagonal_tests, sides, change, wiped, lists_for, grid_of, chain_finished, chain_tests, chain_answer, chain_addresses, chain_map, chain_grg, chain_lists}
+use Rattle.zone.specs.Chain.{Job, rooms_agree, sides_in, change_in, diagonal, diagonal_tests, sides, change, wiped, lists_for, grid_of, chain_finished, chain_tests, chain_answer, chain_addresses, chain_map, chain_grg, chain_lists}
 use Rattle.zone_steps.specs.StepsView.{grid, lists, Agreed, Listed}
 
 -- ---- -1 is no place
@@ -85,48 +85,48 @@ module _ (j : Job) (r : Rooms) where
   unfolding chain_tests
   rooms-refused h = answered (sym (ap (λ b. require b WrongLength (after (diagonal_tests j.matrix) gridded)) h))
 
-  module _ (h : rooms_agree r ≡ true) {s : Snf} (es : s ≡ written (snf3x3 (matrix_of j.matrix))) where
+  module _ (h : rooms_agree r ≡ true) {s : Result Snf Refusal} (es : s ≡ written (snf3x3 (matrix_of j.matrix))) where
     diagonal-is : s ≡ diagonal j.matrix
     unfolding diagonal
     diagonal-is = es
 
-    tests-are : {t : Tested} → s.tested ≡ t → after t gridded ≡ chain_tests j r
+    tests-are : {t : Tested} → without_value s ≡ t → after t gridded ≡ chain_tests j r
     unfolding chain_tests
     tests-are e =
-        sym (ap (λ t. after t gridded) (sym (ap (λ s. s.tested) diagonal-is) ∙ e))
+        sym (ap (λ t. after t gridded) (sym (ap without_value diagonal-is) ∙ e))
         ∙ sym (ap (λ b. require b WrongLength (after (diagonal_tests j.matrix) gridded)) h)
 
-    pub diagonal-refused : {x : Refusal} → s.tested ≡ Err x → Err x ≡ chain_answer j r
-    diagonal-refused e = answered (tests-are e)
+    pub diagonal-refused : {x : Refusal} → s ≡ Err x → Err x ≡ chain_answer j r
+    diagonal-refused e = answered (tests-are (ap without_value e))
 
     -- ---- the grid, by what stands for its change of basis, type and q0
-    module _ (f : s.tested ≡ Accepted) {q : List (List ℤ)} (eq : q ≡ rows (matrix_at s.q 0)) {u p : ℤ} (eu : u ≡ j.type) (ep : p ≡ j.q0) where
+    module _ {w : Snf} (f : s ≡ Ok w) {q : List (List ℤ)} (eq : q ≡ rows (matrix_at w.q 0)) {u p : ℤ} (eu : u ≡ j.type) (ep : p ≡ j.q0) where
       abbrev given : (d : List ℤ) → List (List ℤ) → ℤ → ℤ → Grid
       given d q u p = grid d q (transformed j.rotations j.time_reversal d q) j.lattice j.time_reversal j.swappable u p
 
-      side-path : s.d_diag ≡ sides j.matrix
-      side-path = ap (λ s. s.d_diag) diagonal-is
+      side-path : w.d_diag ≡ sides j.matrix
+      side-path = sym (ap sides_in f) ∙ ap sides_in diagonal-is
 
       change-path : q ≡ change j.matrix
-      change-path = eq ∙ ap (λ s. rows (matrix_at s.q 0)) diagonal-is
+      change-path = eq ∙ sym (ap change_in f) ∙ ap change_in diagonal-is
 
       meant : given (sides j.matrix) (change j.matrix) j.type j.q0 ≡ grid_of j
       unfolding grid_of
       meant = refl
 
-      grid-path : given s.d_diag q u p ≡ grid_of j
+      grid-path : given w.d_diag q u p ≡ grid_of j
       grid-path = (λ i. given (side-path i) (change-path i) (eu i) (ep i)) ∙ meant
 
       abbrev stepped : Tested
-      stepped = after (rotation_tests j.rotations j.time_reversal s.d_diag q) (grid_tests (given s.d_diag q u p) j.shift r)
+      stepped = after (rotation_tests j.rotations j.time_reversal w.d_diag q) (grid_tests (given w.d_diag q u p) j.shift r)
 
       stepped-is : stepped ≡ chain_tests j r
-      stepped-is = (λ i. after (rotation_tests j.rotations j.time_reversal (side-path i) (change-path i)) (grid_tests (grid-path i) j.shift r)) ∙ tests-are f
+      stepped-is = (λ i. after (rotation_tests j.rotations j.time_reversal (side-path i) (change-path i)) (grid_tests (grid-path i) j.shift r)) ∙ tests-are (ap without_value f)
 
       pub grid-refused : {v : Tested} → v ≡ stepped → {x : Refusal} → v ≡ Err x → Err x ≡ chain_answer j r
       grid-refused e n = answered (sym n ∙ e ∙ stepped-is)
 
-      module _ {v : Tested} (ev : v ≡ stepped) (n : v ≡ Accepted) {a b c : List ℤ} {classes points triplets left : List ℤ} {lengths : List Float} (l : Listed (given s.d_diag q u p) j.shift r a b c (lists classes points triplets left lengths)) where
+      module _ {v : Tested} (ev : v ≡ stepped) (n : v ≡ Accepted) {a b c : List ℤ} {classes points triplets left : List ℤ} {lengths : List Float} (l : Listed (given w.d_diag q u p) j.shift r a b c (lists classes points triplets left lengths)) where
         pub chain-listed : Listed (grid_of j) j.shift r a b c (lists classes points triplets left lengths)
         chain-listed = subst (λ g. Listed g j.shift r a b c (lists classes points triplets left lengths)) grid-path l
 
@@ -138,11 +138,11 @@ module _ (j : Job) (r : Rooms) where
         unfolding lists_of
         counted = ap (λ l. own_places l (length l)) classes-are ∙ own-padded (class_map_of (grid_of j)) (r.classes - length (class_map_of (grid_of j)))
 
-        pub chain-given : (k : ℤ) → k ≡ pos (own_places classes (length classes)) → Ok (record { d = s.d_diag; num_ir = k }) ≡ chain_answer j r
+        pub chain-given : (k : ℤ) → k ≡ pos (own_places classes (length classes)) → Ok (record { d = w.d_diag; num_ir = k }) ≡ chain_answer j r
         unfolding chain_finished
         chain-given k e =
             let m = e ∙ ap pos counted in
-            let f : ◌≡◌ {A = Finished} (record { d = s.d_diag; num_ir = k }) (chain_finished j) = (λ i. record { d = side-path i; num_ir = m i }) in
+            let f : ◌≡◌ {A = Finished} (record { d = w.d_diag; num_ir = k }) (chain_finished j) = (λ i. record { d = side-path i; num_ir = m i }) in
             ap Ok f ∙ answered (sym n ∙ ev ∙ stepped-is)
 
   -- ---- the outputs

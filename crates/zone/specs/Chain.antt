@@ -4,7 +4,7 @@ use Rattle.std.specs.Prelude.{Bool, ◌&&◌, List, ◌*◌, eqb, ℤ, pos, negs
 use Rattle.std.specs.Float.{binary64}
 use Rattle.std.specs.Float.Ieee.{of_int}
 use Rattle.common.specs.Array.{matrix_of, matrix_at, rows}
-use Rattle.common.specs.Tested.{require, output_of, after, giving, Tested}
+use Rattle.common.specs.Tested.{require, output_of, after, giving, told_of, without_value, Tested}
 use Rattle.common.specs.declared.Refusal.{Refusal}
 use Rattle.common.specs.declared.Refusal.TheVariants.{WrongLength}
 use Rattle.snf3x3.specs.declared.Snf.{Snf}
@@ -28,18 +28,25 @@ abbrev pub rooms_agree : Rooms → Bool
 rooms_agree r = eqb r.points r.classes && (eqb r.triplets (r.classes * 3) && (eqb r.left r.classes && eqb r.lengths r.classes))
 
 -- ---- the diagonal
+-- and the change of basis: -1 everywhere where there is none
+abbrev pub sides_in : Result Snf Refusal → List ℤ
+sides_in = told_of (λ s. s.d_diag) 3
+
+abbrev pub change_in : Result Snf Refusal → List (List ℤ)
+change_in s = rows (matrix_at (told_of (λ s. s.q) 9 s) 0)
+
 module _ (matrix : List (List ℤ)) where
-  unfoldable pub diagonal : Snf
+  unfoldable pub diagonal : Result Snf Refusal
   diagonal = written (snf3x3 (matrix_of matrix))
 
   abbrev pub diagonal_tests : Tested
-  diagonal_tests = diagonal.tested
+  diagonal_tests = without_value diagonal
 
   abbrev pub sides : List ℤ
-  sides = diagonal.d_diag
+  sides = sides_in diagonal
 
   abbrev pub change : List (List ℤ)
-  change = rows (matrix_at diagonal.q 0)
+  change = change_in diagonal
 
 -- ---- the chain
 -- -1 in every place

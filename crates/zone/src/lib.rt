@@ -57,8 +57,7 @@ fn run_chain(
     ) {
         return Err(Refusal::WrongLength);
     }
-    let s = snf3x3::snf3x3(a);
-    s.tested?;
+    let s = snf3x3::snf3x3(a)?;
     let d = s.d_diag;
     let q = s.q;
     zone_steps::list_in_basis(

@@ -13,24 +13,24 @@ returns-then-not-rooms_agree-clause-value c = rooms-refused _ _ (search rules)
 pub returns-in_err-s-clause-value : goal.returns-in_err-s-clause-value
 returns-in_err-s-clause-value c =
     let e : c.from_residual.result ≡ Err c.in_err-s.field-0.0 = search rules in
-    e ∙ diagonal-refused _ _ (search rules) c.snf3x3-s.ensures.value c.in_err-s.was
+    e ∙ diagonal-refused _ _ (search rules) c.snf3x3.ensures.value c.in_err-s.was
 
 pub returns-in_err-list_in_basis-clause-value : goal.returns-in_err-list_in_basis-clause-value
 returns-in_err-list_in_basis-clause-value c =
     let e : c.from_residual-in_err-list_in_basis.result ≡ Err c.in_err-list_in_basis.field-0.0 = search rules in
     e
-    ∙ grid-refused _ _ (search rules) c.snf3x3-s.ensures.value c.in_ok-s.was c.nested.ensures (to_z-of_z c.ranges.bz_grid_type) (to_z-of_z c.ranges.q0)
+    ∙ grid-refused _ _ (search rules) c.snf3x3.ensures.value c.in_ok-s.was c.nested.ensures (to_z-of_z c.ranges.bz_grid_type) (to_z-of_z c.ranges.q0)
     c.list_in_basis.ensures.value c.in_err-list_in_basis.was
 
 pub returns-clause-value : goal.returns-clause-value
 returns-clause-value c =
     let l = c.list_in_basis.ensures in
     let n = c.own_places-num_ir in
-    chain-given _ _ (search rules) c.snf3x3-s.ensures.value c.in_ok-s.was c.nested.ensures (to_z-of_z c.ranges.bz_grid_type) (to_z-of_z c.ranges.q0)
+    chain-given _ _ (search rules) c.snf3x3.ensures.value c.in_ok-s.was c.nested.ensures (to_z-of_z c.ranges.bz_grid_type) (to_z-of_z c.ranges.q0)
     l.value c.in_ok-list_in_basis.was (l.listed c.in_ok-list_in_basis.was) _ (to_z_pos w64 {n = n.result} (search rules) ∙ ap pos n.ensures.value)
 
 pub returns-clause-listed : goal.returns-clause-listed
 returns-clause-listed c =
     let l = c.list_in_basis.ensures in
-    chain-listed _ _ (search rules) c.snf3x3-s.ensures.value c.in_ok-s.was c.nested.ensures (to_z-of_z c.ranges.bz_grid_type) (to_z-of_z c.ranges.q0)
+    chain-listed _ _ (search rules) c.snf3x3.ensures.value c.in_ok-s.was c.nested.ensures (to_z-of_z c.ranges.bz_grid_type) (to_z-of_z c.ranges.q0)
     l.value c.in_ok-list_in_basis.was (l.listed c.in_ok-list_in_basis.was)

@@ -1,5 +1,5 @@
 -- What the records of the triplet call stand for, and the sizes that it relies on.
-use Rattle.std.specs.Prelude.{◌≡◌, Bool, true, false, List, ℕ, ◌+◌, ◌*◌, ◌<◌, ℤ, pos, negsuc, length, Float}
+use Rattle.std.specs.Prelude.{◌≡◌, Bool, true, false, List, ℕ, ◌*◌, ◌<◌, ℤ, pos, negsuc, length, Float}
 use Rattle.std.specs.Float.{binary64}
 use Rattle.std.specs.Float.Ieee.{sub, div, lt}
 use Rattle.common.specs.Matrix.{Vec, side, vector}
@@ -12,7 +12,7 @@ use Rattle.bztable.specs.Reading.{Read, got, ◌then◌}
 use Rattle.bz_triplets.specs.declared.choices.Step.{Step}
 use Rattle.bz_triplets.specs.declared.choices.Step.TheVariants as step
 use Rattle.bz_triplets.specs.declared.choices.Triplet.{Triplet}
-use Rattle.bz_triplets.specs.declared.choices.Places.{Places}
+use Rattle.bz_triplets.specs.declared.places.Places.{Places}
 use Rattle.bz_triplets.specs.declared.choices.Measure.{Measure}
 use Rattle.bz_triplets.specs.Choosing.{start, left, closed}
 use Rattle.bz_triplets.specs.BzTriplets.{State, Walk, place_in}
@@ -56,10 +56,6 @@ is_closed (step.Left x) = false
 is_closed step.Closed = true
 
 -- places that fit 63 bits
-pub record PlacesFit (r : Places) : Type 0 where
-  pub first : r.first < 9223372036854775808
-  pub others : r.others + r.count < 9223372036854775808
-
 pub record TripletFits (t : Triplet) : Type 0 where
   pub x : t.x < 9223372036854775808
   pub y : t.y < 9223372036854775808

@@ -5,8 +5,9 @@ ghost use Rattle.bzsearch.specs.SearchView.{float_nine};
 ghost use Rattle.bztable.specs.Reading.{got};
 ghost use Rattle.bz_triplets.specs.Choosing.{start, nested};
 ghost use Rattle.bz_triplets.specs.BzTriplets.{squared_distance, sum_of, is_zero, tried_sum, try_at, place_in};
-ghost use Rattle.bz_triplets.specs.TripletsView.{state_of, state_read, places_in, walk_by, shorter, is_closed, PlacesFit, TripletFits};
+ghost use Rattle.bz_triplets.specs.TripletsView.{state_of, state_read, places_in, walk_by, shorter, is_closed, TripletFits};
 
+use crate::places::Places;
 use bztable::reading::Table;
 use common::Refusal;
 
@@ -18,21 +19,13 @@ pub enum Step {
     Empty,
 }
 
-// By the places of the images.
+// By the places of the images. That they fit is no ghost field: a loop knows a `mut` variable of such a struct by its bare fields.
 #[derive(Clone, Copy)]
 pub struct Triplet {
     pub step: Step,
     pub x: usize,
     pub y: usize,
     pub z: usize,
-}
-
-// Of the images of a point: the first, and the others from `others` on, `count` in all.
-#[derive(Clone, Copy)]
-pub struct Places {
-    pub first: usize,
-    pub others: usize,
-    pub count: usize,
 }
 
 // How lengths are measured: lattice · Q · diag(1 / d) by rows, and the tolerance.
@@ -128,8 +121,7 @@ fn try_choice(
 }
 
 fn place_in(r: Places, k: usize) -> usize
-    requires fact_1 { PlacesFit r }
-    requires fact_2 { k < r.count }
+    requires { k < r.count }
     ensures value { result ≡ place_in r.first r.others k }
     ensures upper_bound { result < 9223372036854775808 }
 {
@@ -158,9 +150,6 @@ pub fn search_choices(
     q2: Places,
     m: Measure,
 ) -> Result<Triplet, Refusal>
-    requires fact_1 { PlacesFit q0 }
-    requires fact_2 { PlacesFit q1 }
-    requires fact_3 { PlacesFit q2 }
     ensures value { state_read result ≡ nested (try_at (walk_by m table.now.addresses.now)) (got start) (record { x = places_in q0; y = places_in q1; z = places_in q2 }) }
     ensures triplet_fits { IfOk result TripletFits }
 {

@@ -8,10 +8,11 @@ ghost use Rattle.grgrid.specs.Sides.{sides};
 ghost use Rattle.bzgrid.specs.declared.GridType.TheVariants.{Sparse, Dense};
 ghost use Rattle.bztable.specs.Reading.{got, ◌then◌, vector_read};
 ghost use Rattle.bz_triplets.specs.BzTriplets.{places_read, chosen, first_of, triplet_of, read_each, places_of, mark_of, length_of, triplet_list, marks, lengths};
-ghost use Rattle.bz_triplets.specs.TripletsView.{state_of, state_read, places_listed, walk_by, step_place, PlacesFit, TripletFits, Room};
+ghost use Rattle.bz_triplets.specs.TripletsView.{state_of, state_read, places_listed, walk_by, step_place, TripletFits, Room};
 
 use crate::choices;
-use crate::choices::{Measure, Places, Step, Triplet};
+use crate::choices::{Measure, Step, Triplet};
+use crate::places::Places;
 use bzgrid::GridType;
 use bztable::reading::Table;
 use common::Refusal;
@@ -21,8 +22,7 @@ use common::Refusal;
 // The first image at place p, the counts of the others after the doubled mesh.
 fn sparse_places(table: &Table, p: usize) -> Result<Places, Refusal>
     requires { p < 9223372036854775808 }
-    ensures value { places_listed result ≡ places_read Sparse table.now.map.now (size (sides table.now.g)) p }
-    ensures places_fit { IfOk result PlacesFit }
+    ensures { places_listed result ≡ places_read Sparse table.now.map.now (size (sides table.now.g)) p }
 {
     let n = grgrid::points(table.g);
     let s = table.place_at(8 * n + p)?;
@@ -36,8 +36,7 @@ fn sparse_places(table: &Table, p: usize) -> Result<Places, Refusal>
 
 fn dense_places(table: &Table, p: usize) -> Result<Places, Refusal>
     requires { p < 9223372036854775808 }
-    ensures value { places_listed result ≡ places_read Dense table.now.map.now (size (sides table.now.g)) p }
-    ensures places_fit { IfOk result PlacesFit }
+    ensures { places_listed result ≡ places_read Dense table.now.map.now (size (sides table.now.g)) p }
 {
     let s = table.place_at(p)?;
     let e = table.place_at(p + 1)?;
@@ -50,8 +49,7 @@ fn dense_places(table: &Table, p: usize) -> Result<Places, Refusal>
 
 fn places_at(table: &Table, p: usize) -> Result<Places, Refusal>
     requires { p < 9223372036854775808 }
-    ensures value { places_listed result ≡ places_read table.now.t table.now.map.now (size (sides table.now.g)) p }
-    ensures places_fit { IfOk result PlacesFit }
+    ensures { places_listed result ≡ places_read table.now.t table.now.map.now (size (sides table.now.g)) p }
 {
     match table.t {
         GridType::Sparse => sparse_places(table, p),

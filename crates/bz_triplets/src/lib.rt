@@ -3,6 +3,7 @@
 
 mod choices;
 mod classes;
+mod places;
 
 ghost use Rattle.std.specs.Prelude.{◌≡◌, ◌&&◌, ◌||◌, [], ◌*◌, T, eqb, pos, nat_abs, length, replicate};
 ghost use Rattle.std.specs.Int.Signed.{non_neg};

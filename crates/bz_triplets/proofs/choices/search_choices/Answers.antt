@@ -4,7 +4,7 @@ use Rattle.common.specs.Matrix.{Vec}
 use Rattle.bztable.specs.declared.reading.Table.{Table}
 use Rattle.bztable.specs.Reading.{Read, got}
 use Rattle.bz_triplets.specs.declared.choices.Measure.{Measure}
-use Rattle.bz_triplets.specs.declared.choices.Places.{Places}
+use Rattle.bz_triplets.specs.declared.places.Places.{Places}
 use Rattle.bz_triplets.specs.Choosing.{start}
 use Rattle.bz_triplets.specs.BzTriplets.{State, try_at, place_in}
 use Rattle.bz_triplets.specs.TripletsView.{state_of, places_in, walk_by}

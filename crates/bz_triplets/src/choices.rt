@@ -8,6 +8,7 @@ ghost use Rattle.bz_triplets.specs.BzTriplets.{squared_distance, sum_of, is_zero
 ghost use Rattle.bz_triplets.specs.TripletsView.{state_of, state_read, places_in, walk_by, shorter, is_closed, TripletFits};
 
 use crate::places::Places;
+use bztable::reading;
 use bztable::reading::Table;
 use common::Refusal;
 
@@ -114,9 +115,9 @@ fn try_choice(
     ensures value { state_read result ≡ try_at (walk_by m table.now.addresses.now) (got (state_of t)) (record { x = x; y = y; z = z }) }
     ensures triplet_fits { IfOk result TripletFits }
 {
-    let a = table.address_at(x)?;
-    let b = table.address_at(y)?;
-    let c = table.address_at(z)?;
+    let a = reading::address_at(table.addresses, x)?;
+    let b = reading::address_at(table.addresses, y)?;
+    let c = reading::address_at(table.addresses, z)?;
     Ok(with_sum(t, add3(a, b, c), x, y, z, m))
 }
 

@@ -14,6 +14,7 @@ use crate::choices;
 use crate::choices::{Measure, Step, Triplet};
 use crate::places::Places;
 use bzgrid::GridType;
+use bztable::reading;
 use bztable::reading::Table;
 use common::Refusal;
 
@@ -25,8 +26,8 @@ fn sparse_places(table: &Table, p: usize) -> Result<Places, Refusal>
     ensures { places_listed result ≡ places_read Sparse table.now.map.now (size (sides table.now.g)) p }
 {
     let n = grgrid::points(table.g);
-    let s = table.place_at(8 * n + p)?;
-    let e = table.place_at(8 * n + p + 1)?;
+    let s = reading::place_at(table.map, 8 * n + p)?;
+    let e = reading::place_at(table.map, 8 * n + p + 1)?;
     Ok(Places {
         first: p,
         others: n + s,
@@ -38,8 +39,8 @@ fn dense_places(table: &Table, p: usize) -> Result<Places, Refusal>
     requires { p < 9223372036854775808 }
     ensures { places_listed result ≡ places_read Dense table.now.map.now (size (sides table.now.g)) p }
 {
-    let s = table.place_at(p)?;
-    let e = table.place_at(p + 1)?;
+    let s = reading::place_at(table.map, p)?;
+    let e = reading::place_at(table.map, p + 1)?;
     Ok(Places {
         first: s,
         others: s + 1,
@@ -78,8 +79,8 @@ fn first_of(table: &Table, q1: usize) -> Result<[i64; 3], Refusal>
     ensures sized { IfOk result (λ a. Sized 10000000000000 a) }
 {
     match table.t {
-        GridType::Sparse => table.address_at(q1),
-        GridType::Dense => table.address_at(table.place_at(q1)?),
+        GridType::Sparse => reading::address_at(table.addresses, q1),
+        GridType::Dense => reading::address_at(table.addresses, reading::place_at(table.map, q1)?),
         GridType::Unknown => Err(Refusal::OutsideTable),
     }
 }

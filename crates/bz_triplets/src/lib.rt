@@ -178,7 +178,7 @@ fn triplet_tests(
         addresses,
         map,
     };
-    let a0 = table.address_of(q0)?;
+    let a0 = reading::address_of(addresses, q0)?;
     classes::fill_triplets(
         &table,
         a0,

@@ -29,7 +29,7 @@ fn sparse_neighbour(table: &Table, b: [i64; 3]) -> Result<usize, Refusal>
     let g = table.g;
     let mesh = bzgrid::doubled(g);
     let at = grgrid::grid_index_from_address(b, mesh);
-    let i = table.place_at(at)?;
+    let i = reading::place_at(table.map, at)?;
     if i == 8 * grgrid::points(g) {
         return Ok(grgrid::grid_index_from_address(b, g));
     }
@@ -45,7 +45,7 @@ fn image_among(table: &Table, b: [i64; 3], lo: usize, hi: usize) -> Result<usize
     if hi <= lo + 1 {
         return Ok(lo);
     }
-    Ok(table.find(b, lo, hi)?.unwrap_or(lo))
+    Ok(reading::find(table.addresses, b, lo, hi)?.unwrap_or(lo))
 }
 
 fn dense_neighbour(table: &Table, b: [i64; 3]) -> Result<usize, Refusal>
@@ -53,8 +53,8 @@ fn dense_neighbour(table: &Table, b: [i64; 3]) -> Result<usize, Refusal>
     ensures below { IfOk result (λ p. p < 2199023255552) }
 {
     let p = grgrid::grid_index_from_address(b, table.g);
-    let lo = table.place_at(p)?;
-    let hi = table.place_at(p + 1)?;
+    let lo = reading::place_at(table.map, p)?;
+    let hi = reading::place_at(table.map, p + 1)?;
     image_among(table, b, lo, hi)
 }
 
@@ -92,7 +92,7 @@ fn fill_rows(table: &Table, points: &[i64], offsets: &[i64], out: &mut [i64]) ->
     let n = offsets.len() / 3;
     let mut at = 0;
     for point in points {
-        let base = table.address_of(*point)?;
+        let base = reading::address_of(table.addresses, *point)?;
         let end = at + n;
         fill_row(table, base, offsets, &mut out[at..end])?;
         at = end;

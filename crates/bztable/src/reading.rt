@@ -9,7 +9,8 @@ use bzgrid::GridType;
 use common::Refusal;
 use grgrid::Grid;
 
-// An image table of a grid: the addresses of the images, and the map that says which of them a point has.
+// An image table of a grid, as the walks take it: the addresses of the images, and the map that says which of them a point has.
+// The readers take a slice alone, since they ask nothing of the grid.
 #[derive(Clone, Copy)]
 pub struct Table<'a> {
     pub t: GridType,
@@ -36,49 +37,52 @@ fn place_of(n: i64) -> Result<usize, Refusal>
     Ok(n as usize)
 }
 
-impl<'a> Table<'a> {
-    // Each number within 10^13.
-    pub fn address_at(&self, i: usize) -> Result<[i64; 3], Refusal>
-        ensures value { vector_read result ≡ address_at self.now.addresses.now i }
-        ensures sized { IfOk result (λ a. Sized 10000000000000 a) }
-    {
-        if i < self.addresses.len() / 3 {
-            let a = common::row_at(self.addresses, 3 * i);
-            if common::row_within(a, 10000000000000) {
-                return Ok(a);
-            }
+// Each number within 10^13.
+pub fn address_at(addresses: &[i64], i: usize) -> Result<[i64; 3], Refusal>
+    ensures value { vector_read result ≡ address_at addresses.now i }
+    ensures sized { IfOk result (λ a. Sized 10000000000000 a) }
+{
+    if i < addresses.len() / 3 {
+        let a = common::row_at(addresses, 3 * i);
+        if common::row_within(a, 10000000000000) {
+            return Ok(a);
         }
-        Err(Refusal::OutsideTable)
     }
+    Err(Refusal::OutsideTable)
+}
 
-    // Of an index that was asked for.
-    pub fn address_of(&self, i: i64) -> Result<[i64; 3], Refusal>
-        ensures value { vector_read result ≡ address_of self.now.addresses.now i }
-        ensures sized { IfOk result (λ a. Sized 10000000000000 a) }
-    {
-        if i < 0 {
-            return Err(Refusal::OutsideTable);
+// Of an index that was asked for.
+pub fn address_of(addresses: &[i64], i: i64) -> Result<[i64; 3], Refusal>
+    ensures value { vector_read result ≡ address_of addresses.now i }
+    ensures sized { IfOk result (λ a. Sized 10000000000000 a) }
+{
+    if i < 0 {
+        return Err(Refusal::OutsideTable);
+    }
+    address_at(addresses, i as usize)
+}
+
+pub fn place_at(map: &[i64], i: usize) -> Result<usize, Refusal>
+    ensures value { result ≡ place_at map.now i }
+    ensures below { IfOk result (λ p. p < 2199023255552) }
+{
+    place_of(*map.get(i).ok_or(Refusal::OutsideTable)?)
+}
+
+// The first place from `from` on and below `to` that holds address a.
+pub fn find(
+    addresses: &[i64],
+    a: [i64; 3],
+    from: usize,
+    to: usize,
+) -> Result<Option<usize>, Refusal>
+    ensures value { result ≡ find addresses.now (vector_of a) from (to - from) }
+    ensures below { IfOk result (λ f. IfSome f (λ i. i < to)) }
+{
+    for i in from..to {
+        if address_at(addresses, i)? == a {
+            return Ok(Some(i));
         }
-        self.address_at(i as usize)
     }
-
-    pub fn place_at(&self, i: usize) -> Result<usize, Refusal>
-        ensures value { result ≡ place_at self.now.map.now i }
-        ensures below { IfOk result (λ p. p < 2199023255552) }
-    {
-        place_of(*self.map.get(i).ok_or(Refusal::OutsideTable)?)
-    }
-
-    // The first place from `from` on and below `to` that holds address a.
-    pub fn find(&self, a: [i64; 3], from: usize, to: usize) -> Result<Option<usize>, Refusal>
-        ensures value { result ≡ find self.now.addresses.now (vector_of a) from (to - from) }
-        ensures below { IfOk result (λ f. IfSome f (λ i. i < to)) }
-    {
-        for i in from..to {
-            if self.address_at(i)? == a {
-                return Ok(Some(i));
-            }
-        }
-        Ok(None)
-    }
+    Ok(None)
 }

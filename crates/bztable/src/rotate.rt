@@ -63,9 +63,9 @@ fn among_range(table: &Table, a: [i64; 3], k: usize, first: usize) -> Result<Opt
     ensures value { result ≡ among_range table.now.addresses.now table.now.map.now (vector_of a) k first }
     ensures below { IfOk result (λ f. IfSome f (λ i. i < 4611686018427387904)) }
 {
-    let s = table.place_at(k)?;
-    let e = table.place_at(k + 1)?;
-    table.find(a, s + first, e + first)
+    let s = reading::place_at(table.map, k)?;
+    let e = reading::place_at(table.map, k + 1)?;
+    reading::find(table.addresses, a, s + first, e + first)
 }
 
 // The first image of point p, one of n, is at its own place.
@@ -74,7 +74,7 @@ fn among_sparse(table: &Table, a: [i64; 3], p: usize, n: usize) -> Result<Option
     ensures value { result ≡ among_images table.now.addresses.now table.now.map.now (vector_of a) GridType.Sparse p n }
     ensures below { IfOk result (λ f. IfSome f (λ i. i < 4611686018427387904)) }
 {
-    if table.address_at(p)? == a {
+    if reading::address_at(table.addresses, p)? == a {
         return Ok(Some(p));
     }
     among_range(table, a, 8 * n + p, n)
@@ -99,7 +99,7 @@ fn image_of(table: &Table, a: [i64; 3]) -> Result<Rotated, Refusal>
     let p = grgrid::grid_index_from_address(a, table.g);
     match among_images(table, a, p)? {
         Some(i) => Ok(Rotated::Image(i as i64)),
-        None => Ok(Rotated::Fallback(table.place_at(p)? as i64)),
+        None => Ok(Rotated::Fallback(reading::place_at(table.map, p)? as i64)),
     }
 }
 
@@ -124,6 +124,6 @@ pub fn rotate_bz_grid_index(
         addresses,
         map,
     };
-    let a = table.address_of(bz_grid_index)?;
+    let a = reading::address_of(addresses, bz_grid_index)?;
     image_of(&table, turned(a, rotation, ps))
 }

@@ -64,10 +64,10 @@ module _ {A : Type 0} (of_d of_p of_q : A → List ℤ) {fit : Bool} (s : Result
     right = eq ∙ ap (told_of of_q 9) same ∙ taken (told_of of_q 9 s) (unwritten nq) e;
   }
 
-module _ (a : List ℤ) (nd np nq nt : ℕ) {r : ℤ} {d p q told : List ℤ} where
-  abbrev rounds_of : Snf → List ℤ
-  rounds_of s = s.rounds ∷ []
+abbrev rounds_of : Snf → List ℤ
+rounds_of s = s.rounds ∷ []
 
+module _ (a : List ℤ) (nd np nq nt : ℕ) {r : ℤ} {d p q told : List ℤ} where
   pub diagonal-unsized : diagonal_lengths (length a) nd np nq nt ≡ false → r ≡ pos (number_of WrongLength)
       → d ≡ unwritten nd → p ≡ unwritten np → q ≡ unwritten nq → told ≡ unwritten nt → Snf3x3Told a nd np nq nt r d p q told
   diagonal-unsized e er ed ep eq et =

@@ -5,7 +5,7 @@ mod choices;
 mod classes;
 mod places;
 
-ghost use Rattle.std.specs.Prelude.{◌≡◌, ◌&&◌, ◌||◌, [], ◌*◌, T, eqb, pos, nat_abs, length, replicate};
+ghost use Rattle.std.specs.Prelude.{◌≡◌, ◌&&◌, ◌||◌, [], ◌*◌, T, eqb, pos, nat_abs, length};
 ghost use Rattle.std.specs.Int.Signed.{non_neg};
 ghost use Rattle.common.specs.Tested.{Accepted};
 ghost use Rattle.common.specs.Matrix.{entries};
@@ -13,7 +13,7 @@ ghost use Rattle.common.specs.Array.{vector_of, sides_of, matrix_of};
 ghost use Rattle.common.specs.FloatMatrix.{float_matrix};
 ghost use Rattle.common.specs.Limits.{matrix_within, diagonal_fits, point_fits};
 ghost use Rattle.grgrid.specs.Grid.{size};
-ghost use Rattle.grgrid.specs.Sides.{sides, GridFits};
+ghost use Rattle.grgrid.specs.Sides.{sides};
 ghost use Rattle.bzsearch.specs.Lattice.{bz_tolerance, lattice_fits};
 ghost use Rattle.bzsearch.specs.SearchView.{float_nine};
 ghost use Rattle.bztable.specs.Reading.{whole_addresses, list_of};
@@ -39,12 +39,9 @@ fn lqd_inv(lattice: [[f64; 3]; 3], q: [[i64; 3]; 3], d: [i64; 3]) -> [f64; 9]
     requires { T (diagonal_fits d) }
     ensures { result ≡ entries (lqd_inv (float_matrix lattice) (matrix_of q) (sides_of d)) [] }
 {
-    let m = float_matrix::matmul_d(lattice, float_matrix::mat_i_to_d(q));
     let s = float_matrix::row_to_d(d);
-    let x = m[0];
-    let y = m[1];
-    let z = m[2];
-    bzsearch::flat_d([over_sides(x, s), over_sides(y, s), over_sides(z, s)])
+    let [x, y, z] = float_matrix::matmul_d(lattice, float_matrix::mat_i_to_d(q));
+    common::flat([over_sides(x, s), over_sides(y, s), over_sides(z, s)])
 }
 
 fn measure_of(lattice: [[f64; 3]; 3], q: [[i64; 3]; 3], d: [i64; 3]) -> Measure
@@ -129,8 +126,7 @@ fn input_tests(
 
 // The grid point of q0, which type 2 has by an image at address a0.
 fn point_of(t: GridType, g: Grid, q0: i64, a0: [i64; 3]) -> usize
-    requires fact_1 { GridFits (sides g) }
-    requires fact_2 { T (non_neg q0) }
+    requires { T (non_neg q0) }
     ensures { result ≡ point_of (sides g) t (nat_abs q0) (vector_of a0) }
 {
     match t {
@@ -191,13 +187,6 @@ fn triplet_tests(
     )
 }
 
-// As `common::fill`, of lengths.
-pub fn fill_lengths(out: &mut [f64], v: f64)
-    ensures { out.new ≡ replicate (length out.old) v }
-{
-    out.fill(v);
-}
-
 // A triplet of images (q0, q1, q2) with q0 + q1 + q2 = G for each class: `class_map` has the classes that `ir_triplets_at_q` left. Beside it stands whether its
 // sum closed, or the squared length that is left over.
 pub fn bz_triplets_at_q(
@@ -233,9 +222,9 @@ pub fn bz_triplets_at_q(
         &mut *left_length,
     );
     if answer.is_err() {
-        common::fill(out, -1);
-        common::fill(left, -1);
-        fill_lengths(left_length, -1.0);
+        out.fill(-1);
+        left.fill(-1);
+        left_length.fill(-1.0);
     }
     answer
 }

@@ -5,7 +5,7 @@ mod tables;
 
 ghost use Rattle.std.specs.Prelude.{◌≡◌, true, false, ◌+◌, ◌*◌, ◌≤◌, ◌<◌, T, pos, negsuc, length, replicate};
 ghost use Rattle.grgrid.specs.Grid.{size};
-ghost use Rattle.grgrid.specs.Sides.{sides, GridFits};
+ghost use Rattle.grgrid.specs.Sides.{sides};
 ghost use Rattle.bzgrid.specs.Table.{images_at, doubled};
 ghost use Rattle.bzgrid.specs.Writing.{if_sparse, placed_flat, with_mesh};
 ghost use Rattle.bzgrid.specs.Walked.{walk_of, images_in, blank, WrittenTo, lengths_for, judged, is_built, Filled, MeshFits};
@@ -140,10 +140,9 @@ pub fn doubled(g: Grid) -> Grid
 
 // The map over the doubled mesh: the place of the last image that falls at each of its points.
 fn fill_mesh(addresses: &[i64], m: usize, g: Grid, map: &mut [i64])
-    requires fact_1 { GridFits (sides g) }
-    requires fact_2 { length map.old ≡ size (sides g) }
-    requires fact_3 { 3 * m ≤ length addresses.now }
-    requires fact_4 { m < 1099511627776 }
+    requires fact_1 { length map.old ≡ size (sides g) }
+    requires fact_2 { 3 * m ≤ length addresses.now }
+    requires fact_3 { m < 1099511627776 }
     ensures { map.new ≡ placed_flat (sides g) addresses.now m (replicate (size (sides g)) (pos (size (sides g)))) }
 {
     let empty = map.len() as i64;
@@ -153,10 +152,9 @@ fn fill_mesh(addresses: &[i64], m: usize, g: Grid, map: &mut [i64])
 
 // In a sparse table the map begins with the doubled mesh, whose grid is g.
 fn add_mesh(sparse: bool, addresses: &[i64], m: usize, g: Grid, map: &mut [i64])
-    requires fact_1 { GridFits (sides g) }
-    requires fact_2 { if_sparse sparse (size (sides g)) ≤ length map.old }
-    requires fact_3 { 3 * m ≤ length addresses.now }
-    requires fact_4 { m < 1099511627776 }
+    requires fact_1 { if_sparse sparse (size (sides g)) ≤ length map.old }
+    requires fact_2 { 3 * m ≤ length addresses.now }
+    requires fact_3 { m < 1099511627776 }
     ensures { map.new ≡ with_mesh sparse (sides g) addresses.now m map.old }
 {
     if sparse {

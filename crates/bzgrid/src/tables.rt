@@ -3,7 +3,7 @@ ghost use Rattle.std.specs.Prelude.{◌≡◌, [], ◌∷◌, ◌+◌, ◌*◌, 
 ghost use Rattle.integer.specs.Checked.{pick};
 ghost use Rattle.common.specs.Array.{vector_of, items, Sized};
 ghost use Rattle.grgrid.specs.Grid.{size};
-ghost use Rattle.grgrid.specs.Sides.{sides, GridFits};
+ghost use Rattle.grgrid.specs.Sides.{sides};
 ghost use Rattle.bzsearch.specs.Search.{chosen, box};
 ghost use Rattle.bzgrid.specs.Table.{image_of, images_at};
 ghost use Rattle.bzgrid.specs.BzGridAddresses.{all_found};
@@ -206,10 +206,9 @@ pub fn write_table(
 
 // Each of the first m addresses at its place on the doubled mesh; the last one wins.
 pub fn place_images(addresses: &[i64], m: usize, g: Grid, map: &mut [i64])
-    requires fact_1 { GridFits (sides g) }
-    requires fact_2 { length map.old ≡ size (sides g) }
-    requires fact_3 { 3 * m ≤ length addresses.now }
-    requires fact_4 { m < 1099511627776 }
+    requires fact_1 { length map.old ≡ size (sides g) }
+    requires fact_2 { 3 * m ≤ length addresses.now }
+    requires fact_3 { m < 1099511627776 }
     ensures { map.new ≡ placed_flat (sides g) addresses.now m map.old }
 {
     for k in 0..m {

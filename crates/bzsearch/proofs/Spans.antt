@@ -85,8 +85,8 @@ module _ (r : Span) (t : T (span_fits r)) where
     each = fft-size;
     few = omega (arith, count_most from.lo r.hi 17 (omega (arith, ints, reach-parts from.lo r.hi, from_low, span-high)), count_most r.lo below.hi 16 (omega (arith, ints, reach-parts r.lo below.hi, below-high, span-low)));
   }
-
   -- ---- clipped
+
 -- ---- the numbers as the code puts them together, from ends that its locals hold
 pub fft-of : (r : Span) {f b : Span} {flo fhi blo bhi lo : ℤ} {n m : ℕ} → f ≡ from_zero r → b ≡ below_zero r → flo ≡ f.lo → fhi ≡ f.hi → blo ≡ b.lo → bhi ≡ b.hi → lo ≡ r.lo
     → n ≡ count flo fhi → m ≡ count blo bhi → record { a = flo; low = n; b = lo; n = n + m } ≡ fft_order r

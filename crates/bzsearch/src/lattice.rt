@@ -18,10 +18,11 @@ fn squares_from_0(x: f64, y: f64, z: f64) -> f64
 }
 
 // Over the square of a diagonal number.
-fn step_squared(x: f64, y: f64, z: f64, d: i64) -> f64
+fn step_squared(a: [f64; 3], d: i64) -> f64
     requires { nat_abs d ≤ 256 }
-    ensures { result ≡ div binary64 (squares_from0 x y z) (of_int binary64 (pos (nat_abs d * nat_abs d))) }
+    ensures { let v = float_vector a in result ≡ div binary64 (squares_from0 v.x v.y v.z) (of_int binary64 (pos (nat_abs d * nat_abs d))) }
 {
+    let [x, y, z] = a;
     squares_from_0(x, y, z) / (d * d) as f64
 }
 
@@ -36,9 +37,10 @@ pub fn bz_tolerance(m: [[f64; 3]; 3], d: [i64; 3]) -> f64
     requires { T (diagonal_fits d) }
     ensures { result ≡ bz_tolerance (float_matrix m) (sides_of d) }
 {
-    let x = step_squared(m[0][0], m[1][0], m[2][0], d[0]);
-    let y = step_squared(m[0][1], m[1][1], m[2][1], d[1]);
-    let z = step_squared(m[0][2], m[1][2], m[2][2], d[2]);
+    let [a, b, c] = common::transpose(m);
+    let x = step_squared(a, d[0]);
+    let y = step_squared(b, d[1]);
+    let z = step_squared(c, d[2]);
     larger(larger(larger(0.0, x), y), z) * BzSearch::TOLERANCE_FACTOR
 }
 
@@ -46,16 +48,16 @@ fn cross(a: [f64; 3], b: [f64; 3]) -> [f64; 3]
     ensures { result ≡ items (cross_d (side (float_vector a)) (side (float_vector b))) }
 {
     [
-        a[1] * b[2] - a[2] * b[1],
-        a[2] * b[0] - a[0] * b[2],
-        a[0] * b[1] - a[1] * b[0],
+        common::cross(a[1], a[2], b[1], b[2]),
+        common::cross(a[2], a[0], b[2], b[0]),
+        common::cross(a[0], a[1], b[0], b[1]),
     ]
 }
 
 fn norm(a: [f64; 3]) -> f64
     ensures { result ≡ norm (float_vector a) }
 {
-    float::sqrt(a[0] * a[0] + a[1] * a[1] + a[2] * a[2])
+    float::sqrt(common::dot(a, a))
 }
 
 // Of two columns, where det is the size of the determinant.
@@ -69,9 +71,7 @@ fn dual_length(a: [f64; 3], b: [f64; 3], det: f64) -> f64
 pub fn dual_lengths(m: [[f64; 3]; 3]) -> [f64; 3]
     ensures { result ≡ items (dual_lengths_of (float_matrix m)) }
 {
-    let x = [m[0][0], m[1][0], m[2][0]];
-    let y = [m[0][1], m[1][1], m[2][1]];
-    let z = [m[0][2], m[1][2], m[2][2]];
+    let [x, y, z] = common::transpose(m);
     let det = float::abs(float_matrix::det_d(m));
     [
         dual_length(y, z, det),

@@ -7,5 +7,5 @@ mod search;
 mod types;
 
 pub use lattice::{bz_tolerance, is_singular, lattice_fits};
-pub use search::{flat_d, is_unimodular, length_squared};
+pub use search::{is_unimodular, length_squared};
 pub use types::{Axes, Boxes, BzSearch, Numbers, Point, Range, Span, Split};

@@ -1,8 +1,8 @@
 // The search for the images of a grid point: its reduced coordinates, the squared length of a candidate, the range of the candidates.
-ghost use Rattle.std.specs.Prelude.{◌≡◌, [], ◌≤◌, ◌<◌, T, pos, nat_abs, ◌+ℤ◌, ◌*ℤ◌, ◌-ℤ◌};
+ghost use Rattle.std.specs.Prelude.{◌≡◌, ◌≤◌, ◌<◌, T, pos, nat_abs, ◌+ℤ◌, ◌*ℤ◌, ◌-ℤ◌};
 ghost use Rattle.std.specs.Float.{binary64};
 ghost use Rattle.std.specs.Float.Ieee.{mul, div, of_int};
-ghost use Rattle.common.specs.Matrix.{vector, entries, apply_over, cross, integers, inverse};
+ghost use Rattle.common.specs.Matrix.{vector, apply_over, cross, integers, inverse};
 ghost use Rattle.common.specs.Array.{along, vector_of, sides_of, items, matrix_of, rows, Sized};
 ghost use Rattle.common.specs.FloatMatrix.{floats, float_vector, float_matrix};
 ghost use Rattle.common.specs.Limits.{diagonal_fits, matrix_within, shift_fits};
@@ -13,7 +13,8 @@ ghost use Rattle.bzsearch.specs.SearchView.{point_split, float_nine, search_of, 
 use crate::lattice;
 use crate::types::{BzSearch, Point, Range, Span, Split};
 
-// A cofactor times the determinant, which is 1 or -1: the same as over it.
+// A cofactor times the determinant, which is 1 or -1: the same as over it. `common::cross` asks by a test of its own that each product fits, which the check
+// does not find from sizes, as it does here.
 fn cofactor_over(a: i64, b: i64, c: i64, d: i64, det: i64) -> i64
     requires { (nat_abs a ≤ 1000) × (nat_abs b ≤ 1000) × (nat_abs c ≤ 1000) × (nat_abs d ≤ 1000) × (nat_abs det ≤ 1) }
     ensures { result ≡ det *ℤ cross integers a b c d }
@@ -49,10 +50,7 @@ fn inverse_unimodular(q: [[i64; 3]; 3]) -> [[i64; 3]; 3]
     ensures { result ≡ rows (inverse (matrix_of q)) }
 {
     let det = integer_matrix::det_i(q);
-    let t = integer_matrix::transpose_i(q);
-    let x = t[0];
-    let y = t[1];
-    let z = t[2];
+    let [x, y, z] = common::transpose(q);
     [
         inverse_row(y, z, det),
         inverse_row(z, x, det),
@@ -107,14 +105,6 @@ pub fn length_squared(l: [f64; 9], v: [f64; 3]) -> f64
     sum_of_squares(row_times(l, 0, v), row_times(l, 3, v), row_times(l, 6, v))
 }
 
-// A record holds a matrix flat, by rows.
-pub fn flat_d(m: [[f64; 3]; 3]) -> [f64; 9]
-    ensures { result ≡ entries (float_matrix m) [] }
-{
-    let [[a, b, c], [d, e, f], [g, h, i]] = m;
-    [a, b, c, d, e, f, g, h, i]
-}
-
 fn difference(m: [i64; 3], n: [i64; 3]) -> [i64; 3]
     requires fact_1 { Sized 16 m }
     requires fact_2 { Sized 4096 n }
@@ -161,7 +151,7 @@ impl BzSearch {
     {
         let inverse = integer_matrix::flat(inverse_unimodular(q));
         let flat_q = integer_matrix::flat(q);
-        let lattice = flat_d(rec_lattice);
+        let lattice = common::flat(rec_lattice);
         let tolerance = lattice::bz_tolerance(rec_lattice, d_diag);
         let dual = lattice::dual_lengths(rec_lattice);
         BzSearch {

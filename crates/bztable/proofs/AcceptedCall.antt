@@ -1,9 +1,8 @@
 -- An accepted call of `bz_grid_addresses`: what its tests say of the input, and what it leaves.
 use mathlib.Core.Path.{◌≡◌, refl, sym, ◌∙◌, ap, ap₂, subst}
-use mathlib.Core.Bool.{true, not}
-use mathlib.Core.List.{List, map}
+use mathlib.Core.Bool.{true}
+use mathlib.Core.List.{List}
 use Prim.Native.Nat.{ℕ, ◌<◌, ◌≤◌}
-use native.Mathlib.Omega.{arith}
 use lib.Dec.{T, eqb→eq}
 use lib.IntN.{ℤ, nat_abs}
 use lib.Ieee.{Float, le}
@@ -15,7 +14,6 @@ use Rattle.common.specs.Matrix.{det}
 use Rattle.common.specs.Array.{vector_of, sides_of, matrix_of}
 use Rattle.common.specs.FloatMatrix.{float_matrix}
 use Rattle.common.specs.Tested.{require, output_of, Tested, Accepted}
-use Rattle.common.specs.declared.Refusal.{Refusal}
 use Rattle.common.specs.declared.Refusal.TheVariants.{SearchFailed, WrongLength}
 use Rattle.common.proofs.Tests.{passed, same-ok, refused-not-ok}
 use Rattle.grgrid.specs.Grid.{size}

@@ -187,7 +187,7 @@ pub fn neighboring_grid_points_many(
     let t = bzgrid::grid_type(bz_grid_type);
     let answer = neighbour_tests(points, offsets, addresses, map, d, t, out);
     if answer.is_err() {
-        common::fill(out, -1);
+        out.fill(-1);
     }
     answer
 }

@@ -31,11 +31,10 @@ fn rotate_tests(
     if !reading::whole_addresses(addresses) {
         return Err(Refusal::WrongLength);
     }
-    if !common::all_three(
-        common::diagonal_fits(d),
-        common::shift_fits(ps),
-        common::matrix_within(rotation, 100000),
-    ) {
+    if !(common::diagonal_fits(d)
+        && common::shift_fits(ps)
+        && common::matrix_within(rotation, 100000))
+    {
         return Err(Refusal::OutsideLimits);
     }
     if !bzgrid::is_known(t) {

@@ -1,4 +1,4 @@
-// What the modules share: limits, refusals and the filling of outputs.
+// What the modules share: limits, refusals, vectors and matrices.
 #![tactic(auto)]
 
 mod algebra;
@@ -6,7 +6,7 @@ mod array;
 mod entry;
 mod limits;
 
-ghost use Rattle.std.specs.Prelude.{◌≡◌, ◌<◌, pos, length, replicate};
+ghost use Rattle.std.specs.Prelude.{◌≡◌, ◌<◌, pos};
 ghost use Rattle.common.specs.Refusal.{number_of};
 
 pub use algebra::{apply, cross, det, dot, matmul, matvec_ii, minors};
@@ -14,7 +14,7 @@ pub use array::{flat, matrix_at, nested, row_at, transpose};
 pub use entry::Entry;
 pub use limits::{
     all_three, all_within, diagonal_fits, is_thrice, matrix_within, point_fits, rotations_fit,
-    row_within, same_row, shift_fits, whole_matrices, within,
+    row_within, shift_fits, whole_matrices, within,
 };
 
 // Why a call gives no result. The Rust's own errors have the Rust's names.
@@ -53,11 +53,4 @@ impl Refusal {
     {
         self.number() as i64
     }
-}
-
-// A refusal leaves -1 in every place of every output of whole numbers.
-pub fn fill(out: &mut [i64], v: i64)
-    ensures { out.new ≡ replicate (length out.old) v }
-{
-    out.fill(v)
 }

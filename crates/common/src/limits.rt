@@ -1,7 +1,7 @@
 // The limits and lengths that calls test.
 ghost use Rattle.std.specs.Prelude.{◌≡◌, ◌&&◌, ◌*◌, ◌≤◌, leb, eqb, nat_abs};
-ghost use Rattle.common.specs.Matrix.{all_axes, same_vector};
-ghost use Rattle.common.specs.Array.{along, matrix_of, vector_of};
+ghost use Rattle.common.specs.Matrix.{all_axes};
+ghost use Rattle.common.specs.Array.{along, matrix_of};
 ghost use Rattle.common.specs.Limits.{within, all_within, matrix_within, rotations_fit, whole_matrices, side_fits, diagonal_fits, half_fits, shift_fits, point_fits};
 
 pub fn within(z: i64, k: u64) -> bool
@@ -20,12 +20,6 @@ pub fn row_within(a: [i64; 3], k: u64) -> bool
     ensures { result ≡ all_axes (λ x. within k (along a x)) }
 {
     within(a[0], k) && within(a[1], k) && within(a[2], k)
-}
-
-pub fn same_row(a: [i64; 3], b: [i64; 3]) -> bool
-    ensures { result ≡ same_vector (vector_of a) (vector_of b) }
-{
-    a == b
 }
 
 pub fn matrix_within(m: [[i64; 3]; 3], k: u64) -> bool

@@ -24,7 +24,7 @@ const IDENTITY_TOL: f64 = 0.00001;
 fn cofactor_over(a: f64, b: f64, c: f64, d: f64, det: f64) -> f64
     ensures { result ≡ div binary64 (cross floats a b c d) det }
 {
-    (a * d - b * c) / det
+    common::cross(a, b, c, d) / det
 }
 
 // A row of the inverse, from the two columns after its number.
@@ -42,11 +42,11 @@ fn inverse_row(a: [f64; 3], b: [f64; 3], det: f64) -> [f64; 3]
 fn inverse_f64(m: [[f64; 3]; 3], det: f64) -> [[f64; 3]; 3]
     ensures { result ≡ rows (inverse_over (float_matrix m) det) }
 {
-    let [[a, b, c], [d, e, f], [g, h, i]] = m;
+    let [x, y, z] = common::transpose(m);
     [
-        inverse_row([b, e, h], [c, f, i], det),
-        inverse_row([c, f, i], [a, d, g], det),
-        inverse_row([a, d, g], [b, e, h], det),
+        inverse_row(y, z, det),
+        inverse_row(z, x, det),
+        inverse_row(x, y, det),
     ]
 }
 
@@ -145,19 +145,11 @@ fn all_near(n: [[i64; 3]; 3], m: [[f64; 3]; 3]) -> bool
     row_near(n[0], m[0]) && row_near(n[1], m[1]) && row_near(n[2], m[2])
 }
 
-// A twin of that of `integer_matrix`, on which this crate does not stand.
-fn flat(m: [[i64; 3]; 3]) -> [i64; 9]
-    ensures { result ≡ entries (matrix_of m) [] }
-{
-    let [[a, b, c], [d, e, f], [g, h, i]] = m;
-    [a, b, c, d, e, f, g, h, i]
-}
-
 fn store(out: &mut [i64], at: usize, m: [[i64; 3]; 3])
     requires { at + 9 ≤ length out.old }
     ensures { out.new ≡ sets out.old at (entries (matrix_of m) []) }
 {
-    out[at..at + 9].copy_from_slice(&flat(m));
+    out[at..at + 9].copy_from_slice(&common::flat(m));
 }
 
 // Each rotation transformed, where all come to whole numbers. A refusal may leave anything in the output.

@@ -26,7 +26,7 @@ returns-then-is_err-clause-out_after c =
     let f = c.triplet_tests-answer.ensures.value ∙ ap (λ q0. bz_triplet_tests q0 i.addresses i.map i.classes i.d i.q i.lattice i.t i.n i.m i.l) z in
     let r = sym c.is_err.ensures.value ∙ c.if-is_err.true in
     let k : length c.triplet_tests-answer.new.out ≡ i.n = search rules in
-    c.fill.ensures ∙ ap (λ n. replicate n (negsuc 0)) k ∙ output-refused c.triplet_tests-answer.result i.n (triplet_list (list_of (read i))) r ∙ call-triplets i s.bz_grid_type t f
+    c.fill.ensures.after (λ y e. e) ∙ ap (λ n. replicate n (negsuc 0)) k ∙ output-refused c.triplet_tests-answer.result i.n (triplet_list (list_of (read i))) r ∙ call-triplets i s.bz_grid_type t f
 
 pub returns-then-is_err-clause-left_after : goal.returns-then-is_err-clause-left_after
 returns-then-is_err-clause-left_after c =
@@ -37,7 +37,7 @@ returns-then-is_err-clause-left_after c =
     let f = c.triplet_tests-answer.ensures.value ∙ ap (λ q0. bz_triplet_tests q0 i.addresses i.map i.classes i.d i.q i.lattice i.t i.n i.m i.l) z in
     let r = sym c.is_err.ensures.value ∙ c.if-is_err.true in
     let k : length c.triplet_tests-answer.new.left ≡ i.m = search rules in
-    c.fill-then-is_err.ensures ∙ ap (λ n. replicate n (negsuc 0)) k ∙ output-refused c.triplet_tests-answer.result i.m (marks (list_of (read i))) r ∙ call-marks i s.bz_grid_type t f
+    c.fill-then-is_err.ensures.after (λ y e. e) ∙ ap (λ n. replicate n (negsuc 0)) k ∙ output-refused c.triplet_tests-answer.result i.m (marks (list_of (read i))) r ∙ call-marks i s.bz_grid_type t f
 
 pub returns-then-is_err-clause-left_length_after : goal.returns-then-is_err-clause-left_length_after
 returns-then-is_err-clause-left_length_after c =
@@ -48,7 +48,7 @@ returns-then-is_err-clause-left_length_after c =
     let f = c.triplet_tests-answer.ensures.value ∙ ap (λ q0. bz_triplet_tests q0 i.addresses i.map i.classes i.d i.q i.lattice i.t i.n i.m i.l) z in
     let r = sym c.is_err.ensures.value ∙ c.if-is_err.true in
     let k : length c.triplet_tests-answer.new.left_length ≡ i.l = search rules in
-    c.fill_lengths.ensures
+    c.fill-then-is_err-2.ensures.after (λ y e. e)
     ∙ ap₂ replicate k minus-one-literal
     ∙ lengths-refused c.triplet_tests-answer.result i.l (lengths (list_of (read i))) r
     ∙ call-lengths i s.bz_grid_type t f

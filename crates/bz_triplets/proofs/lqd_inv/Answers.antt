@@ -8,7 +8,7 @@ use Rattle.bz_triplets.proofs.lqd_inv.Goals as goal
 pub returns : goal.returns
 returns c =
     let s = c.args in
-    c.flat_d.ensures
+    c.flat.ensures
     ∙ (λ i. entries (float_matrix (c.over_sides.ensures i ∷ c.over_sides-2.ensures i ∷ c.over_sides-3.ensures i ∷ [])) [])
-    ∙ (λ i. let m = (c.matmul_d-m.ensures ∙ (λ i. matmul_d s.lattice (c.mat_i_to_d.ensures i))) i in let v = c.row_to_d-s.ensures i in entries (float_matrix (row_over (get_or m 0 []) v ∷ row_over (get_or m 1 []) v ∷ row_over (get_or m 2 []) v ∷ [])) [])
+    ∙ (λ i. let m = (c.matmul_d.ensures ∙ (λ i. matmul_d s.lattice (c.mat_i_to_d.ensures i))) i in let v = c.row_to_d-s.ensures i in entries (float_matrix (row_over (get_or m 0 []) v ∷ row_over (get_or m 1 []) v ∷ row_over (get_or m 2 []) v ∷ [])) [])
     ∙ lqd-rows s.lattice s.q s.d c.requires

@@ -21,26 +21,26 @@ pub det_i-det-requires : goal.det_i-det-requires
 det_i-det-requires c = det-fits (matrix_of c.args.q) c.requires.fact_1
 
 pub inverse_row-requires-clause-fact_1 : goal.inverse_row-requires-clause-fact_1
-inverse_row-requires-clause-fact_1 c = column (matrix_of c.args.q) c.transpose_i-t.ensures c.requires.fact_1 Y
+inverse_row-requires-clause-fact_1 c = column (matrix_of c.args.q) c.transpose.ensures c.requires.fact_1 Y
 
 pub inverse_row-requires-clause-fact_2 : goal.inverse_row-requires-clause-fact_2
-inverse_row-requires-clause-fact_2 c = column (matrix_of c.args.q) c.transpose_i-t.ensures c.requires.fact_1 Z
+inverse_row-requires-clause-fact_2 c = column (matrix_of c.args.q) c.transpose.ensures c.requires.fact_1 Z
 
 pub inverse_row-requires-2-clause-fact_1 : goal.inverse_row-requires-2-clause-fact_1
-inverse_row-requires-2-clause-fact_1 c = column (matrix_of c.args.q) c.transpose_i-t.ensures c.requires.fact_1 Z
+inverse_row-requires-2-clause-fact_1 c = column (matrix_of c.args.q) c.transpose.ensures c.requires.fact_1 Z
 
 pub inverse_row-requires-2-clause-fact_2 : goal.inverse_row-requires-2-clause-fact_2
-inverse_row-requires-2-clause-fact_2 c = column (matrix_of c.args.q) c.transpose_i-t.ensures c.requires.fact_1 X
+inverse_row-requires-2-clause-fact_2 c = column (matrix_of c.args.q) c.transpose.ensures c.requires.fact_1 X
 
 pub inverse_row-requires-3-clause-fact_1 : goal.inverse_row-requires-3-clause-fact_1
-inverse_row-requires-3-clause-fact_1 c = column (matrix_of c.args.q) c.transpose_i-t.ensures c.requires.fact_1 X
+inverse_row-requires-3-clause-fact_1 c = column (matrix_of c.args.q) c.transpose.ensures c.requires.fact_1 X
 
 pub inverse_row-requires-3-clause-fact_2 : goal.inverse_row-requires-3-clause-fact_2
-inverse_row-requires-3-clause-fact_2 c = column (matrix_of c.args.q) c.transpose_i-t.ensures c.requires.fact_1 Y
+inverse_row-requires-3-clause-fact_2 c = column (matrix_of c.args.q) c.transpose.ensures c.requires.fact_1 Y
 
 pub returns : goal.returns
 returns c =
-    let t = c.transpose_i-t.ensures in
+    let t = c.transpose.ensures in
     let d = held-is c.det_i-det.result c.det_i-det.type_inv ∙ c.det_i-det.ensures in
     let f0 = c.inverse_row.ensures ∙ (λ i. inverse_row (get_or (t i) 1 []) (get_or (t i) 2 []) (d i)) in
     let f1 = c.inverse_row-2.ensures ∙ (λ i. inverse_row (get_or (t i) 2 []) (get_or (t i) 0 []) (d i)) in

@@ -19,7 +19,7 @@ returns-then-is_err-clause-out_after c =
     let t = c.grid_type-t.ensures ∙ ap grid_type_of (to_z-of_z c.ranges.bz_grid_type) in
     let l = list_of (neighbours_read s.points.now s.offsets.now s.addresses.now s.map.now s.d c.grid_type-t.result n) in
     let m : length c.neighbour_tests-answer.new.out ≡ n = search rules in
-    c.fill.ensures
+    c.fill.ensures.after (λ y e. e)
     ∙ ap (λ n. replicate n (negsuc 0)) m
     ∙ output-refused c.neighbour_tests-answer.result n l (sym c.is_err.ensures.value ∙ c.if-is_err.true)
     ∙ call-output s.points.now s.offsets.now s.addresses.now s.map.now s.d s.bz_grid_type n t c.neighbour_tests-answer.ensures.value

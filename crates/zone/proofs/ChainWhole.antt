@@ -11,7 +11,7 @@ use lib.Ieee.{Float}
 use lib.ListN.{length, get_or, replicate, length-append, length-replicate, get_or-replicate, get_or-append}
 use lib.Seq.{get_or-append-add}
 use borrow.Author.Tests.{eqb-true}
-use Rattle.std.specs.Prelude.{Result, Ok, Err, is_err, OnOk}
+use Rattle.std.specs.Prelude.{Result, Ok, Err, is_err}
 use Rattle.integer.proofs.Test.{holds, and_l, and_r, is_true}
 use Rattle.common.specs.Array.{matrix_at, matrix_of, rows}
 use Rattle.common.specs.Tested.{require, output_of, after, giving, Tested, Accepted, without_value}
@@ -25,6 +25,7 @@ use Rattle.zone.specs.declared.Finished.{Finished}
 use Rattle.zone_steps.specs.Steps.{Rooms, Grid, Lists, transformed, rotation_tests, class_map_of, count, lists_of, grid_tests, grid_lists, image_addresses, image_map, image_grg}
 use Rattle.zone.specs.Chain.{Job, rooms_agree, sides_in, change_in, diagonal, diagonal_tests, sides, change, wiped, lists_for, grid_of, chain_finished, chain_tests, chain_answer, chain_addresses, chain_map, chain_grg, chain_lists}
 use Rattle.zone_steps.specs.StepsView.{grid, lists, Agreed, Listed}
+use Rattle.zone.proofs.Outcomes.{no-refusal, a-refusal}
 
 -- ---- -1 is no place
 abbrev counted-on : ℕ → ℤ → ℕ → ℕ
@@ -68,9 +69,6 @@ rooms-agreed r e =
       left-agree = eqb-true r.left r.classes (is_true l (and_l l f k));
       lengths-agree = eqb-true r.lengths r.classes (is_true f (and_r l f k));
     }
-
-not-both : true ≡ false → ⊥
-not-both e = let z : ◌≡◌ {A = ℕ} 0 1 = cc in omega arith
 
 module _ (j : Job) (r : Rooms) where
   abbrev gridded : Tested
@@ -165,11 +163,7 @@ module _ (j : Job) (r : Rooms) where
     tests = ap without_value e ∙ tested-is
 
     pub passed-tests : is_err f ≡ false → chain_tests j r ≡ Accepted
-    passed-tests h = sym tests ∙ answers f h
-      where
-        answers : (f : Result Finished Refusal) → is_err f ≡ false → without_value f ≡ Accepted
-        answers (Ok v) h = refl
-        answers (Err x) h = absurd (not-both h)
+    passed-tests h = sym tests ∙ no-refusal f h
 
     pub left-accepted : is_err f ≡ false → {a b c : List ℤ} {l : Lists} → Listed (grid_of j) j.shift r a b c l → Left a b c l
     unfolding chain_addresses chain_map chain_grg chain_lists
@@ -184,11 +178,7 @@ module _ (j : Job) (r : Rooms) where
 
     module _ (h : is_err f ≡ true) where
       refusal : (x : Refusal) × (Err x ≡ chain_tests j r)
-      refusal = let x = of f h in (x.0, sym x.1 ∙ tests)
-        where
-          of : (f : Result Finished Refusal) → is_err f ≡ true → (x : Refusal) × (without_value f ≡ Err x)
-          of (Ok v) h = absurd (not-both (sym h))
-          of (Err x) h = (x, refl)
+      refusal = let x = a-refusal f h in (x.0, sym x.1 ∙ tests)
 
       pub addresses-wiped : {l : List ℤ} → l ≡ replicate r.addresses (negsuc 0) → l ≡ chain_addresses j r
       unfolding chain_addresses
@@ -205,12 +195,3 @@ module _ (j : Job) (r : Rooms) where
       pub lists-wiped : {l : Lists} → l ≡ wiped r → l ≡ chain_lists j r
       unfolding chain_lists
       lists-wiped e = e ∙ ap (λ t. lists_for t r (grid_lists (grid_of j) j.shift r)) refusal.1
-
--- what holds of an answer that is no refusal
-pub had : {A : Type 0} (f : Result Finished Refusal) → is_err f ≡ false → OnOk f A → A
-had (Ok v) h a = a
-had (Err x) h a = absurd (not-both h)
-
-pub told : {A : Type 0} (f : Result Finished Refusal) → A → OnOk f A
-told (Ok v) a = a
-told (Err x) a = tt

@@ -1,3 +1,4 @@
+pub mod Outcomes
 pub mod ChainWhole
 pub mod ChainFinished
 pub mod ChainNumbers

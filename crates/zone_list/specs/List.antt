@@ -3,84 +3,73 @@ use Rattle.std.specs.Prelude.{◌≡◌, List, [], ◌∷◌, ℕ, ◌*◌, ◌�
 use Rattle.common.specs.declared.Refusal.{Refusal}
 use Rattle.common.specs.Array.{rows, matrix_at, sides_of}
 use Rattle.common.specs.Limits.{diagonal_fits}
-use Rattle.common.specs.Tested.{require, output_of, after, Tested, Accepted}
+use Rattle.common.specs.Tested.{require, output_of, after, giving, Tested, Accepted, without_value}
 use Rattle.common.specs.declared.Refusal.TheVariants.{WrongLength}
 use Rattle.grgrid.specs.Grid.{size}
 use Rattle.bzsearch.specs.SearchView.{float_nine}
-use Rattle.job.specs.Job.{job_of, rotations_of}
+use Rattle.job.specs.declared.job.Job as read
+use Rattle.job.specs.Job.{job_of, accepted, rotations_of}
 use Rattle.job.specs.Listing.{listing}
 use Rattle.job.specs.Writing.{printed}
 use Rattle.zone.specs.declared.Finished.{Finished}
 use Rattle.zone_steps.specs.Steps.{Rooms, Lists}
 use Rattle.zone_steps.specs.StepsView.{rooms}
-use Rattle.zone.specs.Chain.{Job, chain_answer, chain_addresses, chain_map, chain_grg, chain_lists, lists_for}
-use Rattle.zone.specs.ChainView.{job, refused_with}
+use Rattle.zone.specs.Chain.{Job, chain_finished, chain_answer, chain_addresses, chain_map, chain_grg, chain_lists, lists_for}
+use Rattle.zone.specs.ChainView.{job}
 
 -- arrays for 256 points and 1,024 images
 abbrev pub list_rooms : Rooms
 list_rooms = rooms 3072 2305 1024 256 256 768 256 256
 
--- the chain's job in the bytes of a file, without shift
+-- the chain's job in the bytes of a file that the reader accepts, without shift
 unfoldable pub chain_job : List ℕ → Job
-unfolding job_of rotations_of
+unfolding accepted rotations_of
 chain_job b =
-    let j = job_of b in
+    let j = accepted b in
     job (rows (matrix_at j.a 0)) (rotations_of b) (rows (float_nine j.lattice)) (pos 0 ∷ pos 0 ∷ pos 0 ∷ []) j.time_reversal j.swapping j.grid_type j.q0
 
 -- the reader's refusal comes before the chain's
-abbrev pub after_reading : Tested → Finished → Finished
+abbrev pub after_reading : Result read.Job Refusal → Result Finished Refusal → Result Finished Refusal
 after_reading (Ok _) f = f
-after_reading (Err r) f = refused_with r
+after_reading (Err r) f = Err r
 
 -- the diagonal, the class of each point, the number of classes, the triplets
 unfoldable pub text_of : Finished → (classes triplets : List ℤ) → List ℕ
 unfolding listing
 text_of f classes triplets = listing f.d (take (size (sides_of f.d)) classes) f.num_ir (take (nat_abs f.num_ir * 3) triplets)
 
--- ---- a finished list, printed in n places
-abbrev pub answer_for : Tested → ℕ → Result ℕ Refusal
-answer_for (Ok _) n = Ok n
-answer_for (Err r) n = Err r
+-- ---- a text in n places
+abbrev pub room_tests : List ℕ → ℕ → Tested
+room_tests text n = require (leb (length text) n) WrongLength Accepted
 
 abbrev pub text_for : Tested → List ℕ → ℕ → List ℕ
 text_for (Ok _) text n = printed text n
 text_for (Err r) text n = replicate n 0
 
-module _ (f : Finished) (text : List ℕ) (n : ℕ) where
-  unfoldable pub print_tests : Tested
-  print_tests = after f.tested (require (leb (length text) n) WrongLength Accepted)
-
-  unfoldable pub print_answer : Result ℕ Refusal
-  unfolding print_tests
-  print_answer = answer_for print_tests (length text)
-
-  unfoldable pub print_text : List ℕ
-  unfolding print_tests printed
-  print_text = text_for print_tests text n
-
 -- ---- a job
 module _ (b : List ℕ) (r : Rooms) where
-  unfoldable pub finished : Finished
+  unfoldable pub finished : Result Finished Refusal
   unfolding job_of chain_job chain_answer
-  finished = after_reading (job_of b).tested (chain_answer (chain_job b) r)
+  finished = after_reading (job_of b) (chain_answer (chain_job b) r)
 
+  -- of an accepted chain
   unfoldable pub text : List ℕ
-  unfolding finished chain_job chain_lists text_of
-  text = let l = chain_lists (chain_job b) r in text_of finished l.classes l.triplets
+  unfolding chain_job chain_finished chain_lists text_of
+  text = let l = chain_lists (chain_job b) r in text_of (chain_finished (chain_job b)) l.classes l.triplets
 
   -- the text has n places
   module _ (n : ℕ) where
     unfoldable pub list_tests : Tested
-    unfolding finished text print_tests
-    list_tests = print_tests finished text n
+    unfolding finished text
+    list_tests = after (without_value finished) (room_tests text n)
 
     unfoldable pub list_answer : Result ℕ Refusal
-    unfolding finished text print_answer
-    list_answer = print_answer finished text n
+    unfolding list_tests text
+    list_answer = giving list_tests (length text)
 
     unfoldable pub list_text : List ℕ
-    unfolding finished text print_text
-    list_text = print_text finished text n
+    unfolding list_tests text printed
+    list_text = text_for list_tests text n
 
     unfoldable pub list_addresses : List ℤ
     unfolding list_tests chain_job chain_addresses

@@ -1,12 +1,13 @@
 // A job file, from its bytes to its listing.
 #![tactic(auto)]
 
-ghost use Rattle.std.specs.Prelude.{◌≡◌, length};
-ghost use Rattle.common.specs.Tested.{Accepted};
+ghost use Rattle.std.specs.Prelude.{◌≡◌, length, OnOk};
+ghost use Rattle.common.specs.Tested.{giving};
 ghost use Rattle.common.specs.Array.{rows};
 ghost use Rattle.bzsearch.specs.SearchView.{float_nine};
+ghost use Rattle.job.specs.Writing.{printed};
 ghost use Rattle.zone_steps.specs.StepsView.{rooms, lists};
-ghost use Rattle.zone_list.specs.List.{chain_job, finished, text_of, print_answer, print_text, list_answer, list_text, list_addresses, list_map, list_grg, list_lists, Whole, Ran};
+ghost use Rattle.zone_list.specs.List.{chain_job, finished, text_of, room_tests, list_answer, list_text, list_addresses, list_map, list_grg, list_lists, Whole, Ran};
 
 use common::Refusal;
 use zone::Finished;
@@ -29,16 +30,12 @@ fn run_job(
     triplets: &mut [i64],
     left: &mut [i64],
     lengths: &mut [f64],
-) -> Finished
+) -> Result<Finished, Refusal>
     ensures value { result ≡ finished bytes.now (rooms (length addresses.old) (length map.old) (length grg.old) (length classes.old) (length points.old) (length triplets.old) (length left.old) (length lengths.old)) }
-    ensures ran { result.tested ≡ Accepted → Ran (chain_job bytes.now) (rooms (length addresses.old) (length map.old) (length grg.old) (length classes.old) (length points.old) (length triplets.old) (length left.old) (length lengths.old)) addresses.new map.new grg.new (lists classes.new points.new triplets.new left.new lengths.new) }
+    ensures ran { OnOk result (Ran (chain_job bytes.now) (rooms (length addresses.old) (length map.old) (length grg.old) (length classes.old) (length points.old) (length triplets.old) (length left.old) (length lengths.old)) addresses.new map.new grg.new (lists classes.new points.new triplets.new left.new lengths.new)) }
 {
     let mut rotations = [0i64; 1728];
-    let j = job::read_job(bytes, &mut rotations);
-    let t = j.tested;
-    if let Err(r) = t {
-        return zone::refused(r);
-    }
+    let j = job::read_job(bytes, &mut rotations)?;
     let a = j.a;
     let lattice = j.lattice;
     let n = 9 * j.count;
@@ -62,24 +59,55 @@ fn run_job(
     )
 }
 
-// The class of each point, and the triplets of the classes; 0 in every place of the text after a refusal.
-fn print_finished(f: Finished, classes: &[i64], triplets: &[i64], text: &mut [u8]) -> Result<usize, Refusal>
-    requires { f.tested ≡ Accepted → Whole f (length classes.now) (length triplets.now) }
-    ensures value { result ≡ print_answer f (text_of f classes.now triplets.now) (length text.old) }
-    ensures text_after { text.new ≡ print_text f (text_of f classes.now triplets.now) (length text.old) }
+// The class of each point, and the triplets of the classes.
+fn print_finished(
+    f: Finished,
+    classes: &[i64],
+    triplets: &[i64],
+    text: &mut [u8],
+) -> Result<usize, Refusal>
+    requires { Whole f (length classes.now) (length triplets.now) }
+    ensures value { result ≡ giving (room_tests (text_of f classes.now triplets.now) (length text.old)) (length (text_of f classes.now triplets.now)) }
+    ensures text_after { text.new ≡ printed (text_of f classes.now triplets.now) (length text.old) }
 {
-    let t = f.tested;
-    if let Err(r) = t {
-        job::clear(text);
-        return Err(r);
-    }
     let d = f.d;
     let n = grgrid::points(grgrid::grid_of(d));
     let k = f.num_ir as usize * 3;
-    match job::print_listing(d, &classes[0..n], f.num_ir, &triplets[0..k], text) {
-        Some(b) => Ok(b),
-        None => Err(Refusal::WrongLength),
-    }
+    job::print_listing(d, &classes[0..n], f.num_ir, &triplets[0..k], text).ok_or(
+        Refusal::WrongLength,
+    )
+}
+
+// A refusal may leave anything in the chain's outputs, but 0 in every place of the text.
+fn print_job(
+    bytes: &[u8],
+    addresses: &mut [i64],
+    map: &mut [i64],
+    grg: &mut [i64],
+    classes: &mut [i64],
+    points: &mut [i64],
+    triplets: &mut [i64],
+    left: &mut [i64],
+    lengths: &mut [f64],
+    text: &mut [u8],
+) -> Result<usize, Refusal>
+    ensures value { result ≡ list_answer bytes.now (rooms (length addresses.old) (length map.old) (length grg.old) (length classes.old) (length points.old) (length triplets.old) (length left.old) (length lengths.old)) (length text.old) }
+    ensures text_after { text.new ≡ list_text bytes.now (rooms (length addresses.old) (length map.old) (length grg.old) (length classes.old) (length points.old) (length triplets.old) (length left.old) (length lengths.old)) (length text.old) }
+    ensures ran { OnOk result (Ran (chain_job bytes.now) (rooms (length addresses.old) (length map.old) (length grg.old) (length classes.old) (length points.old) (length triplets.old) (length left.old) (length lengths.old)) addresses.new map.new grg.new (lists classes.new points.new triplets.new left.new lengths.new)) }
+{
+    text.fill(0);
+    let f = run_job(
+        bytes,
+        addresses,
+        map,
+        grg,
+        &mut *classes,
+        points,
+        &mut *triplets,
+        left,
+        lengths,
+    )?;
+    print_finished(f, classes, triplets, text)
 }
 
 // Reads a job, runs the chain without shift, and prints the finished list. The buffers are the chain's outputs.
@@ -102,7 +130,7 @@ pub fn list(
     ensures lengths_after { lists classes.new points.new triplets.new left.new lengths.new ≡ list_lists job.now (rooms (length addresses.old) (length map.old) (length grg.old) (length classes.old) (length points.old) (length triplets.old) (length left.old) (length lengths.old)) (length text.old) }
     ensures text_after { text.new ≡ list_text job.now (rooms (length addresses.old) (length map.old) (length grg.old) (length classes.old) (length points.old) (length triplets.old) (length left.old) (length lengths.old)) (length text.old) }
 {
-    let f = run_job(
+    let printed = print_job(
         job,
         &mut *addresses,
         &mut *map,
@@ -112,12 +140,11 @@ pub fn list(
         &mut *triplets,
         &mut *left,
         &mut *lengths,
+        text,
     );
-    let a = print_finished(f, classes, triplets, text);
-    if let Err(r) = a {
+    if printed.is_err() {
         zone_steps::wipe_tables(addresses, map, grg);
         zone_steps::wipe_lists(classes, points, triplets, left, lengths);
-        return Err(r);
     }
-    a
+    printed
 }

@@ -5,7 +5,8 @@ use lib.ListN.{length, replicate}
 use mir.Facts.{to_z-of_z}
 use borrow.Author.Rules.{rules}
 use Rattle.zone_steps.specs.StepsView.{lists}
-use Rattle.zone.proofs.ChainWhole.{passed-tests, left-accepted, addresses-wiped, map-wiped, grg-wiped, lists-wiped, had, told}
+use Rattle.zone.proofs.ChainWhole.{passed-tests, left-accepted, addresses-wiped, map-wiped, grg-wiped, lists-wiped}
+use Rattle.zone.proofs.Outcomes.{had, told}
 use Rattle.zone.proofs.ChainFinished.{chain-finished-list}
 use Rattle.zone.proofs.finished_list.Goals as goal
 

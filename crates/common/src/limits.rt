@@ -52,12 +52,6 @@ fn side_fits(z: i64) -> bool
     1 <= z && z <= 256
 }
 
-pub fn all_three(a: bool, b: bool, c: bool) -> bool
-    ensures { result ≡ a && (b && c) }
-{
-    a && b && c
-}
-
 // The number of points.
 fn volume_fits(a: i64, b: i64, c: i64) -> bool
     requires { (nat_abs a ≤ 256) × (nat_abs b ≤ 256) × (nat_abs c ≤ 256) }

@@ -29,7 +29,6 @@ use Rattle.bztable.specs.Access.{number_in, image_places}
 use Rattle.bztable.proofs.AcceptedCall.{CallAccepted, call-accepted, call-stands, call-found}
 use Rattle.triplet_grid.specs.IrTriplets as class
 use Rattle.triplet_grid.specs.IrTriplets.{ir_triplets_answer, map_triplets_written, triplet_tests}
-use Rattle.bz_triplets.specs.BzTriplets as triplet
 use Rattle.bz_triplets.specs.BzTriplets.{bz_triplets_answer, triplets_written, triplets_read}
 use Rattle.bz_triplets.proofs.CallOutcome.{asked-for}
 use Rattle.demand3.specs.FinishedList.{Given, as-returned, Starts, Calls}
@@ -156,7 +155,7 @@ module _ (j : Job) (r : Rooms) (d : Vec ℤ) (p q : Mat ℤ) (rounds : ℕ) (dia
     -- ---- triplets
     chooses : bz_triplets_answer (start g a m) a m (class_map_of g) (items d) (rows q) j.lattice j.type (count g * 3) (count g) (count g) ≡ Accepted
     unfolding choice_tests bz_triplets_answer
-    chooses = ap triplet.answer_for lists.1
+    chooses = lists.1
 
     start_is : start g a m ≡ pos (nat_abs (start g a m))
     unfolding triplets_read

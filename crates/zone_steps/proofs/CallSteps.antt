@@ -24,7 +24,6 @@ use Rattle.transform_rotations.specs.TransformRotations.{transform_tests, transf
 use Rattle.bzgrid.specs.BzGridAddresses.{grid_type_of, bz_answer, addresses_written, map_written, grg_written}
 use Rattle.triplet_grid.specs.IrTriplets as class
 use Rattle.triplet_grid.specs.IrTriplets.{triplet_tests, ir_triplets_answer, map_triplets_written, map_qwritten}
-use Rattle.bz_triplets.specs.BzTriplets as triplet
 use Rattle.bz_triplets.specs.BzTriplets.{bz_triplet_tests, bz_triplets_answer, triplets_written, left_written, left_length_written}
 use Rattle.zone_steps.specs.Steps.{group, transformed, rotation_tests}
 use Rattle.zone_steps.specs.StepsView.{Chosen}
@@ -129,7 +128,7 @@ module _ (start : ℤ) (addresses map classes d : List ℤ) (q : List (List ℤ)
   unfolding bz_triplets_answer
   triplet-tested = again (bz_triplet_tests start addresses map classes d q lattice (grid_type_of type) (k * 3) k k)
     where
-      again : (t : Tested) → without_value (triplet.answer_for t) ≡ t
+      again : (t : Tested) → without_value t ≡ t
       again (Ok _) = refl
       again (Err r) = refl
 

@@ -30,12 +30,17 @@ impl<'a> Rotations<'a> {
         recip_rotations::contains(&p, 0, self.list, self.count())
     }
 
-    // Matrix m times each of the list is in it.
+    // Matrix m times each of the list is in it. `all` makes the whole test a tenth slower.
     fn row_inside(&self, m: usize) -> bool
         requires { m < length self.now.list.now / 9 }
         ensures { result ≡ row_inside (matrices self.now.list.now) (matrix_at self.now.list.now m) }
     {
-        (0..self.count()).all(|n| self.has_product(m, n))
+        for k in 0..self.count() {
+            if !self.has_product(m, k) {
+                return false;
+            }
+        }
+        true
     }
 
     // The place of matrix m times matrix n.

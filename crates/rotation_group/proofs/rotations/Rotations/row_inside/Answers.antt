@@ -1,21 +1,28 @@
-use mathlib.Core.Path.{refl, ◌∙◌}
+use mathlib.Core.Path.{sym, ◌∙◌}
 use Prim.Native.Nat.{◌/◌}
-use native.Mathlib.Omega.{arith}
+use native.Mathlib.Nat.{sub-zero}
 use lib.ListN.{length}
 use borrow.Author.Rules.{rules}
-use borrow.Author.Tests.{tests}
-use Rattle.std.proofs.lemmas.Iterator.{YieldsList-from_range}
-use Rattle.std.proofs.lemmas.Iterator.Search.{all_from_yields_List}
 use Rattle.common.specs.Matrix.{◌·◌}
 use Rattle.common.specs.Array.{matrix_at, matrices}
 use Rattle.recip_rotations.specs.Unique.{among}
-use Rattle.rotation_group.proofs.Walking.{all-every}
+use Rattle.rotation_group.proofs.Walking.{every-on, every-stop, every-end}
 use Rattle.rotation_group.proofs.rotations.Rotations.row_inside.Goals as goal
+
+pub loop-k-init : goal.loop-k-init
+loop-k-init c = rw sub-zero
+
+pub returns-then-not-has_product : goal.returns-then-not-has_product
+returns-then-not-has_product c =
+    let l = c.args.self.now.list.now in
+    sym (c.loop-k.invariant ∙ every-stop l c.loop-k.k (length l / 9) (λ x. among (matrix_at l c.args.m · x) (matrices l)) (search rules) (sym c.has_product.ensures ∙ c.if-not-has_product.true))
+
+pub loop-k-preserved : goal.loop-k-preserved
+loop-k-preserved c =
+    let l = c.args.self.now.list.now in
+    c.loop-k.invariant ∙ every-on l c.loop-k.k (length l / 9) (λ x. among (matrix_at l c.args.m · x) (matrices l)) (search rules) (sym c.has_product.ensures ∙ c.if-not-has_product.false)
 
 pub returns : goal.returns
 returns c =
     let l = c.args.self.now.list.now in
-    let n = length l / 9 in
-    let m = matrix_at l c.args.m in
-    all_from_yields_List (λ k. among (m · matrix_at l k) (matrices l)) _ _ _ c.all.ensures.ran (YieldsList-from_range 0 c.count.result n refl (omega arith)) (λ x b q k. search (rules, tests))
-    ∙ all-every l (λ x. among (m · x) (matrices l)) 0 n
+    sym (c.loop-k.invariant ∙ every-end l c.loop-k.k (length l / 9) (λ x. among (matrix_at l c.args.m · x) (matrices l)) (search rules))

@@ -3,21 +3,12 @@
 
 ghost use Rattle.std.specs.Prelude.{◌≡◌, length, OnOk};
 ghost use Rattle.common.specs.Tested.{giving};
-ghost use Rattle.common.specs.Array.{rows};
-ghost use Rattle.bzsearch.specs.SearchView.{float_nine};
 ghost use Rattle.job.specs.Writing.{printed};
 ghost use Rattle.zone_steps.specs.StepsView.{rooms, lists};
 ghost use Rattle.zone_list.specs.List.{chain_job, finished, text_of, room_tests, list_answer, list_text, list_addresses, list_map, list_grg, list_lists, Whole, Ran};
 
 use common::Refusal;
 use zone::Finished;
-
-// A record holds a matrix flat, by rows.
-fn nested(l: [f64; 9]) -> [[f64; 3]; 3]
-    ensures { result ≡ rows (float_nine l) }
-{
-    [[l[0], l[1], l[2]], [l[3], l[4], l[5]], [l[6], l[7], l[8]]]
-}
 
 // A refusal may leave anything in the outputs.
 fn run_job(
@@ -42,7 +33,7 @@ fn run_job(
     zone::finished_list(
         integer_matrix::nested(a),
         &rotations[0..n],
-        nested(lattice),
+        common::nested(lattice),
         [0, 0, 0],
         j.time_reversal,
         j.swapping,

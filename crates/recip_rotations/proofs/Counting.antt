@@ -89,8 +89,3 @@ module _ (s : List ℤ) (d : List ℤ) where
 
   pub counted-over : (n : ℕ) {after after' : List ℤ} {r : Refusal} → n ≤ length s / 9 → Grouped (few (first n)) (first n) d after (Err r) → Grouped (few (unique (matrices s))) (unique (matrices s)) d after' (Err r)
   counted-over n h c = refused (full-longer (first n) (unique (matrices s)) (unique-longer s n (length s / 9) h) (was-refused (few (first n)) (length (first n)) c.answer))
-
-  pub counted-all : (n f : ℕ) {out : List ℤ} → n ≡ length s / 9 → f ≤ 48 → f ≡ length (first n) → out ≡ laid (first n) d → Grouped (few (unique (matrices s))) (unique (matrices s)) d out (Ok f)
-  counted-all n f {out} e h p q =
-      let P : ℕ → Type 0 = λ k. Grouped (few (first k)) (first k) d out (Ok f) in
-      subst P e (accepted (few-accepted (first n) (omega arith)) p q)

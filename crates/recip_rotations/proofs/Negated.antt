@@ -32,7 +32,7 @@ module _ (d : List ℤ) (s : Sized 100000 d) (half i : ℕ) (h : i < half) (g : 
   negative : pos 0 -ℤ held (get_or out i (pos 0)) ≡ neg_ℤ (get_or d i (pos 0))
   negative = +ℤ_idl (neg_ℤ (held (get_or out i (pos 0)))) ∙ ap neg_ℤ (ap held as_before ∙ to_z-of_z (small-fits (get_or d i (pos 0)) (s.each i)))
 
-  pub negative_fits : SFits w64 (pos 0 -ℤ held (get_or out i (pos 0)))
+  negative_fits : SFits w64 (pos 0 -ℤ held (get_or out i (pos 0)))
   negative_fits = rw negative (small-fits (neg_ℤ (get_or d i (pos 0))) (rw abs_neg (s.each i)))
 
   pub negative-stored : set out (half + i) (held (pos 0 -ℤ held (get_or out i (pos 0)))) ≡ paste d half (map neg_ℤ d) (i + 1)

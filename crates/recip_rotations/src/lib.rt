@@ -111,7 +111,8 @@ fn negatives(out: &mut [i64], count: usize)
 fn join(out: &mut [i64], count: usize, is_time_reversal: bool) -> Result<usize, Refusal>
     requires fact_1 { (count ≤ 48) × (length out.old ≡ 432) }
     requires fact_2 { Sized 100000 out.old }
-    ensures { Grouped (join_tests is_time_reversal (matrices_from out.old 0 count)) (joined is_time_reversal (matrices_from out.old 0 count)) out.old out.new result }
+    ensures { let list = matrices_from out.old 0 count in
+        Grouped (join_tests is_time_reversal list) (joined is_time_reversal list) out.old out.new result }
 {
     if !is_time_reversal {
         return Ok(count);
@@ -151,7 +152,9 @@ fn group_of(
     is_transpose: bool,
     out: &mut [i64],
 ) -> Result<usize, Refusal>
-    ensures { Grouped (group_tests rotations.now is_time_reversal is_transpose (length out.old)) (point_group (matrices rotations.now) is_time_reversal is_transpose) (replicate (length out.old) (negsuc 0)) out.new result }
+    ensures { let n = length out.old in
+        let list = point_group (matrices rotations.now) is_time_reversal is_transpose in
+        Grouped (group_tests rotations.now is_time_reversal is_transpose n) list (replicate n (negsuc 0)) out.new result }
 {
     input_tests(rotations, out.len())?;
     out.fill(-1);

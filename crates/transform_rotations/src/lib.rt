@@ -182,8 +182,10 @@ fn transform_each(
     requires same_length { length out.old ≡ length rotations.now }
     requires whole { T (whole_matrices rotations.now) }
     requires within { T (all_within 100 rotations.now) }
-    ensures value { result ≡ require (whole_by (transform_by (float_matrix q_inv) (float_matrix q) (float_vector d)) (matrices rotations.now)) SymmetryBroken Accepted }
-    ensures out_after { result ≡ Accepted → out.new ≡ list_by (transform_by (float_matrix q_inv) (float_matrix q) (float_vector d)) (matrices rotations.now) }
+    ensures value { let g = transform_by (float_matrix q_inv) (float_matrix q) (float_vector d) in
+        result ≡ require (whole_by g (matrices rotations.now)) SymmetryBroken Accepted }
+    ensures out_after { let g = transform_by (float_matrix q_inv) (float_matrix q) (float_vector d) in
+        (result ≡ Accepted → out.new ≡ list_by g (matrices rotations.now)) }
 {
     for n in 0..rotations.len() / 9 {
         let m = transform(q_inv, q, d, rotation_at(rotations, n));

@@ -18,7 +18,7 @@ use Rattle.common.specs.Array.{rows, matrix_at, sides_of, matrices}
 use Rattle.common.specs.Tested.{require, output_of, after, giving, Tested, Accepted, without_value}
 use Rattle.common.specs.declared.Refusal.{Refusal}
 use Rattle.common.specs.declared.Refusal.TheVariants.{WrongLength}
-use Rattle.common.proofs.Tests.{passed, same-ok, refused-not-ok, both-accepted}
+use Rattle.common.proofs.Tests.{passed, same-ok, not-accepted, refused-not-ok, both-accepted}
 use Rattle.grgrid.specs.Grid.{size}
 use Rattle.grgrid.specs.Own.{own_places}
 use Rattle.grgrid.proofs.Accepted.{few-points}
@@ -166,6 +166,18 @@ module _ (j : Job) (r : Rooms) where
 
 -- ---- a job that is listed
 module _ (b : List ℕ) (r : Rooms) where
+  pub accepted-tests : without_value (finished b r) ≡ Accepted → chain_tests (chain_job b) r ≡ Accepted
+  unfolding finished chain_answer
+  accepted-tests e = go (job_of b) e
+    where
+      by : (t : Tested) → without_value (giving t (chain_finished (chain_job b))) ≡ Accepted → t ≡ Accepted
+      by (Ok _) h = refl
+      by (Err x) h = absurd (not-accepted h)
+
+      go : (j : Result read.Job Refusal) → without_value (after_reading j (chain_answer (chain_job b) r)) ≡ Accepted → chain_tests (chain_job b) r ≡ Accepted
+      go (Ok _) h = by (chain_tests (chain_job b) r) h
+      go (Err x) h = absurd (not-accepted h)
+
   module _ {f : Finished} (ef : Ok f ≡ finished b r) where
     pub chain-answered : (f ≡ chain_finished (chain_job b)) × (chain_tests (chain_job b) r ≡ Accepted)
     unfolding finished chain_answer

@@ -1,6 +1,5 @@
 -- The listing of an accepted job fits the program's array, so that the program prints it whole or the line of the job's refusal.
-use mathlib.Core.Path.{◌≡◌, refl, sym, ◌∙◌, ap, subst}
-use mathlib.Core.Bool.{Bool, true}
+use mathlib.Core.Path.{◌≡◌, refl, sym, ◌∙◌, ap, ap₂, subst}
 use mathlib.Core.List.{List, [], ◌∷◌, ◌++◌}
 use Prim.Native.Nat.{ℕ, zero, suc, ◌*◌, ◌-◌, ◌/◌, ◌≤◌, ◌<◌}
 use native.Mathlib.Nat.{le_trans}
@@ -14,23 +13,24 @@ use Rattle.integer.specs.Checked.{pick}
 use Rattle.common.specs.Array.{sides_of}
 use Rattle.common.specs.Limits.{side_fits, diagonal_fits}
 use Rattle.common.specs.Refusal.{number_of}
-use Rattle.common.specs.Tested.{require, after, Tested, Accepted}
+use Rattle.common.specs.Tested.{require, after, giving, Tested, Accepted, without_value}
 use Rattle.common.specs.declared.Refusal.{Refusal}
 use Rattle.common.specs.declared.Refusal.TheVariants.{Singular, NotConverged, OutsideLimits, Overflow, SingularQ, SymmetryBroken, TooManyRotations, TooManyForInversion, BadGridType, NotUnimodularQ, SingularReciprocalLattice, SearchFailed, WrongLength, OutsideTable, BadHeader, NotGroup, InvertedRange}
 use Rattle.common.proofs.Bounds.{side-size}
-use Rattle.common.proofs.Tests.{same-ok}
+use Rattle.common.proofs.Tests.{same-ok, same-refusal, refused-not-ok}
 use Rattle.grgrid.specs.Grid.{size}
 use Rattle.grgrid.proofs.Accepted.{side-0, side-1, side-2}
-use Rattle.job.specs.Listing.{decimal, number, listing, refusal}
+use Rattle.job.specs.Listing.{decimal, number, refusal}
 use Rattle.job.specs.Writing.{printed, printed_answer}
 use Rattle.job.proofs.Lengths.{tenfold, digits-few, listing-length}
 use Rattle.zone.specs.declared.Finished.{Finished}
-use Rattle.zone.specs.Chain.{Job, chain_tests, chain_answer, chain_lists}
+use Rattle.zone.specs.Chain.{chain_finished, chain_lists}
 use Rattle.zone.proofs.ChainNumbers.{Below, Numbers, chain-numbers}
-use Rattle.zone_steps.specs.Steps.{Lists}
-use Rattle.zone_list.specs.List.{list_rooms, Whole, chain_job, text_of, answer_for, text_for, print_tests, print_answer, print_text, finished, text, list_tests, list_answer, list_text, list_addresses, list_map, list_grg, list_lists}
+use Rattle.zone_steps.specs.Steps.{Rooms, Lists}
+use Rattle.zone_steps.specs.StepsView.{rooms}
+use Rattle.zone_list.specs.List.{list_rooms, Whole, chain_job, text_of, text_for, finished, text, list_tests, list_answer, list_text, list_addresses, list_map, list_grg, list_lists}
 use Rattle.zone_print.specs.JobText.{text_or_refusal, job_text, PrintedJob, printed_job}
-use Rattle.zone_list.proofs.Listed.{chain-answered, whole-chain, refusal-of, acceptance-of}
+use Rattle.zone_list.proofs.Listed.{accepted-tests, whole-chain}
 
 -- ---- short numbers
 -- numbers below 10, 100, 1000, .. have at most 1, 2, 3, .. digits
@@ -85,25 +85,31 @@ module _ (f : Finished) (l : Lists) (w : Whole f 256 768) (n : Numbers f.d (nat_
 
 module _ (b : List ℕ) where
   -- an accepted listing has at most 6,940 bytes
-  pub text-short : (finished b list_rooms).tested ≡ Accepted → length (text b list_rooms) ≤ 6940
+  pub text-short : without_value (finished b list_rooms) ≡ Accepted → length (text b list_rooms) ≤ 6940
   unfolding text
   text-short e =
-      let c = chain-answered b list_rooms refl e in
-      let l = chain_lists (chain_job b) list_rooms in
-      subst (λ f. length (text_of f l.classes l.triplets) ≤ 6940) (sym c.0)
-      (finished-short (chain_answer (chain_job b) list_rooms) l (whole-chain (chain_job b) list_rooms c.1) (chain-numbers (chain_job b) list_rooms c.1))
+      let t = accepted-tests b list_rooms e in
+      finished-short (chain_finished (chain_job b)) (chain_lists (chain_job b) list_rooms) (whole-chain (chain_job b) list_rooms t) (chain-numbers (chain_job b) list_rooms t)
 
   -- ---- so that nothing is refused for want of room
   module _ (n : ℕ) (room : 6940 ≤ n) where
-    pub same_tests : list_tests b list_rooms n ≡ (finished b list_rooms).tested
-    unfolding list_tests print_tests
-    same_tests = go (finished b list_rooms).tested text-short
+    pub same_tests : list_tests b list_rooms n ≡ without_value (finished b list_rooms)
+    unfolding list_tests
+    same_tests = go (without_value (finished b list_rooms)) text-short
       where
         go : (t : Tested) → (t ≡ Accepted → length (text b list_rooms) ≤ 6940) → after t (require (leb (length (text b list_rooms)) n) WrongLength Accepted) ≡ t
         go (Ok _) h = ap (λ v. require v WrongLength Accepted) (le-leb (length (text b list_rooms)) n (le_trans (h refl) room))
         go (Err r) h = refl
 
 -- ---- what the program prints
+given-tests : (t : Tested) (n : ℕ) {k : ℕ} → giving t n ≡ Ok k → t ≡ Accepted
+given-tests (Ok _) n e = refl
+given-tests (Err r) n e = absurd (refused-not-ok e)
+
+refused-tests : (t : Tested) (n : ℕ) {r : Refusal} → giving t n ≡ Err r → t ≡ Err r
+refused-tests (Ok _) n e = absurd (refused-not-ok (sym e))
+refused-tests (Err r) n e = ap Err (same-refusal e)
+
 -- a refusal's number has one digit or two
 few-digits : (r : Refusal) → T (ltb (number_of r) 100)
 few-digits Singular = tt
@@ -132,38 +138,41 @@ pub refusal-printed : (r : Refusal) {p : Option ℕ} → p ≡ printed_answer (r
 unfolding printed_answer
 refusal-printed r e = e ∙ ap (λ t. pick t (Some (length (refusal r))) None) (le-leb (length (refusal r)) 8192 (le_trans (refusal-short r) (omega arith)))
 
+pub same-rooms : {a b c d e f g h : ℕ} → a ≡ 3072 → b ≡ 2305 → c ≡ 1024 → d ≡ 256 → e ≡ 256 → f ≡ 768 → g ≡ 256 → h ≡ 256 → rooms a b c d e f g h ≡ list_rooms
+same-rooms a b c d e f g h = λ i. rooms (a i) (b i) (c i) (d i) (e i) (f i) (g i) (h i)
+
 abbrev printed-with : ℕ → List ℕ → (addresses map grg : List ℤ) → Lists → PrintedJob
 printed-with n text addresses map grg lists = record { bytes = n; text = text; addresses = addresses; map = map; grg = grg; lists = lists }
 
 module _ (b : List ℕ) where
-  tests-are : {a : Result ℕ Refusal} → a ≡ list_answer b list_rooms 8192 → a ≡ answer_for (finished b list_rooms).tested (length (text b list_rooms))
-  unfolding list_answer print_answer list_tests
-  tests-are e = e ∙ ap (λ t. answer_for t (length (text b list_rooms))) (same_tests b 8192 (omega arith))
+  tests-are : {a : Result ℕ Refusal} → a ≡ list_answer b list_rooms 8192 → a ≡ giving (without_value (finished b list_rooms)) (length (text b list_rooms))
+  unfolding list_answer list_tests
+  tests-are e = e ∙ ap (λ t. giving t (length (text b list_rooms))) (same_tests b 8192 (omega arith))
 
   -- the listing
   module _ {k : ℕ} (e : Ok k ≡ list_answer b list_rooms 8192) where
-    accepted : (finished b list_rooms).tested ≡ Accepted
-    accepted = acceptance-of (finished b list_rooms).tested (length (text b list_rooms)) (sym (tests-are e))
+    accepted : without_value (finished b list_rooms) ≡ Accepted
+    accepted = given-tests (without_value (finished b list_rooms)) (length (text b list_rooms)) (sym (tests-are e))
 
     text-is : text b list_rooms ≡ job_text b
     unfolding job_text
     text-is = sym (ap (λ t. text_or_refusal t (text b list_rooms)) accepted)
 
     pub listed-bytes : k ≡ length (job_text b)
-    listed-bytes = same-ok (tests-are e ∙ ap (λ t. answer_for t (length (text b list_rooms))) accepted) ∙ ap length text-is
+    listed-bytes = same-ok (tests-are e ∙ ap (λ t. giving t (length (text b list_rooms))) accepted) ∙ ap length text-is
 
     pub listed-whole : {t : List ℕ} → t ≡ list_text b list_rooms 8192 → t ≡ printed (job_text b) 8192
-    unfolding list_text print_text list_tests
+    unfolding list_text list_tests
     listed-whole h = h ∙ ap (λ t. text_for t (text b list_rooms) 8192) (same_tests b 8192 (omega arith) ∙ accepted) ∙ ap (λ t. printed t 8192) text-is
 
   -- the line of a refusal
   pub refused-text : {r : Refusal} → Err r ≡ list_answer b list_rooms 8192 → refusal r ≡ job_text b
   unfolding job_text
-  refused-text {r} e = sym (ap (λ t. text_or_refusal t (text b list_rooms)) (refusal-of (finished b list_rooms).tested (length (text b list_rooms)) (sym (tests-are e))))
+  refused-text {r} e = sym (ap (λ t. text_or_refusal t (text b list_rooms)) (refused-tests (without_value (finished b list_rooms)) (length (text b list_rooms)) (sym (tests-are e))))
 
   text-fits : length (job_text b) ≤ 6940
   unfolding job_text
-  text-fits = go (finished b list_rooms).tested (text-short b)
+  text-fits = go (without_value (finished b list_rooms)) (text-short b)
     where
       go : (t : Tested) → (t ≡ Accepted → length (text b list_rooms) ≤ 6940) → length (text_or_refusal t (text b list_rooms)) ≤ 6940
       go (Ok _) h = h refl
@@ -177,12 +186,17 @@ module _ (b : List ℕ) where
       subst (λ o. o.bytes ≤ length o.text) (sym e)
       (subst (λ v. length t ≤ length (pick v (t ++ replicate (8192 - length t) 0) (replicate 8192 0))) (sym room) (omega (arith, length-append t (replicate (8192 - length t) 0))))
 
-  -- ---- every array
-  module _ {x y z : List ℤ} {l : Lists} (ex : x ≡ list_addresses b list_rooms 8192) (ey : y ≡ list_map b list_rooms 8192) (ez : z ≡ list_grg b list_rooms 8192) (el : l ≡ list_lists b list_rooms 8192) where
-    pub listing-printed : {k : ℕ} {t : List ℕ} → Ok k ≡ list_answer b list_rooms 8192 → t ≡ list_text b list_rooms 8192 → printed-with k t x y z l ≡ printed_job b
-    unfolding printed_job
-    listing-printed e et = λ i. printed-with (listed-bytes e i) (listed-whole e et i) (ex i) (ey i) (ez i) (el i)
+  -- ---- every array, by its length
+  module _ {r : Rooms} {n : ℕ} (er : r ≡ list_rooms) (en : n ≡ 8192) {x y z : List ℤ} {l : Lists} (ex : x ≡ list_addresses b r n) (ey : y ≡ list_map b r n) (ez : z ≡ list_grg b r n) (el : l ≡ list_lists b r n) where
+    sized : {A : Type 0} (f : Rooms → ℕ → A) → f r n ≡ f list_rooms 8192
+    sized f = ap₂ f er en
 
-    pub line-printed : {r : Refusal} {k : ℕ} {t : List ℕ} → Err r ≡ list_answer b list_rooms 8192 → k ≡ length (refusal r) → t ≡ printed (refusal r) 8192 → printed-with k t x y z l ≡ printed_job b
+    whole-print : (k : ℕ) (t : List ℕ) → k ≡ length (job_text b) → t ≡ printed (job_text b) 8192 → printed-with k t x y z l ≡ printed_job b
     unfolding printed_job
-    line-printed e ek et = λ i. printed-with ((ek ∙ ap length (refused-text e)) i) ((et ∙ ap (λ t. printed t 8192) (refused-text e)) i) (ex i) (ey i) (ez i) (el i)
+    whole-print k t ek et = λ i. printed-with (ek i) (et i) ((ex ∙ sized (list_addresses b)) i) ((ey ∙ sized (list_map b)) i) ((ez ∙ sized (list_grg b)) i) ((el ∙ sized (list_lists b)) i)
+
+    pub listing-printed : {k : ℕ} {t : List ℕ} → Ok k ≡ list_answer b r n → t ≡ list_text b r n → printed-with k t x y z l ≡ printed_job b
+    listing-printed {k} {t} e et = let a = e ∙ sized (list_answer b) in whole-print k t (listed-bytes a) (listed-whole a (et ∙ sized (list_text b)))
+
+    pub line-printed : {c : Refusal} {k : ℕ} {t : List ℕ} → Err c ≡ list_answer b r n → k ≡ length (refusal c) → t ≡ printed (refusal c) 8192 → printed-with k t x y z l ≡ printed_job b
+    line-printed {k = k} {t = t} e ek et = let a = e ∙ sized (list_answer b) in whole-print k t (ek ∙ ap length (refused-text a)) (et ∙ ap (λ t. printed t 8192) (refused-text a))

@@ -1,18 +1,18 @@
 -- What the program zonelist prints of the bytes that it read, and what its arrays then hold: the listing, or the line of the refusal.
 use Rattle.std.specs.Prelude.{List, ℕ, ℤ, length, Ok, Err}
-use Rattle.common.specs.Tested.{Tested}
+use Rattle.common.specs.Tested.{Tested, without_value}
 use Rattle.job.specs.Listing.{refusal}
 use Rattle.job.specs.Writing.{printed}
 use Rattle.zone_steps.specs.Steps.{Lists}
 use Rattle.zone_list.specs.List.{list_rooms, finished, text, list_addresses, list_map, list_grg, list_lists}
 
 abbrev pub text_or_refusal : Tested → List ℕ → List ℕ
-text_or_refusal (Ok _) text = text
-text_or_refusal (Err r) text = refusal r
+text_or_refusal (Ok _) t = t
+text_or_refusal (Err r) t = refusal r
 
 unfoldable pub job_text : List ℕ → List ℕ
 unfolding finished text refusal
-job_text b = text_or_refusal (finished b list_rooms).tested (text b list_rooms)
+job_text b = text_or_refusal (without_value (finished b list_rooms)) (text b list_rooms)
 
 -- the number of bytes to print, and every array
 pub record PrintedJob : Type 0 where

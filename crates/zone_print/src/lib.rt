@@ -13,10 +13,8 @@ fn print_refused(r: Refusal, text: &mut [u8; 8192]) -> usize
     ensures value { result ≡ length (refusal r) }
     ensures text_after { text.new ≡ printed (refusal r) 8192 }
 {
-    let Some(n) = job::print_refusal(r, text) else {
-        return 0;
-    };
-    n
+    // There is room, so that it is never 0.
+    job::print_refusal(r, text).unwrap_or(0)
 }
 
 // Of a job in the bytes.
@@ -78,21 +76,7 @@ pub fn print_job(
         o ≡ printed_job (take n held.now) }
     ensures upper_bound { result ≤ length text.new }
 {
-    let bytes = &held[..];
-    if n < bytes.len() {
-        return print_bytes(
-            &bytes[0..n],
-            addresses,
-            map,
-            grg,
-            classes,
-            points,
-            triplets,
-            left,
-            lengths,
-            text,
-        );
-    }
+    let bytes = &held[..n.min(held.len())];
     print_bytes(
         bytes, addresses, map, grg, classes, points, triplets, left, lengths, text,
     )

@@ -54,8 +54,8 @@ pub fn zone_list(job: &[u8], text: &mut [u8], told: &mut [i64]) -> i64
     ensures { ZoneListTold job.now (length text.old) (length told.old) result text.new told.new }
 {
     if told.len() != 1 {
-        job::clear(text);
-        common::fill(told, -1);
+        text.fill(0);
+        told.fill(-1);
         return Refusal::WrongLength.answer();
     }
     tell_listing(list_job(job, text), told)

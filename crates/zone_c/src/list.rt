@@ -54,7 +54,7 @@ pub fn zone_list(job: &[u8], text: &mut [u8], told: &mut [i64]) -> i64
     ensures { ZoneListTold job.now (length text.old) (length told.old) result text.new told.new }
 {
     if told.len() != 1 {
-        job::clear(text);
+        text.fill(0);
         told.fill(-1);
         return Refusal::WrongLength.answer();
     }

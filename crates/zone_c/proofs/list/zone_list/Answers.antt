@@ -1,0 +1,7 @@
+use borrow.Author.Rules.{rules}
+use Rattle.zone_list.specs.List.{list_rooms}
+use Rattle.zone_c.proofs.JobLists.{bytes_fit}
+use Rattle.zone_c.proofs.list.zone_list.Goals as goal
+
+pub tell_listing-requires-clause-fact_2 : goal.tell_listing-requires-clause-fact_2
+tell_listing-requires-clause-fact_2 c = bytes_fit c.args.job.now list_rooms _ (search rules) c.list_job.ensures.value

@@ -57,15 +57,15 @@ returns-clause-lengths_after c k =
     let st = to_z-of_z {w = w64} (record { sfits = c.start_of-start.type_inv }) ∙ c.start_of-start.ensures ∙ ap₂ (λ t q. start_of t s.map.now q) (c.grid_type.ensures ∙ ap grid_type_of eu) ei in
     let ch = chosen-for g s.addresses.now s.map.now st (classes-front g ei c.requires.fact_1 m fits w.classes_after wx kx) eu c.choose_triplets.ensures in
     lists-left g s.addresses.now s.map.now ch m fits
-        w.classes_after
-        (w.points_after ∙ ap (λ k. replicate k (negsuc 0)) agreed.points-agree)
-        (w.triplets_after ∙ ap (λ k. replicate k (negsuc 0)) agreed.triplets-agree)
-        (w.left_after ∙ ap (λ k. replicate k (negsuc 0)) agreed.left-agree)
-        (w.lengths_after ∙ ap (λ k. replicate k (of_int binary64 (negsuc 0))) agreed.lengths-agree)
-        wx
-        (point-map g ei c.requires.fact_1 c.wipe_lists.new.points n.points_after)
-        kx
-        (search rules)
-        (search rules)
-        (search rules)
-        (search rules)
+    w.classes_after
+    (w.points_after ∙ ap (λ k. replicate k (negsuc 0)) agreed.points-agree)
+    (w.triplets_after ∙ ap (λ k. replicate k (negsuc 0)) agreed.triplets-agree)
+    (w.left_after ∙ ap (λ k. replicate k (negsuc 0)) agreed.left-agree)
+    (w.lengths_after ∙ ap (λ k. replicate k (of_int binary64 (negsuc 0))) agreed.lengths-agree)
+    wx
+    (point-map g ei c.requires.fact_1 c.wipe_lists.new.points n.points_after)
+    kx
+    (search rules)
+    (search rules)
+    (search rules)
+    (search rules)

@@ -25,8 +25,8 @@ returns-in_err-build_images-clause-value c =
     let z = c.if-classes-n.false in
     e
     ∙ images-refused (grid s.d s.q s.rotations.now s.lattice s.is_time_reversal s.swappable s.bz_grid_type s.q0) s.ps
-        (rooms (length s.addresses.now) (length s.map.now) (length s.grg.now) (length s.classes.now) (length s.points.now) (length s.triplets.now) (length s.left.now) (length s.lengths.now))
-        (c.points-n.ensures ∙ ap size c.grid_of.ensures) (omega arith) (to_z-of_z c.ranges.bz_grid_type) c.build_images.ensures.value c.in_err-build_images.was
+    (rooms (length s.addresses.now) (length s.map.now) (length s.grg.now) (length s.classes.now) (length s.points.now) (length s.triplets.now) (length s.left.now) (length s.lengths.now))
+    (c.points-n.ensures ∙ ap size c.grid_of.ensures) (omega arith) (to_z-of_z c.ranges.bz_grid_type) c.build_images.ensures.value c.in_err-build_images.was
 
 pub returns-clause-value : goal.returns-clause-value
 returns-clause-value c =

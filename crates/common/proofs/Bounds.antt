@@ -1,9 +1,9 @@
 -- The loops and tests of limits.
 use mathlib.Core.Path.{◌≡◌, ◌∙◌, ap₂, refl}
 use mathlib.Core.List.{List, [], ◌∷◌}
-use Prim.Native.Nat.{ℕ, zero, suc, ◌*◌, ◌<◌, ◌≤◌, zero-le}
+use Prim.Native.Nat.{ℕ, zero, suc, ◌<◌, ◌≤◌, zero-le}
 use native.Mathlib.Nat.{lt_of_le_of_lt}
-use lib.Dec.{T, ltb, leb→le, le→leb, ltb→lt, lit≤}
+use lib.Dec.{T, ltb, leb→le, le→leb, ltb→lt}
 use lib.IntN.{ℤ, pos, negsuc, nat_abs}
 use lib.Signed.{le_z, mag}
 use lib.ListN.{get_or}
@@ -12,12 +12,10 @@ use mir.Syntax.{w64}
 use Rattle.integer.proofs.Test.{and_l, and_r}
 use Rattle.integer.proofs.Size.{sfits-abs}
 use Rattle.integer.proofs.Fits.{held, held-is}
-use Rattle.integer.proofs.Plain.{Plain, plain, p_atom, plain-within}
-use Rattle.common.proofs.Matrix.{axes-of, all-axes, side-vector, entry-matrix}
-use Rattle.common.proofs.Whole.{sized-dot}
-use Rattle.common.specs.Matrix.{Axis, Mat, side, entry, all_axes, ◌▹◌}
-use Rattle.common.specs.Array.{number, along, vector_of, items, matrix_of, dot_of, Sized, SizedRows}
-use Rattle.common.specs.IntegerMatrix.{dot_fits, apply_fits}
+use Rattle.integer.proofs.Plain.{Plain, p_atom}
+use Rattle.common.proofs.Matrix.{axes-of, all-axes}
+use Rattle.common.specs.Matrix.{Axis, Mat, entry, all_axes}
+use Rattle.common.specs.Array.{Sized}
 use Rattle.common.specs.Limits.{within, all_within, matrix_within, side_fits}
 
 -- a side of a grid is its size
@@ -61,26 +59,3 @@ module _ {k : ℕ} {l : List ℤ} (h : Sized k l) (n : ℕ) (t : T (ltb k 0x8000
 pub entry-result : {j k : ℕ} {a b : List ℤ} → Sized j a → Sized k b → T (ltb j 0x8000000000000000) → T (ltb k 0x8000000000000000) → (n : ℕ) (g : ℤ → ℤ → ℤ) {r : ℤ}
     → mag r < 0x8000000000000000 → r ≡ g (held (get_or a n (pos 0))) (held (get_or b n (pos 0))) → held r ≡ g (get_or a n (pos 0)) (get_or b n (pos 0))
 entry-result f h s t n g {r} ok e = held-is r ok ∙ e ∙ ap₂ g (entry-held f n s) (entry-held h n t)
-
--- no step of a matrix times a column leaves 64 bits, by the sizes of their entries
-pub apply-fits : (x y : ℕ) {m : List (List ℤ)} {v : List ℤ} → SizedRows x m → Sized y v → x * y ≤ 3074457345618258602 → T (apply_fits (matrix_of m) (vector_of v))
-apply-fits x y {m} {v} f g h = all-axes (λ j. dot_fits (entry (matrix_of m) j) (side (vector_of v))) (λ j. sized-dot (entry (matrix_of m) j) (side (vector_of v)) x y (row j) column h)
-  where
-    row : (j k : Axis) → nat_abs (entry (matrix_of m) j k) ≤ x
-    row j k = rw (entry-matrix (λ j k. get_or (get_or m (number j) []) (number k) (pos 0)) j k) ((f.each (number j)).each (number k))
-
-    column : (k : Axis) → nat_abs (side (vector_of v) k) ≤ y
-    column k = rw (side-vector (along v) k) (g.each (number k))
-
--- the size of a rotated address
-dot-size : {a b : List ℤ} → Sized 100000 a → Sized 20000000000001 b → nat_abs (dot_of a b) ≤ 6000000000000300000
-dot-size {a} {b} f g = plain-within {v = dot_of a b} (search (plain, p-sized) depth 14) tt
-
-pub apply-sized : {m : List (List ℤ)} {v : List ℤ} → SizedRows 100000 m → Sized 20000000000001 v → Sized 6000000000000300000 (items (matrix_of m ▹ vector_of v))
-apply-sized {m} {v} f g = record { each = at }
-  where
-    at : (n : ℕ) → nat_abs (get_or (items (matrix_of m ▹ vector_of v)) n (pos 0)) ≤ 6000000000000300000
-    at zero = dot-size (f.each 0) g
-    at (suc zero) = dot-size (f.each 1) g
-    at (suc (suc zero)) = dot-size (f.each 2) g
-    at (suc (suc (suc n))) = lit≤ tt

@@ -6,6 +6,7 @@ pub mod Bounds
 pub mod Tests
 pub mod Every
 pub mod Whole
+pub mod Sized
 pub mod Nine
 pub mod Reading
 mod Examples

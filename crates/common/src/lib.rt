@@ -3,6 +3,7 @@
 
 mod algebra;
 mod array;
+mod bounded;
 mod entry;
 mod limits;
 
@@ -11,6 +12,7 @@ ghost use Rattle.common.specs.Refusal.{number_of};
 
 pub use algebra::{apply, cross, det, dot, matmul, matvec_ii, minors};
 pub use array::{flat, matrix_at, nested, row_at, transpose};
+pub use bounded::{Bounded, BoundedMatrix, Rotations, Shift, shift};
 pub use entry::Entry;
 pub use limits::{
     all_within, diagonal_fits, is_thrice, matrix_within, point_fits, rotations_fit, row_within,

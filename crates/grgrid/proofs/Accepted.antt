@@ -2,19 +2,18 @@
 use mathlib.Core.Path.{◌≡◌}
 use mathlib.Core.Bool.{◌&&◌}
 use mathlib.Core.List.{List}
-use Prim.Native.Nat.{ℕ, zero, suc, ◌*◌, ◌<◌, ◌≤◌}
+use Prim.Native.Nat.{ℕ, ◌*◌, ◌<◌, ◌≤◌}
 use native.Mathlib.Nat.{le_trans}
-use native.Mathlib.Omega.{arith}
 use lib.Dec.{T, leb, eqb, leb→le, ltb→lt, lit≤}
 use lib.IntN.{ℤ, pos, negsuc, nat_abs}
-use lib.ListN.{length, get_or, get_or-eq_default}
+use lib.ListN.{length, get_or}
 use lib.Signed.{non_neg, le_z, lt_z}
 use borrow.Author.Tests.{eqb-true}
 use Rattle.common.specs.Tested.{Accepted}
 use Rattle.integer.proofs.Test.{holds, and_l, and_r}
 use Rattle.common.specs.Matrix.{Axis, X, Y, Z, side}
-use Rattle.common.specs.Array.{sides_of, Sized}
-use Rattle.common.specs.Limits.{all_within, side_fits, diagonal_fits, half_fits, shift_fits, point_fits, rotations_fit, whole_matrices}
+use Rattle.common.specs.Array.{sides_of}
+use Rattle.common.specs.Limits.{all_within, side_fits, diagonal_fits, shift_fits, point_fits, rotations_fit, whole_matrices}
 use Rattle.common.specs.declared.Refusal.TheVariants.{OutsideLimits, WrongLength}
 use Rattle.common.proofs.Bounds.{side-positive, side-size}
 use Rattle.common.proofs.Tests.{passed}
@@ -56,23 +55,6 @@ module _ (d : List ℤ) (t : T (diagonal_fits d)) where
       above X = side-positive (at 0) side-0
       above Y = side-positive (at 1) side-1
       above Z = side-positive (at 2) side-2
-
--- ---- the shift
-half-size : (z : ℤ) → T (half_fits z) → nat_abs z ≤ 1
-half-size (pos n) t = leb→le n 1 (and_r (le_z (pos 0) (pos n)) (le_z (pos n) (pos 1)) t)
-half-size (negsuc n) t = absurd t
-
-pub shift-sized : (ps : List ℤ) → length ps ≡ 3 → T (shift_fits ps) → Sized 1 ps
-shift-sized ps e t = record { each = at }
-  where
-    rest : T (half_fits (get_or ps 1 (pos 0)) && half_fits (get_or ps 2 (pos 0)))
-    rest = and_r (half_fits (get_or ps 0 (pos 0))) (half_fits (get_or ps 1 (pos 0)) && half_fits (get_or ps 2 (pos 0))) t
-
-    at : (n : ℕ) → nat_abs (get_or ps n (pos 0)) ≤ 1
-    at zero = half-size (get_or ps 0 (pos 0)) (and_l (half_fits (get_or ps 0 (pos 0))) (half_fits (get_or ps 1 (pos 0)) && half_fits (get_or ps 2 (pos 0))) t)
-    at (suc zero) = half-size (get_or ps 1 (pos 0)) (and_l (half_fits (get_or ps 1 (pos 0))) (half_fits (get_or ps 2 (pos 0))) rest)
-    at (suc (suc zero)) = half-size (get_or ps 2 (pos 0)) (and_r (half_fits (get_or ps 1 (pos 0))) (half_fits (get_or ps 2 (pos 0))) rest)
-    at (suc (suc (suc n))) = rw (get_or-eq_default ps (pos 0) {n = suc (suc (suc n))} (omega arith)) (lit≤ tt)
 
 -- ---- a point
 pub point-inside : (q : ℤ) (n : ℕ) → T (point_fits q (pos n)) → T (non_neg q) × (nat_abs q < n)

@@ -1,29 +1,17 @@
 -- Sizes of addresses and rotations, so that no step of a rotation leaves 64 bits.
-use mathlib.Core.List.{List, []}
-use Prim.Native.Nat.{ℕ, zero, suc, ◌*◌, ◌-◌, ◌/◌, ◌<◌, ◌≤◌}
+use mathlib.Core.List.{List}
+use Prim.Native.Nat.{ℕ, ◌*◌, ◌-◌, ◌/◌, ◌<◌, ◌≤◌}
 use native.Mathlib.Nat.{div-le_self, mod-le, mul-le-mul_left, mul-le-mul_right}
 use native.Mathlib.Omega.{arith}
-use lib.Dec.{T}
 use lib.IntN.{ℤ, pos, nat_abs, ◌+ℤ◌, ◌*ℤ◌}
 use lib.ListN.{get_or}
 use Rattle.integer.proofs.Plain.{plain, p_atom, plain-within}
-use Rattle.common.specs.Matrix.{Vec, Axis, X, Y, Z, side}
-use Rattle.common.proofs.Bounds.{entry-within}
-use Rattle.common.specs.Array.{vector_of, items, rows, matrix_at, Sized, SizedRows}
-use Rattle.common.specs.Limits.{all_within}
+use Rattle.common.specs.Matrix.{Axis, X, Y, Z, side}
+use Rattle.common.proofs.Sized.{sized-items}
+use Rattle.common.specs.Array.{vector_of, items, Sized}
 use Rattle.grgrid.specs.Grid.{size, address, double}
 use Rattle.grgrid.specs.declared.grid.Grid.{Grid}
 use Rattle.grgrid.specs.Sides.{sides}
-
--- an array of three
-pub sized-items : {k : ℕ} (v : Vec ℤ) → nat_abs v.x ≤ k → nat_abs v.y ≤ k → nat_abs v.z ≤ k → Sized k (items v)
-sized-items {k} v x y z = record { each = at }
-  where
-    at : (n : ℕ) → nat_abs (get_or (items v) n (pos 0)) ≤ k
-    at zero = x
-    at (suc zero) = y
-    at (suc (suc zero)) = z
-    at (suc (suc (suc n))) = omega arith
 
 -- ---- a grid
 pub grid-few : (g : Grid) → size (sides g) ≤ 134217728
@@ -58,16 +46,3 @@ double-sized {a} {s} f g = sized-items (double (vector_of a) (vector_of s)) (at 
 
 pub point-sized : (g : Grid) {s : List ℤ} → Sized 1 s → (p : ℕ) → p < size (sides g) → Sized 20000000000001 (items (double (address (sides g) p) (vector_of s)))
 point-sized g t p h = double-sized {a = items (address (sides g) p)} (address-sized g p h) t
-
--- ---- the entries of a list of rotations
-pub rotation-sized : (k : ℕ) (l : List ℤ) → T (all_within k l) → (n : ℕ) → SizedRows k (rows (matrix_at l n))
-rotation-sized k l t n = record { each = at }
-  where
-    none : Sized k []
-    none = record { each = λ n. omega arith }
-
-    at : (j : ℕ) → Sized k (get_or (rows (matrix_at l n)) j [])
-    at zero = sized-items (record { x = (matrix_at l n).a; y = (matrix_at l n).b; z = (matrix_at l n).c }) (entry-within k l t _) (entry-within k l t _) (entry-within k l t _)
-    at (suc zero) = sized-items (record { x = (matrix_at l n).d; y = (matrix_at l n).e; z = (matrix_at l n).f }) (entry-within k l t _) (entry-within k l t _) (entry-within k l t _)
-    at (suc (suc zero)) = sized-items (record { x = (matrix_at l n).g; y = (matrix_at l n).h; z = (matrix_at l n).i }) (entry-within k l t _) (entry-within k l t _) (entry-within k l t _)
-    at (suc (suc (suc j))) = none

@@ -14,8 +14,8 @@ ghost use Rattle.grgrid.specs.IrGridMap.{map_tests, ir_grid_map_answer, ir_grid_
 ghost use Rattle.grgrid.specs.Addresses.{addresses, address_tests, addresses_answer, addresses_written};
 ghost use Rattle.common.specs.Limits.{all_within, diagonal_fits};
 
-use common::Refusal;
-pub use grid::Grid;
+use common::{Refusal, Shift};
+pub use grid::{Address, Doubled, Grid, Rotation, Rotations};
 
 pub fn grid_of(d: [i64; 3]) -> Grid
     requires { T (diagonal_fits d) }
@@ -75,15 +75,17 @@ pub fn grid_index_from_address(address: [i64; 3], g: Grid) -> usize
 
 // Inverse of `grid_index_from_address` for a canonical address.
 #[tactic(auto, unfolding(crate::specs::Grid::address))]
-pub fn grid_address_from_index(p: usize, g: Grid) -> [i64; 3]
+pub fn grid_address_from_index(p: usize, g: Grid) -> Address
     requires { p < size (sides g) }
-    ensures { result ≡ items (address (sides g) p) }
+    ensures { result.v ≡ items (address (sides g) p) }
 {
     let layer = g.x * g.y;
     let z = p / layer;
     let y = (p - z * layer) / g.x;
     let x = p % g.x;
-    [x as i64, y as i64, z as i64]
+    Address {
+        v: [x as i64, y as i64, z as i64],
+    }
 }
 
 fn doubled(a: i64, s: i64) -> i64
@@ -94,16 +96,16 @@ fn doubled(a: i64, s: i64) -> i64
 }
 
 // Double-grid address `2 * address + PS`.
-pub fn double_grid_address(address: [i64; 3], ps: [i64; 3]) -> [i64; 3]
-    requires fact_1 { Sized 10000000000000 address }
-    requires fact_2 { Sized 1 ps }
-    ensures { result ≡ items (double (vector_of address) (vector_of ps)) }
+pub fn double_grid_address(address: Address, ps: Shift) -> Doubled
+    ensures { result.v ≡ items (double (vector_of address.v) (vector_of ps.v)) }
 {
-    [
-        doubled(address[0], ps[0]),
-        doubled(address[1], ps[1]),
-        doubled(address[2], ps[2]),
-    ]
+    Doubled {
+        v: [
+            doubled(address.v[0], ps.v[0]),
+            doubled(address.v[1], ps.v[1]),
+            doubled(address.v[2], ps.v[2]),
+        ],
+    }
 }
 
 // Toward zero.
@@ -115,69 +117,59 @@ fn halved(a: i64, s: i64) -> i64
 }
 
 // `(address - PS) / 2`, of a double-grid address.
-pub fn halve_address(a: [i64; 3], ps: [i64; 3]) -> [i64; 3]
-    requires fact_1 { Sized 6000000000000300000 a }
-    requires fact_2 { Sized 1 ps }
-    ensures { result ≡ items (halve (vector_of a) (vector_of ps)) }
+pub fn halve_address(a: [i64; 3], ps: Shift) -> [i64; 3]
+    requires { Sized 6000000000000300000 a }
+    ensures { result ≡ items (halve (vector_of a) (vector_of ps.v)) }
 {
     [
-        halved(a[0], ps[0]),
-        halved(a[1], ps[1]),
-        halved(a[2], ps[2]),
+        halved(a[0], ps.v[0]),
+        halved(a[1], ps.v[1]),
+        halved(a[2], ps.v[2]),
     ]
 }
 
 // Map a double-grid address to its single-grid index.
-fn double_grid_index(a: [i64; 3], g: Grid, ps: [i64; 3]) -> usize
-    requires fact_1 { Sized 6000000000000300000 a }
-    requires fact_2 { Sized 1 ps }
-    ensures value { result ≡ index (sides g) (halve (vector_of a) (vector_of ps)) }
+fn double_grid_index(a: [i64; 3], g: Grid, ps: Shift) -> usize
+    requires { Sized 6000000000000300000 a }
+    ensures value { result ≡ index (sides g) (halve (vector_of a) (vector_of ps.v)) }
     ensures upper_bound { result < size (sides g) }
 {
     grid_index_from_address(halve_address(a, ps), g)
 }
 
 // The index of a doubled address after a rotation.
-fn rotated_index(a: [i64; 3], rotation: [[i64; 3]; 3], g: Grid, ps: [i64; 3]) -> usize
-    requires fact_1 { Sized 20000000000001 a }
-    requires fact_2 { SizedRows 100000 rotation }
-    requires fact_3 { Sized 1 ps }
-    ensures value { result ≡ index (sides g) (halve (matrix_of rotation ▹ vector_of a) (vector_of ps)) }
+fn rotated_index(a: Doubled, rotation: Rotation, g: Grid, ps: Shift) -> usize
+    ensures value { result ≡ index (sides g) (halve (matrix_of rotation.m ▹ vector_of a.v) (vector_of ps.v)) }
     ensures upper_bound { result < size (sides g) }
 {
-    double_grid_index(common::matvec_ii(rotation, a), g, ps)
+    double_grid_index(common::matvec_ii(rotation.m, a.v), g, ps)
 }
 
-fn doubled_point(p: usize, g: Grid, ps: [i64; 3]) -> [i64; 3]
-    requires fact_1 { p < size (sides g) }
-    requires fact_2 { Sized 1 ps }
-    ensures { result ≡ items (double (address (sides g) p) (vector_of ps)) }
+fn doubled_point(p: usize, g: Grid, ps: Shift) -> Doubled
+    requires { p < size (sides g) }
+    ensures { result.v ≡ items (double (address (sides g) p) (vector_of ps.v)) }
 {
     double_grid_address(grid_address_from_index(p, g), ps)
 }
 
 // Apply an integer rotation to a grid point and return the index of the rotated point.
-pub fn rotate_grid_index(p: usize, rotation: [[i64; 3]; 3], g: Grid, ps: [i64; 3]) -> usize
-    requires fact_1 { p < size (sides g) }
-    requires fact_2 { SizedRows 100000 rotation }
-    requires fact_3 { Sized 1 ps }
-    ensures value { result ≡ rotate (sides g) (vector_of ps) (matrix_of rotation) p }
+pub fn rotate_grid_index(p: usize, rotation: Rotation, g: Grid, ps: Shift) -> usize
+    requires { p < size (sides g) }
+    ensures value { result ≡ rotate (sides g) (vector_of ps.v) (matrix_of rotation.m) p }
     ensures upper_bound { result < size (sides g) }
 {
     rotated_index(doubled_point(p, g, ps), rotation, g, ps)
 }
 
 // Where the first rotation of the list that carries p lower carries it.
-fn first_lower(rotations: &[i64], p: usize, g: Grid, ps: [i64; 3]) -> Option<usize>
-    requires fact_1 { p < size (sides g) }
-    requires fact_2 { T (all_within 100000 rotations.now) }
-    requires fact_3 { Sized 1 ps }
-    ensures value { result ≡ first_lower (map (rotate (sides g) (vector_of ps)) (matrices rotations.now)) p }
+fn first_lower(rotations: Rotations<'_>, p: usize, g: Grid, ps: Shift) -> Option<usize>
+    requires { p < size (sides g) }
+    ensures value { result ≡ first_lower (map (rotate (sides g) (vector_of ps.v)) (matrices rotations.entry.list.now)) p }
     ensures lower { IfSome result (λ q. q < p) }
 {
     let address = doubled_point(p, g, ps);
-    for n in 0..rotations.len() / 9 {
-        let q = rotated_index(address, common::matrix_at(rotations, n), g, ps);
+    for n in 0..rotations.count() {
+        let q = rotated_index(address, rotations.at(n), g, ps);
         if q < p {
             return Some(q);
         }
@@ -186,11 +178,9 @@ fn first_lower(rotations: &[i64], p: usize, g: Grid, ps: [i64; 3]) -> Option<usi
 }
 
 // Point by point upwards, a point that is carried lower gets the number found there.
-pub fn number_points(rotations: &[i64], g: Grid, ps: [i64; 3], out: &mut [i64])
-    requires fact_1 { T (all_within 100000 rotations.now) }
-    requires fact_2 { Sized 1 ps }
-    requires fact_3 { length out.old ≡ size (sides g) }
-    ensures { out.new ≡ map pos (class_map_of (sides g) (vector_of ps) (matrices rotations.now)) }
+pub fn number_points(rotations: Rotations<'_>, g: Grid, ps: Shift, out: &mut [i64])
+    requires { length out.old ≡ size (sides g) }
+    ensures { out.new ≡ map pos (class_map_of (sides g) (vector_of ps.v) (matrices rotations.entry.list.now)) }
 {
     for p in 0..out.len() {
         out[p] = match first_lower(rotations, p, g, ps) {
@@ -249,7 +239,8 @@ pub fn ir_grid_map(
     let places = map.len();
     match map_tests(rotations, d, ps, places) {
         Ok(()) => {
-            number_points(rotations, grid_of(d), ps, map);
+            let list = Rotations { list: rotations };
+            number_points(list, grid_of(d), common::shift(ps), map);
             let classes = own_places(map) as i64;
             Ok(classes)
         }

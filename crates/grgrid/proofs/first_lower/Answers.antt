@@ -9,7 +9,6 @@ use Rattle.common.specs.Array.{vector_of, items, matrix_of, rows, matrix_at}
 use Rattle.grgrid.specs.Grid.{index, address, double, halve, rotate}
 use Rattle.grgrid.specs.Sides.{sides}
 use Rattle.grgrid.proofs.Lower.{lower-here, lower-on}
-use Rattle.grgrid.proofs.Sizes.{point-sized, rotation-sized}
 use Rattle.grgrid.proofs.first_lower.Goals as goal
 
 -- what the two calls of a turn return is matrix n's rotation of the point
@@ -19,22 +18,16 @@ carried : (d : Vec ℕ) (ps l : List ℤ) (p n : ℕ) {r : ℕ} {m : List (List 
 unfolding rotate
 carried d ps l p n e f g = e ∙ ap₂ (λ m a. index d (halve (matrix_of m ▹ vector_of a) (vector_of ps))) f g
 
-pub rotated_index-q-requires-clause-fact_1 : goal.rotated_index-q-requires-clause-fact_1
-rotated_index-q-requires-clause-fact_1 c = rw c.doubled_point-address.ensures (point-sized c.args.g c.requires.fact_3 c.args.p c.requires.fact_1)
-
-pub rotated_index-q-requires-clause-fact_2 : goal.rotated_index-q-requires-clause-fact_2
-rotated_index-q-requires-clause-fact_2 c = rw c.matrix_at.ensures (rotation-sized 100000 c.args.rotations.now c.requires.fact_2 c.loop-n.n)
-
 pub returns-then-q-p-clause-value : goal.returns-then-q-p-clause-value
 returns-then-q-p-clause-value c =
     let s = c.args in
-    let e = carried (sides s.g) s.ps s.rotations.now s.p c.loop-n.n c.rotated_index-q.ensures.value c.matrix_at.ensures c.doubled_point-address.ensures in
-    let n = length s.rotations.now / 9 in
-    ap Some e ∙ sym (lower-here (rotate (sides s.g) (vector_of s.ps)) s.rotations.now s.p c.loop-n.n n c.loop-n-test.true (rw e at c.if-q-p.true)) ∙ c.loop-n.invariant
+    let e = carried (sides s.g) s.ps.v s.rotations.list.now s.p c.loop-n.n c.rotated_index-q.ensures.value c.at.ensures c.doubled_point-address.ensures in
+    let n = length s.rotations.list.now / 9 in
+    ap Some e ∙ sym (lower-here (rotate (sides s.g) (vector_of s.ps.v)) s.rotations.list.now s.p c.loop-n.n n (rw c.count-n-end.ensures at c.loop-n-test.true) (rw e at c.if-q-p.true)) ∙ c.loop-n.invariant
 
 pub loop-n-preserved : goal.loop-n-preserved
 loop-n-preserved c =
     let s = c.args in
-    let e = carried (sides s.g) s.ps s.rotations.now s.p c.loop-n.n c.rotated_index-q.ensures.value c.matrix_at.ensures c.doubled_point-address.ensures in
-    let n = length s.rotations.now / 9 in
-    sym (lower-on (rotate (sides s.g) (vector_of s.ps)) s.rotations.now s.p c.loop-n.n n c.loop-n-test.true (rw e at c.if-q-p.false)) ∙ c.loop-n.invariant
+    let e = carried (sides s.g) s.ps.v s.rotations.list.now s.p c.loop-n.n c.rotated_index-q.ensures.value c.at.ensures c.doubled_point-address.ensures in
+    let n = length s.rotations.list.now / 9 in
+    sym (lower-on (rotate (sides s.g) (vector_of s.ps.v)) s.rotations.list.now s.p c.loop-n.n n (rw c.count-n-end.ensures at c.loop-n-test.true) (rw e at c.if-q-p.false)) ∙ c.loop-n.invariant

@@ -20,7 +20,7 @@ pub loop-p-preserved : goal.loop-p-preserved
 loop-p-preserved c =
     let s = c.args in
     let l = c.loop-p in
-    let gs = map (rotate (sides s.g) (vector_of s.ps)) (matrices s.rotations.now) in
+    let gs = map (rotate (sides s.g) (vector_of s.ps.v)) (matrices s.rotations.list.now) in
     let e = c.first_lower.ensures.value in
     elim c.match-first_lower.branch [
       | in-Some w ↦
@@ -35,7 +35,7 @@ pub returns : goal.returns
 unfolding class_map_of
 returns c =
     let s = c.args in
-    let gs = map (rotate (sides s.g) (vector_of s.ps)) (matrices s.rotations.now) in
+    let gs = map (rotate (sides s.g) (vector_of s.ps.v)) (matrices s.rotations.list.now) in
     c.loop-p.invariant
-    ∙ ap (λ n. written (number gs) pos n s.out.now) (le_antisymm c.loop-p.auto.p-end c.loop-p-test.false ∙ c.requires.fact_3)
-    ∙ written-end (number gs) pos (size (sides s.g)) s.out.now c.requires.fact_3
+    ∙ ap (λ n. written (number gs) pos n s.out.now) (le_antisymm c.loop-p.auto.p-end c.loop-p-test.false ∙ c.requires)
+    ∙ written-end (number gs) pos (size (sides s.g)) s.out.now c.requires

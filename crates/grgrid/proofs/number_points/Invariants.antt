@@ -9,4 +9,4 @@ use Rattle.grgrid.proofs.Built.{written}
 use Rattle.grgrid.proofs.number_points.Given as goal
 
 abbrev pub invariant-loop-p : goal.invariant-loop-p
-invariant-loop-p l = l.out ≡ written (number (map (rotate (sides l.g) (vector_of l.ps)) (matrices l.rotations))) pos l.p l.initial.out
+invariant-loop-p l = l.out ≡ written (number (map (rotate (sides l.g) (vector_of l.ps.v)) (matrices l.rotations.list.now))) pos l.p l.initial.out

@@ -33,8 +33,8 @@ pub within-sized : (k : ℕ) (l : List ℤ) → T (all_within k l) → Sized k l
 within-sized k l t = record { each = entry-within k l t }
 
 -- a matrix of a list
-pub rotation-within : (k : ℕ) (l : List ℤ) → T (all_within k l) → (n : ℕ) → T (matrix_within k (matrix_at l n))
-rotation-within k l t n = sizes-within k (matrix_at l n) (λ i j. rw (entry-matrix (λ i j. get_or l (n * 9 + number i * 3 + number j) (pos 0)) i j) (entry-within k l t (n * 9 + number i * 3 + number j)))
+pub rotation_within : (k : ℕ) (l : List ℤ) → T (all_within k l) → (n : ℕ) → T (matrix_within k (matrix_at l n))
+rotation_within k l t n = sizes-within k (matrix_at l n) (λ i j. rw (entry-matrix (λ i j. get_or l (n * 9 + number i * 3 + number j) (pos 0)) i j) (entry-within k l t (n * 9 + number i * 3 + number j)))
 
 -- ---- the shift
 half-size : (z : ℤ) → T (half_fits z) → nat_abs z ≤ 1

@@ -5,7 +5,7 @@ use Prim.Native.Nat.{ℕ, ◌+◌, ◌*◌, ◌^◌, ◌≤◌, ◌<◌, zero-le
 use native.Mathlib.Nat.{le_of_lt, le_trans, lt_of_lt_of_le, mul-pos, mul-le-mul_right}
 use native.Mathlib.Omega.{arith}
 use lib.Dec.{T, lit≤}
-use lib.ListN.{length, get_or}
+use lib.ListN.{length}
 use lib.IntN.{ℤ, pos, nat_abs, ◌+ℤ◌, ◌*ℤ◌}
 use lib.Ieee.{Float, binary64, add, mul, div, of_int, fits}
 use lib.Ieee.Fits.{add-fits}
@@ -19,14 +19,15 @@ use Rattle.float.proofs.Bounds.{rounds-bounded, bounded-up, whole-bounded, add-b
 use Rattle.float.proofs.Cast.{nint-bounded}
 use Rattle.float.specs.Rounding.{nint_of}
 use Rattle.common.specs.Matrix.{Axis, X, Y, Z, Vec, side, vector, entry, map_mat, dot}
-use Rattle.common.specs.Array.{number, along, vector_of, items, Sized}
+use Rattle.common.specs.Array.{number, along, vector_of, items, matrix_of, Sized}
+use Rattle.common.proofs.Bounds.{matrix-sizes}
 use Rattle.common.specs.FloatMatrix.{floats}
 use Rattle.common.proofs.Matrix.{side-vector, entry-matrix}
 use Rattle.grgrid.specs.Grid.{size, digits, address, double}
 use Rattle.grgrid.specs.Sides.{GridFits}
 use Rattle.grgrid.proofs.Folding.{digits-within}
 use Rattle.grgrid.proofs.Accepted.{side-small, few-points, grid-fits}
-use Rattle.grgrid.proofs.Sizes.{sized-items}
+use Rattle.common.proofs.Sized.{sized-items}
 use Rattle.bzsearch.specs.Search.{Search, grid_coordinate, reduced, split_reduced}
 use Rattle.bzsearch.specs.declared.types.BzSearch.{BzSearch}
 use Rattle.bzsearch.specs.SearchView.{search_of}
@@ -123,8 +124,8 @@ module _ (b : BzSearch) (p : ℕ) (h : p < size (search_of b).d) where
   point-nint : (j : Axis) → nat_abs (side (split_reduced (search_of b) (address d p)).nint j) ≤ 4096
   point-nint =
       nint-sized (search_of b) (address d p)
-      (λ k. coordinate-bounded (search_of b) (address d p) k (below k) (small k) (rw (side-vector (along b.ps) k) (b.ps_sized.each (number k))))
-      (λ j k. rw (entry-matrix (λ j k. get_or b.q (0 * 9 + number j * 3 + number k) (pos 0)) j k) (b.q_sized.each (0 * 9 + number j * 3 + number k)))
+      (λ k. coordinate-bounded (search_of b) (address d p) k (below k) (small k) (rw (side-vector (along b.ps.v) k) (b.ps.sized.each (number k))))
+      (matrix-sizes 1000 (matrix_of b.q.m) b.q.within)
 
   pub point-nint-sized : (l : List ℤ) → length l ≡ 3 → vector_of l ≡ (split_reduced (search_of b) (address d p)).nint → Sized 4096 l
   point-nint-sized l e g = row_sized l e (λ k. subst (λ (v : Vec ℤ). nat_abs (side v k) ≤ 4096) (sym g) (point-nint k))

@@ -1,14 +1,12 @@
 -- Walks over rows of candidates: a turn, the end, and the sizes of a candidate.
 use mathlib.Core.Path.{◌≡◌, sym, ◌∙◌, ap, subst}
-use mathlib.Core.List.{List, [], ◌∷◌, ◌++◌, foldl, foldl-append}
-use Prim.Native.Nat.{ℕ, zero, suc, ◌+◌, ◌<◌, ◌≤◌, zero-le}
+use mathlib.Core.List.{List, ◌++◌, foldl, foldl-append}
+use Prim.Native.Nat.{ℕ, ◌+◌, ◌<◌, ◌≤◌}
 use native.Mathlib.Nat.{le_antisymm}
 use native.Mathlib.Numerals.{add-one}
-use lib.IntN.{ℤ, pos, nat_abs}
-use lib.ListN.{get_or}
+use lib.IntN.{ℤ, nat_abs}
 use lib.Signed.{mag}
 use Rattle.integer.proofs.Fits.{held, held-is}
-use Rattle.common.specs.Array.{Sized}
 use Rattle.bzsearch.specs.Search.{rows}
 
 pub joined : {A S : Type 0} (f : S → A → S) (a : S) (l m : List A) {b e : S} → b ≡ foldl f a l → e ≡ foldl f b m → e ≡ foldl f a (l ++ m)
@@ -22,16 +20,6 @@ module _ {A S : Type 0} (f : S → A → S) (g : ℕ → List A) (k : ℕ) (a : 
 
   pub finished : {b : S} {n : ℕ} → b ≡ foldl f a (rows g k) → k ≤ n → n ≤ k → b ≡ foldl f a (rows g n)
   finished p l h = p ∙ ap (λ n. foldl f a (rows g n)) (le_antisymm l h)
-
--- ---- the sizes of a vector
-pub three-sized : {k : ℕ} {x y z : ℤ} → nat_abs x ≤ k → nat_abs y ≤ k → nat_abs z ≤ k → Sized k (x ∷ y ∷ z ∷ [])
-three-sized {k} {x} {y} {z} p q r = record { each = at }
-  where
-    at : (n : ℕ) → nat_abs (get_or (x ∷ y ∷ z ∷ []) n (pos 0)) ≤ k
-    at zero = p
-    at (suc zero) = q
-    at (suc (suc zero)) = r
-    at (suc (suc (suc n))) = zero-le
 
 -- as the code holds a number
 pub held-small : {n : ℕ} (z : ℤ) → mag z < 0x8000000000000000 → nat_abs z ≤ n → nat_abs (held z) ≤ n

@@ -1,7 +1,7 @@
 -- The limits of what a search is made from, as sizes.
 use mir.Syntax.{w64}
 use mathlib.Core.Path.{◌≡◌, sym, subst}
-use mathlib.Core.List.{List, [], ◌∷◌}
+use mathlib.Core.List.{List}
 use Prim.Native.Nat.{ℕ, zero, suc, ◌≤◌, zero-le}
 use native.Mathlib.Nat.{le_of_eq, le_trans, lt_of_le_of_lt}
 use native.Mathlib.Omega.{arith}
@@ -12,15 +12,15 @@ use mir.Facts.{to_z-of_z}
 use Rattle.integer.proofs.Fits.{held}
 use Rattle.integer.proofs.Plain.{plain, p_atom, plain-within}
 use Rattle.integer.proofs.Size.{sfits-abs}
-use Rattle.common.specs.Matrix.{Axis, X, Y, Z, next, Mat, side, entry, vector, entries, matrix, map_mat, cross, integers, det, adjugate, inverse, ◌▹◌}
-use Rattle.common.specs.Array.{along, vector_of, items, matrix_of, rows, matrix_at, dot_of, Sized, SizedRows}
+use Rattle.common.specs.Matrix.{Axis, X, Y, Z, next, Mat, side, entry, vector, matrix, map_mat, cross, integers, det, adjugate, inverse}
+use Rattle.common.specs.Array.{along, vector_of, items, Sized}
 use Rattle.common.specs.IntegerMatrix.{det_fits}
 use Rattle.common.specs.Limits.{diagonal_fits, matrix_within}
 use Rattle.common.proofs.Matrix.{entry-matrix, diagonal-product}
-use Rattle.common.proofs.Bounds.{matrix-sizes, p-sized, side-above}
+use Rattle.common.proofs.Bounds.{matrix-sizes, sizes-within, p-sized, side-above}
 use Rattle.common.proofs.Whole.{sized-det}
 use Rattle.grgrid.proofs.Accepted.{side-0, side-1, side-2, side-small}
-use Rattle.grgrid.proofs.Sizes.{sized-items}
+use Rattle.common.proofs.Sized.{sized-items}
 use Rattle.bzsearch.specs.Search.{unimodular}
 
 -- ---- the diagonal numbers
@@ -52,32 +52,6 @@ row_sized {n} l e h = record { each = at }
     at (suc (suc zero)) = h Z
     at (suc (suc (suc i))) = rw (get_or-eq_default l (pos 0) {n = suc (suc (suc i))} (omega arith)) zero-le
 
--- ---- nine numbers, by rows
-sized-nil : {n : ℕ} → Sized n []
-sized-nil = record { each = λ i. zero-le }
-
-sized-cons : {n : ℕ} {z : ℤ} {l : List ℤ} → nat_abs z ≤ n → Sized n l → Sized n (z ∷ l)
-sized-cons {n} {z} {l} h f = record { each = at }
-  where
-    at : (i : ℕ) → nat_abs (get_or (z ∷ l) i (pos 0)) ≤ n
-    at zero = h
-    at (suc i) = f.each i
-
-pub entries-sized : {n : ℕ} (m : Mat ℤ) → ((j k : Axis) → nat_abs (entry m j k) ≤ n) → Sized n (entries m [])
-entries-sized {n} m h = row X (row Y (row Z sized-nil))
-  where
-    row : (j : Axis) {l : List ℤ} → Sized n l → Sized n (entry m j X ∷ entry m j Y ∷ entry m j Z ∷ l)
-    row j f = sized-cons (h j X) (sized-cons (h j Y) (sized-cons (h j Z) f))
-
-pub nested-sized : {n : ℕ} {l : List ℤ} → Sized n l → SizedRows n (rows (matrix_at l 0))
-nested-sized {n} {l} h = record { each = at }
-  where
-    at : (j : ℕ) → Sized n (get_or (rows (matrix_at l 0)) j [])
-    at zero = sized-items _ (h.each 0) (h.each 1) (h.each 2)
-    at (suc zero) = sized-items _ (h.each 3) (h.each 4) (h.each 5)
-    at (suc (suc zero)) = sized-items _ (h.each 6) (h.each 7) (h.each 8)
-    at (suc (suc (suc j))) = sized-nil
-
 -- ---- Q and its inverse
 module _ (m : Mat ℤ) (t : T (matrix_within 1000 m)) where
   pub det-fits : T (det_fits m)
@@ -96,8 +70,8 @@ inverse-entries m = diagonal-product (λ k. det m) (adjugate m)
 cofactor-size : (a b c d u : ℤ) → nat_abs a ≤ 1000 → nat_abs b ≤ 1000 → nat_abs c ≤ 1000 → nat_abs d ≤ 1000 → nat_abs u ≤ 1 → nat_abs (u *ℤ cross integers a b c d) ≤ 2000000
 cofactor-size a b c d u p q r s t = plain-within {v = u *ℤ cross integers a b c d} (search (plain, p_atom) depth 12) tt
 
-pub inverse-sized : (m : Mat ℤ) → T (matrix_within 1000 m) → T (unimodular m) → Sized 2000000 (entries (inverse m) [])
-inverse-sized m t u = subst (λ n. Sized 2000000 (entries n [])) (sym (inverse-entries m)) (entries-sized (matrix cofactor) at)
+pub inverse_within : (m : Mat ℤ) → T (matrix_within 1000 m) → T (unimodular m) → T (matrix_within 2000000 (inverse m))
+inverse_within m t u = subst (λ n. T (matrix_within 2000000 n)) (sym (inverse-entries m)) (sizes-within 2000000 (map_mat (λ z. det m *ℤ z) (adjugate m)) at)
   where
     size : (j k : Axis) → nat_abs (entry m j k) ≤ 1000
     size = matrix-sizes 1000 m t
@@ -111,18 +85,9 @@ inverse-sized m t u = subst (λ n. Sized 2000000 (entries n [])) (sym (inverse-e
         (cofactor-size (entry m (next k) (next j)) (entry m (next k) (next (next j))) (entry m (next (next k)) (next j)) (entry m (next (next k)) (next (next j))) (det m)
         (size (next k) (next j)) (size (next k) (next (next j))) (size (next (next k)) (next j)) (size (next (next k)) (next (next j))) (unit_size m u))
 
--- ---- a candidate less the whole part, and how far it moves an address
+-- ---- a candidate less the whole part
 pub difference-sized : {m n : List ℤ} → Sized 16 m → Sized 4096 n → Sized 4112 (items (vector (λ k. along m k -ℤ along n k)))
 difference-sized {m} {n} f g = sized-items _ (at 0) (at 1) (at 2)
   where
     at : (k : ℕ) → nat_abs (get_or m k (pos 0) -ℤ get_or n k (pos 0)) ≤ 4112
     at k = plain-within {v = get_or m k (pos 0) -ℤ get_or n k (pos 0)} (search (plain, p-sized) depth 12) tt
-
-pub delta-sized : {m : List (List ℤ)} {v : List ℤ} → SizedRows 2000000 m → Sized 4112 v → Sized 30000000000 (items (matrix_of m ▹ vector_of v))
-delta-sized {m} {v} f g = sized-items _ (row 0) (row 1) (row 2)
-  where
-    product : {a b : List ℤ} → Sized 2000000 a → Sized 4112 b → nat_abs (dot_of a b) ≤ 24672000000
-    product {a} {b} f g = plain-within {v = dot_of a b} (search (plain, p-sized) depth 14) tt
-
-    row : (n : ℕ) → nat_abs (dot_of (get_or m n []) v) ≤ 30000000000
-    row n = le_trans (product (f.each n) g) (lit≤ tt)

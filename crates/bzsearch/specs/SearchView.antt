@@ -2,7 +2,7 @@
 use Rattle.std.specs.Prelude.{List, [], ◌++◌, ℕ, ◌+◌, ◌*◌, ℤ, ◌*ℤ◌, get_or, Float, Option, Some, None, true, false}
 use Rattle.std.specs.Float.{nan}
 use Rattle.common.specs.Matrix.{next, Vec, Mat, vector, matrix, cross, dot, integers}
-use Rattle.common.specs.Array.{number, along, vector_of, sides_of, items, matrix_at}
+use Rattle.common.specs.Array.{number, along, vector_of, sides_of, items, matrix_of}
 use Rattle.common.specs.FloatMatrix.{floats, float_vector}
 use Rattle.bzsearch.specs.declared.types.BzSearch.{BzSearch}
 use Rattle.bzsearch.specs.declared.types.Split as code-split
@@ -21,9 +21,9 @@ float_nine l = matrix (λ j k. get_or l (number j * 3 + number k) nan)
 abbrev pub search_of : BzSearch → Search
 search_of b = record {
   d = sides_of b.d_diag;
-  ps = vector_of b.ps;
-  q = matrix_at b.q 0;
-  q_inv = matrix_at b.q_inv 0;
+  ps = vector_of b.ps.v;
+  q = matrix_of b.q.m;
+  q_inv = matrix_of b.q_inv.m;
   lattice = float_nine b.rec_lattice;
   tolerance = b.tolerance;
   dual = float_vector b.dual_lengths;
@@ -54,7 +54,7 @@ candidates_of b = box false (axes_view b.first) ++ rest_of b.rest
 
 -- ---- a point
 abbrev pub point_split : Point → Split
-point_split p = record { s0 = float_vector p.s0; nint = vector_of p.nint }
+point_split p = record { s0 = float_vector p.s0; nint = vector_of p.nint.v }
 
 -- ---- parts of the code's formulas
 -- a row of the inverse, from the two columns after its number

@@ -7,7 +7,7 @@ ghost use Rattle.common.specs.FloatMatrix.{float_vector};
 ghost use Rattle.bzsearch.specs.Search.{number_at, count, upwards, from_zero, below_zero, fft_order, first_box, whole_box, candidates, clipped, span_fits, within, range_fits, near, far, outside, chosen, box, lower, least_of, bound, Room};
 ghost use Rattle.bzsearch.specs.SearchView.{search_of, span_view, range_view, numbers_view, axes_view, candidates_of};
 
-use crate::types::{Axes, Boxes, BzSearch, Numbers, Range, Span};
+use crate::types::{Axes, Boxes, BzSearch, Candidate, Numbers, Range, Span};
 
 fn count(lo: i64, hi: i64) -> usize
     requires fact_1 { T (le_z (negsuc 15) lo) }
@@ -172,20 +172,18 @@ pub fn is_outside(m: [i64; 3]) -> bool
 
 impl BzSearch {
     // Falls only by more than the tolerance.
-    fn lower(self, s0: [f64; 3], m: [i64; 3], least: f64) -> f64
-        requires { Sized 16 m }
-        ensures { result ≡ lower (search_of self) (float_vector s0) least (vector_of m) }
+    fn lower(self, s0: [f64; 3], m: Candidate, least: f64) -> f64
+        ensures { result ≡ lower (search_of self) (float_vector s0) least (vector_of m.v) }
     {
         let x = self.distance(s0, m);
         let below = least - self.tolerance;
         if x < below { x } else { least }
     }
 
-    fn least_one(self, s0: [f64; 3], m: [i64; 3], rest: bool, least: f64) -> f64
-        requires { Sized 16 m }
-        ensures { result ≡ least_of (search_of self) (float_vector s0) least (chosen rest (vector_of m)) }
+    fn least_one(self, s0: [f64; 3], m: Candidate, rest: bool, least: f64) -> f64
+        ensures { result ≡ least_of (search_of self) (float_vector s0) least (chosen rest (vector_of m.v)) }
     {
-        if rest && !is_outside(m) {
+        if rest && !is_outside(m.v) {
             return least;
         }
         self.lower(s0, m, least)
@@ -202,7 +200,10 @@ impl BzSearch {
             for j in 0..b.y.n {
                 let y = b.y.at(j);
                 for k in 0..b.z.n {
-                    least = self.least_one(s0, [x, y, b.z.at(k)], rest, least);
+                    let m = Candidate {
+                        v: [x, y, b.z.at(k)],
+                    };
+                    least = self.least_one(s0, m, rest, least);
                 }
             }
         }
@@ -214,7 +215,7 @@ impl BzSearch {
     pub fn bound(self, s0: [f64; 3], b: Boxes) -> f64
         ensures { result ≡ bound (search_of self) (float_vector s0) (candidates_of b) }
     {
-        let first = self.least_box(s0, b.first, false, self.distance(s0, [0, 0, 0]));
+        let first = self.least_box(s0, b.first, false, self.distance(s0, Candidate { v: [0, 0, 0] }));
         let least = match b.rest {
             None => first,
             Some(whole) => self.least_box(s0, whole, true, first),

@@ -11,7 +11,9 @@ ghost use Rattle.grgrid.specs.Grid.{size, address};
 ghost use Rattle.bzsearch.specs.SearchView.{point_split, float_nine, search_of, split_view, range_view, span_view, inverse_row, row_times};
 
 use crate::lattice;
-use crate::types::{BzSearch, Point, Range, Span, Split};
+use crate::types::{Basis, BzSearch, Candidate, Point, Range, Span, Split};
+use common::{Bounded, BoundedMatrix, Shift};
+use grgrid::Address;
 
 // A cofactor times the determinant, which is 1 or -1: the same as over it. `common::cross` asks by a test of its own that each product fits, which the check
 // does not find from sizes, as it does here.
@@ -36,26 +38,26 @@ fn inverse_row(a: [i64; 3], b: [i64; 3], det: i64) -> [i64; 3]
     ]
 }
 
-pub fn is_unimodular(q: [[i64; 3]; 3]) -> bool
-    requires { T (matrix_within 1000 (matrix_of q)) }
-    ensures { result ≡ unimodular (matrix_of q) }
+pub fn is_unimodular(q: Basis) -> bool
+    ensures { result ≡ unimodular (matrix_of q.m) }
 {
-    integer_matrix::det_i(q).unsigned_abs() == 1
+    integer_matrix::det_i(q.m).unsigned_abs() == 1
 }
 
 // Of a determinant of 1 or -1.
-fn inverse_unimodular(q: [[i64; 3]; 3]) -> [[i64; 3]; 3]
-    requires fact_1 { T (matrix_within 1000 (matrix_of q)) }
-    requires fact_2 { T (unimodular (matrix_of q)) }
-    ensures { result ≡ rows (inverse (matrix_of q)) }
+fn inverse_unimodular(q: Basis) -> BoundedMatrix<2000000>
+    requires { T (unimodular (matrix_of q.m)) }
+    ensures { result.m ≡ rows (inverse (matrix_of q.m)) }
 {
-    let det = integer_matrix::det_i(q);
-    let [x, y, z] = common::transpose(q);
-    [
-        inverse_row(y, z, det),
-        inverse_row(z, x, det),
-        inverse_row(x, y, det),
-    ]
+    let det = integer_matrix::det_i(q.m);
+    let [x, y, z] = common::transpose(q.m);
+    BoundedMatrix {
+        m: [
+            inverse_row(y, z, det),
+            inverse_row(z, x, det),
+            inverse_row(x, y, det),
+        ],
+    }
 }
 
 fn coordinate(a: f64, d: f64) -> f64
@@ -75,14 +77,13 @@ fn split_whole(v: [f64; 3]) -> Split
     }
 }
 
-fn shift(s0: [f64; 3], m: [i64; 3]) -> [f64; 3]
-    requires { Sized 16 m }
-    ensures { result ≡ items (moved (float_vector s0) (vector_of m)) }
+fn shift(s0: [f64; 3], m: Candidate) -> [f64; 3]
+    ensures { result ≡ items (moved (float_vector s0) (vector_of m.v)) }
 {
     [
-        s0[0] + m[0] as f64,
-        s0[1] + m[1] as f64,
-        s0[2] + m[2] as f64,
+        s0[0] + m.v[0] as f64,
+        s0[1] + m.v[1] as f64,
+        s0[2] + m.v[2] as f64,
     ]
 }
 
@@ -105,12 +106,12 @@ pub fn length_squared(l: [f64; 9], v: [f64; 3]) -> f64
     sum_of_squares(row_times(l, 0, v), row_times(l, 3, v), row_times(l, 6, v))
 }
 
-fn difference(m: [i64; 3], n: [i64; 3]) -> [i64; 3]
-    requires fact_1 { Sized 16 m }
-    requires fact_2 { Sized 4096 n }
-    ensures { result ≡ items (vector (λ k. along m k -ℤ along n k)) }
+fn difference(m: Candidate, n: Bounded<4096>) -> Bounded<4112>
+    ensures { result.v ≡ items (vector (λ k. along m.v k -ℤ along n.v k)) }
 {
-    [m[0] - n[0], m[1] - n[1], m[2] - n[2]]
+    Bounded {
+        v: [m.v[0] - n.v[0], m.v[1] - n.v[1], m.v[2] - n.v[2]],
+    }
 }
 
 fn moved_by(a: i64, delta: i64, d: i64) -> i64
@@ -139,40 +140,34 @@ impl BzSearch {
 
     pub fn new(
         d_diag: [i64; 3],
-        ps: [i64; 3],
-        q: [[i64; 3]; 3],
+        ps: Shift,
+        q: Basis,
         rec_lattice: [[f64; 3]; 3],
     ) -> BzSearch
-        requires fact_1 { T (diagonal_fits d_diag) }
-        requires fact_2 { T (matrix_within 1000 (matrix_of q)) }
-        requires fact_3 { T (unimodular (matrix_of q)) }
-        requires fact_4 { T (shift_fits ps) }
-        ensures { search_of result ≡ new_search (sides_of d_diag) (vector_of ps) (matrix_of q) (float_matrix rec_lattice) }
+        requires diagonal { T (diagonal_fits d_diag) }
+        requires unimodular { T (unimodular (matrix_of q.m)) }
+        ensures { search_of result ≡ new_search (sides_of d_diag) (vector_of ps.v) (matrix_of q.m) (float_matrix rec_lattice) }
     {
-        let inverse = integer_matrix::flat(inverse_unimodular(q));
-        let flat_q = integer_matrix::flat(q);
         let lattice = common::flat(rec_lattice);
         let tolerance = lattice::bz_tolerance(rec_lattice, d_diag);
         let dual = lattice::dual_lengths(rec_lattice);
         BzSearch {
-            d_diag: d_diag,
-            ps: ps,
-            q: flat_q,
-            q_inv: inverse,
+            d_diag,
+            ps,
+            q,
+            q_inv: inverse_unimodular(q),
             rec_lattice: lattice,
-            tolerance: tolerance,
+            tolerance,
             dual_lengths: dual,
         }
     }
 
     // The coordinates of an address along the grid's axes.
-    fn grid_coordinates(self, address: [i64; 3]) -> [f64; 3]
-        requires { Sized 256 address }
-        ensures { result ≡ items (vector (grid_coordinate (search_of self) (vector_of address))) }
+    fn grid_coordinates(self, address: Address) -> [f64; 3]
+        ensures { result ≡ items (vector (grid_coordinate (search_of self) (vector_of address.v))) }
     {
-        let ps = self.ps;
         let d_diag = self.d_diag;
-        let a = float_matrix::row_to_d(grgrid::double_grid_address(address, ps));
+        let a = float_matrix::row_to_d(grgrid::double_grid_address(address, self.ps).v);
         let d = float_matrix::row_to_d(d_diag);
         [
             coordinate(a[0], d[0]),
@@ -183,22 +178,19 @@ impl BzSearch {
 
     // Split the reduced coordinates of an address into what is left, at most 1/2 in size, and a whole vector.
     #[tactic(auto, unfolding(crate::specs::Search::split_reduced, crate::specs::Search::reduced))]
-    pub fn split_reduced_coordinates(self, address: [i64; 3]) -> Split
-        requires { Sized 256 address }
-        ensures { split_view result ≡ split_reduced (search_of self) (vector_of address) }
+    pub fn split_reduced_coordinates(self, address: Address) -> Split
+        ensures { split_view result ≡ split_reduced (search_of self) (vector_of address.v) }
     {
-        let q = self.q;
         split_whole(float_matrix::matvec_id(
-            integer_matrix::nested(q),
+            self.q.m,
             self.grid_coordinates(address),
         ))
     }
 
     // Squared length of `rec_lattice (s0 + m)`.
     #[tactic(auto, unfolding(crate::specs::Search::distance))]
-    pub fn distance(self, s0: [f64; 3], m: [i64; 3]) -> f64
-        requires { Sized 16 m }
-        ensures { result ≡ distance (search_of self) (float_vector s0) (vector_of m) }
+    pub fn distance(self, s0: [f64; 3], m: Candidate) -> f64
+        ensures { result ≡ distance (search_of self) (float_vector s0) (vector_of m.v) }
     {
         let l = self.rec_lattice;
         length_squared(l, shift(s0, m))
@@ -209,7 +201,7 @@ impl BzSearch {
     pub fn search_range(self, s0: [f64; 3]) -> Range
         ensures { range_view result ≡ search_range (search_of self) (float_vector s0) }
     {
-        let r = float::sqrt(self.distance(s0, [0, 0, 0]) + self.tolerance);
+        let r = float::sqrt(self.distance(s0, Candidate { v: [0, 0, 0] }) + self.tolerance);
         let w = self.dual_lengths;
         Range {
             x: span_of(s0[0], r * w[0] + BzSearch::SEARCH_MARGIN),
@@ -218,37 +210,40 @@ impl BzSearch {
         }
     }
 
-    pub fn set_bz_address(self, m: [i64; 3], address: [i64; 3], nint: [i64; 3]) -> [i64; 3]
-        requires fact_1 { Sized 16 m }
-        requires fact_2 { Sized 256 address }
-        requires fact_3 { Sized 4096 nint }
-        ensures { result ≡ items (set_bz_address (search_of self) (vector_of address) (vector_of nint) (vector_of m)) }
+    pub fn set_bz_address(
+        self,
+        m: Candidate,
+        address: Bounded<256>,
+        nint: Bounded<4096>,
+    ) -> [i64; 3]
+        ensures { result ≡ items (set_bz_address (search_of self) (vector_of address.v) (vector_of nint.v) (vector_of m.v)) }
     {
-        let q_inv = self.q_inv;
         let d = self.d_diag;
-        let delta = common::matvec_ii(integer_matrix::nested(q_inv), difference(m, nint));
+        let delta = common::matvec_ii(self.q_inv.m, difference(m, nint).v);
         [
-            moved_by(address[0], delta[0], d[0]),
-            moved_by(address[1], delta[1], d[1]),
-            moved_by(address[2], delta[2], d[2]),
+            moved_by(address.v[0], delta[0], d[0]),
+            moved_by(address.v[1], delta[1], d[1]),
+            moved_by(address.v[2], delta[2], d[2]),
         ]
     }
 
     pub fn point(self, i: usize) -> Point
         requires { i < size (search_of self).d }
         ensures index_value { result.index ≡ i }
-        ensures address_value { result.address ≡ items (address (search_of self).d i) }
+        ensures address_value { result.address.v ≡ items (address (search_of self).d i) }
         ensures result_value { point_split result ≡ split_reduced (search_of self) (address (search_of self).d i) }
     {
-        let d = self.d_diag;
-        let address = grgrid::grid_address_from_index(i, grgrid::grid_of(d));
+        let address = grgrid::grid_address_from_index(i, grgrid::grid_of(self.d_diag));
         let s = self.split_reduced_coordinates(address);
         let s0 = s.s0;
-        let nint = s.nint;
+        let n = s.nint;
+        let a = address.v;
+        let nint = Bounded { v: n };
+        let address = Bounded { v: a };
         Point {
-            s0: s0,
-            nint: nint,
-            address: address,
+            s0,
+            nint,
+            address,
             index: i,
         }
     }

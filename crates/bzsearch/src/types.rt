@@ -4,15 +4,21 @@ ghost use Rattle.common.specs.Array.{Sized};
 ghost use Rattle.common.specs.Limits.{diagonal_fits};
 ghost use Rattle.bzsearch.specs.Search.{Room};
 
+use common::{Bounded, BoundedMatrix, Shift};
+
+// By how many reciprocal lattice vectors an image lies from its point.
+pub type Candidate = Bounded<16>;
+
+// Q, the basis of the grid.
+pub type Basis = BoundedMatrix<1000>;
+
 // A point: what is left of its reduced coordinates and their whole part, its address and its index.
 #[derive(Clone, Copy)]
 pub struct Point {
     pub s0: [f64; 3],
-    pub nint: [i64; 3],
-    pub address: [i64; 3],
+    pub nint: Bounded<4096>,
+    pub address: Bounded<256>,
     pub index: usize,
-    ghost nint_sized: { Sized 4096 nint },
-    ghost address_sized: { Sized 256 address },
     ghost index_small: { index < 65536 },
 }
 
@@ -20,16 +26,13 @@ pub struct Point {
 #[derive(Clone, Copy)]
 pub struct BzSearch {
     pub d_diag: [i64; 3],
-    pub ps: [i64; 3],
-    pub q: [i64; 9],
-    pub q_inv: [i64; 9],
+    pub ps: Shift,
+    pub q: Basis,
+    pub q_inv: BoundedMatrix<2000000>,
     pub rec_lattice: [f64; 9],
     pub tolerance: f64,
     pub dual_lengths: [f64; 3],
     ghost diagonal: { T (diagonal_fits d_diag) },
-    ghost ps_sized: { Sized 1 ps },
-    ghost q_sized: { Sized 1000 q },
-    ghost q_inv_sized: { Sized 2000000 q_inv },
 }
 
 // Reduced coordinates: what is left of each, and its nearest whole number.

@@ -3,12 +3,13 @@ use Rattle.integer.proofs.Fits.{held, held-is}
 use Rattle.common.specs.FloatMatrix.{float_vector}
 use Rattle.bzsearch.specs.Search.{rows, chosen, box_at, plane_at, line_at, lower}
 use Rattle.bzsearch.specs.SearchView.{search_of, numbers_view, axes_view}
-use Rattle.bzsearch.proofs.Rows.{turn, finished, three-sized, held-small}
+use Rattle.common.proofs.Sized.{sized-items}
+use Rattle.bzsearch.proofs.Rows.{turn, finished, held-small}
 use Rattle.bzsearch.proofs.types.BzSearch.least_box.Goals as goal
 
-pub least_one-least-requires : goal.least_one-least-requires
-least_one-least-requires c =
-    three-sized (held-small c.at-x.result c.at-x.type_inv c.at-x.ensures.small) (held-small c.at-y.result c.at-y.type_inv c.at-y.ensures.small) (held-small c.at.result c.at.type_inv c.at.ensures.small)
+pub invariant_of-m : goal.invariant_of-m
+invariant_of-m c =
+    record { sized = sized-items _ (held-small c.at-x.result c.at-x.type_inv c.at-x.ensures.small) (held-small c.at-y.result c.at-y.type_inv c.at-y.ensures.small) (held-small c.at.result c.at.type_inv c.at.ensures.small) }
 
 pub loop-k-preserved : goal.loop-k-preserved
 loop-k-preserved c =
@@ -34,3 +35,8 @@ loop-i-preserved c =
     turn f (box_at a.rest (axes_view a.b)) c.loop-i.i a.from c.loop-i.invariant
     (finished f (plane_at a.rest y z (held c.at-x.result)) c.loop-j.j c.loop-i.least c.loop-j.invariant c.loop-j.auto.j-end c.loop-j-test.false)
     (ap (λ (x : ℤ). rows (plane_at a.rest y z x) y.n) (held-is c.at-x.result c.at-x.type_inv ∙ c.at-x.ensures.value))
+
+pub returns : goal.returns
+returns c =
+    let a = c.args in
+    finished (lower (search_of a.self) (float_vector a.s0)) (box_at a.rest (axes_view a.b)) c.loop-i.i a.from c.loop-i.invariant c.loop-i.auto.i-end c.loop-i-test.false

@@ -12,12 +12,12 @@ use Rattle.std.specs.Prelude.{Ok, Err, is_err}
 use Rattle.integer.proofs.Test.{holds}
 use Rattle.common.specs.Array.{sides_of}
 use Rattle.common.specs.Limits.{all_within, diagonal_fits}
-use Rattle.common.specs.Tested.{giving, output_of, Tested, Accepted}
+use Rattle.common.specs.Tested.{giving, output_of, Tested, Accepted, ◌then◌}
 use Rattle.common.specs.declared.Refusal.TheVariants.{WrongLength, OutsideLimits}
 use Rattle.common.proofs.Tests.{passed}
 use Rattle.bzgrid.specs.declared.GridType.{GridType}
 use Rattle.bzgrid.specs.BzGridAddresses.{grid_type_of}
-use Rattle.bztable.specs.Reading.{Read, got, ◌then◌, whole_addresses, tests_after, list_of}
+use Rattle.bztable.specs.Reading.{Read, got, whole_addresses, tests_after, list_of}
 use Rattle.bztable.specs.Neighbours.{all_neighbours, read_for, input_tests, neighbours_read, neighbour_tests, neighbours_answer, neighbours_written}
 
 -- ---- the tests of the input

@@ -7,7 +7,7 @@ use lib.Dec.{T}
 use lib.IntN.{ℤ}
 use lib.ListN.{get_or}
 use Rattle.integer.proofs.Test.{holds, and_l, and_r}
-use Rattle.common.specs.Tested.{Accepted}
+use Rattle.common.specs.Tested.{Accepted, ◌then◌}
 use Rattle.common.specs.Matrix.{Axis, Mat, X, Y, Z, vector, entry}
 use Rattle.common.specs.Array.{matrix_of, items, rows, Sized, SizedRows}
 use Rattle.common.specs.Limits.{matrix_within, diagonal_fits, shift_fits}
@@ -17,7 +17,7 @@ use Rattle.common.proofs.Bounds.{matrix-sizes}
 use Rattle.grgrid.proofs.Sizes.{sized-items}
 use Rattle.bzgrid.specs.declared.GridType.{GridType}
 use Rattle.bzgrid.specs.BzGridAddresses.{grid_type_of}
-use Rattle.bztable.specs.Reading.{◌then◌, whole_addresses}
+use Rattle.bztable.specs.Reading.{whole_addresses}
 use Rattle.bztable.specs.Rotate.{rotate_tests, rotate_read, rotate_answer}
 
 -- a matrix within k, by its rows

@@ -4,14 +4,14 @@ use Rattle.integer.specs.Checked.{pick}
 use Rattle.common.specs.Matrix.{Vec, side, vector}
 use Rattle.common.specs.Array.{sides_of}
 use Rattle.common.specs.Limits.{all_within, diagonal_fits}
-use Rattle.common.specs.Tested.{require, output_of, Tested, Accepted}
+use Rattle.common.specs.Tested.{require, output_of, Tested, Accepted, ◌then◌}
 use Rattle.common.specs.declared.Refusal.TheVariants.{OutsideLimits, BadGridType, WrongLength}
 use Rattle.grgrid.specs.Grid.{index}
 use Rattle.bzgrid.specs.declared.GridType.{GridType}
 use Rattle.bzgrid.specs.declared.GridType.TheVariants.{Sparse, Dense, Unknown}
 use Rattle.bzgrid.specs.Table.{doubled, empty}
 use Rattle.bzgrid.specs.BzGridAddresses.{grid_type_of, is_known}
-use Rattle.bztable.specs.Reading.{Read, got, outside, ◌then◌, whole_addresses, triple_at, address_of, place_at, find, tests_after, list_of}
+use Rattle.bztable.specs.Reading.{Read, got, outside, whole_addresses, triple_at, address_of, place_at, find, tests_after, list_of}
 
 abbrev pub moved : Vec ℤ → Vec ℤ → Vec ℤ
 moved a o = vector (λ k. side a k +ℤ side o k)

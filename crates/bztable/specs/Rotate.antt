@@ -4,7 +4,7 @@ use Rattle.integer.specs.Checked.{pick}
 use Rattle.common.specs.Matrix.{Vec, Mat, ◌▹◌, same_vector}
 use Rattle.common.specs.Array.{vector_of, sides_of, matrix_of}
 use Rattle.common.specs.Limits.{matrix_within, diagonal_fits, shift_fits}
-use Rattle.common.specs.Tested.{require, Tested, Accepted}
+use Rattle.common.specs.Tested.{require, Tested, Accepted, ◌then◌}
 use Rattle.common.specs.declared.Refusal.TheVariants.{OutsideLimits, BadGridType, WrongLength}
 use Rattle.grgrid.specs.Grid.{size, index, double, halve}
 use Rattle.bzgrid.specs.declared.GridType.{GridType}
@@ -12,7 +12,7 @@ use Rattle.bzgrid.specs.declared.GridType.TheVariants.{Sparse, Dense, Unknown}
 use Rattle.bztable.specs.declared.rotate.Rotated.{Rotated}
 use Rattle.bztable.specs.declared.rotate.Rotated.TheVariants.{Image, Fallback}
 use Rattle.bzgrid.specs.BzGridAddresses.{grid_type_of, is_known}
-use Rattle.bztable.specs.Reading.{Read, got, outside, ◌then◌, whole_addresses, address_at, address_of, place_at, find}
+use Rattle.bztable.specs.Reading.{Read, got, outside, whole_addresses, address_at, address_of, place_at, find}
 
 -- double, rotate, halve toward zero
 abbrev pub turned : Mat ℤ → Vec ℤ → Vec ℤ → Vec ℤ

@@ -1,8 +1,8 @@
 use Rattle.std.proofs.Common.{◌≡◌, sym, ◌∙◌, ap, length, rules}
 use Rattle.std.proofs.lemmas.Result.{err_from_is_err_and}
-use Rattle.common.specs.Tested.{giving, Accepted}
+use Rattle.common.specs.Tested.{giving, Accepted, ◌then◌}
 use Rattle.bzgrid.proofs.Outcome.{mesh-fits}
-use Rattle.bztable.specs.Reading.{◌then◌, list_of}
+use Rattle.bztable.specs.Reading.{list_of}
 use Rattle.bztable.specs.Neighbours.{all_neighbours, neighbours_read}
 use Rattle.bztable.proofs.NeighbourCall.{input-accepted, read-none, read-some, after-tests, walk-answer, walk-output, none, some}
 use Rattle.bztable.proofs.neighbours.neighbour_tests.Goals as goal

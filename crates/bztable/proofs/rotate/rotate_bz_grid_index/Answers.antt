@@ -5,7 +5,8 @@ use Rattle.common.specs.Array.{vector_of, sides_of, matrix_of}
 use Rattle.grgrid.proofs.Accepted.{shift-sized}
 use Rattle.bzgrid.specs.BzGridAddresses.{grid_type_of}
 use Rattle.bzgrid.proofs.Outcome.{mesh-fits}
-use Rattle.bztable.specs.Reading.{◌then◌, address_of}
+use Rattle.common.specs.Tested.{◌then◌}
+use Rattle.bztable.specs.Reading.{address_of}
 use Rattle.bztable.specs.Rotate.{turned, image_of, rotate_read}
 use Rattle.bztable.proofs.Turning.{rotate-accepted, rotate-answered}
 use Rattle.bztable.proofs.rotate.rotate_bz_grid_index.Goals as goal

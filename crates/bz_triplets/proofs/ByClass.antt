@@ -16,7 +16,8 @@ use Rattle.integer.specs.Checked.{pick}
 use Rattle.common.specs.declared.Refusal.{Refusal}
 use Rattle.grgrid.specs.Own.{is_place, own_places, own_points}
 use Rattle.grgrid.proofs.Numbers.{own-more, own_same}
-use Rattle.bztable.specs.Reading.{Read, got, ◌then◌}
+use Rattle.common.specs.Tested.{◌then◌}
+use Rattle.bztable.specs.Reading.{Read, got}
 use Rattle.bz_triplets.specs.declared.choices.Step.{Step}
 use Rattle.bz_triplets.specs.declared.choices.Step.TheVariants as step
 use Rattle.bz_triplets.specs.declared.choices.Triplet.{Triplet}

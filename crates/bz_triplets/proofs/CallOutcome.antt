@@ -20,7 +20,7 @@ use Rattle.common.specs.Matrix.{Vec}
 use Rattle.common.specs.Array.{sides_of, matrix_of}
 use Rattle.common.specs.FloatMatrix.{float_matrix}
 use Rattle.common.specs.Limits.{matrix_within, diagonal_fits}
-use Rattle.common.specs.Tested.{giving, output_of, Tested, Accepted}
+use Rattle.common.specs.Tested.{giving, output_of, Tested, Accepted, ◌then◌}
 use Rattle.common.specs.declared.Refusal.{Refusal}
 use Rattle.common.specs.declared.Refusal.TheVariants.{WrongLength, OutsideLimits}
 use Rattle.common.proofs.Tests.{passed, same-ok}
@@ -31,7 +31,7 @@ use Rattle.bzgrid.specs.declared.GridType.{GridType}
 use Rattle.bzgrid.specs.declared.GridType.TheVariants.{Sparse, Dense, Unknown}
 use Rattle.bzgrid.specs.BzGridAddresses.{grid_type_of}
 use Rattle.bzsearch.specs.Lattice.{lattice_fits}
-use Rattle.bztable.specs.Reading.{Read, got, ◌then◌, whole_addresses, address_of, tests_after, list_of}
+use Rattle.bztable.specs.Reading.{Read, got, whole_addresses, address_of, tests_after, list_of}
 use Rattle.bz_triplets.specs.BzTriplets.{State, Walk, walk_of, point_of, triplet_of, triplet_at, read_each, input_tests, triplets_read, triplet_list, marks, lengths, lengths_for, bz_triplet_tests, bz_triplets_answer, triplets_written, left_written, left_length_written}
 use Rattle.bz_triplets.specs.TripletsView.{Room}
 

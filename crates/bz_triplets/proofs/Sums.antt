@@ -12,7 +12,8 @@ use Rattle.integer.proofs.Plain.{plain, fits-plain, plain-is, plain-within}
 use Rattle.common.specs.Matrix.{Vec}
 use Rattle.common.specs.Array.{Sized}
 use Rattle.common.proofs.Bounds.{p-sized}
-use Rattle.bztable.specs.Reading.{Read, got, ◌then◌, address_at}
+use Rattle.common.specs.Tested.{◌then◌}
+use Rattle.bztable.specs.Reading.{Read, got, address_at}
 use Rattle.bz_triplets.specs.declared.choices.Step.{Step}
 use Rattle.bz_triplets.specs.declared.choices.Step.TheVariants as step
 use Rattle.bz_triplets.specs.BzTriplets.{Walk, sum_of, tried_sum, try_read, try_at}

@@ -7,7 +7,7 @@ use Rattle.common.specs.Matrix.{Vec, Mat, side, vector, entry, matrix, map_vec, 
 use Rattle.common.specs.Array.{sides_of, matrix_of, items}
 use Rattle.common.specs.FloatMatrix.{floats, float_matrix}
 use Rattle.common.specs.Limits.{matrix_within, diagonal_fits, point_fits}
-use Rattle.common.specs.Tested.{require, output_of, Tested, Accepted}
+use Rattle.common.specs.Tested.{require, output_of, Tested, Accepted, ◌then◌}
 use Rattle.common.specs.declared.Refusal.TheVariants.{OutsideLimits, BadGridType, WrongLength}
 use Rattle.grgrid.specs.Grid.{size, index}
 use Rattle.grgrid.specs.Own.{own_places, own_points}
@@ -17,7 +17,7 @@ use Rattle.bzsearch.specs.Lattice.{bz_tolerance, lattice_fits}
 use Rattle.bzsearch.specs.Search.{length_squared}
 use Rattle.bzgrid.specs.Table.{listed}
 use Rattle.bzgrid.specs.BzGridAddresses.{grid_type_of, is_known}
-use Rattle.bztable.specs.Reading.{Read, got, outside, ◌then◌, whole_addresses, address_at, address_of, place_at, tests_after, list_of}
+use Rattle.bztable.specs.Reading.{Read, got, outside, whole_addresses, address_at, address_of, place_at, tests_after, list_of}
 use Rattle.triplet_grid.specs.Partner.{third}
 use Rattle.bz_triplets.specs.Choosing.{Found, start, left, closed, tried, nested}
 

@@ -8,7 +8,8 @@ use Rattle.common.specs.FloatMatrix.{float_vector}
 use Rattle.grgrid.specs.Own.{own_places}
 use Rattle.bzsearch.specs.SearchView.{float_nine}
 use Rattle.bzgrid.specs.Table.{listed}
-use Rattle.bztable.specs.Reading.{Read, got, ◌then◌}
+use Rattle.common.specs.Tested.{◌then◌}
+use Rattle.bztable.specs.Reading.{Read, got}
 use Rattle.bz_triplets.specs.declared.choices.Step.{Step}
 use Rattle.bz_triplets.specs.declared.choices.Step.TheVariants as step
 use Rattle.bz_triplets.specs.declared.choices.Triplet.{Triplet}

@@ -1,12 +1,12 @@
 // The triplet of a class, and the walk over the classes.
 ghost use Rattle.std.specs.Prelude.{◌≡◌, ◌++◌, ◌+◌, ◌*◌, ◌≤◌, ◌<◌, length, take, drop, IfOk};
-ghost use Rattle.common.specs.Tested.{giving};
+ghost use Rattle.common.specs.Tested.{giving, ◌then◌};
 ghost use Rattle.common.specs.Array.{vector_of, Sized};
 ghost use Rattle.grgrid.specs.Grid.{size};
 ghost use Rattle.grgrid.specs.Own.{own_points};
 ghost use Rattle.grgrid.specs.Sides.{sides};
 ghost use Rattle.bzgrid.specs.declared.GridType.TheVariants.{Sparse, Dense};
-ghost use Rattle.bztable.specs.Reading.{got, ◌then◌, vector_read};
+ghost use Rattle.bztable.specs.Reading.{got, vector_read};
 ghost use Rattle.bz_triplets.specs.BzTriplets.{places_read, chosen, first_of, triplet_of, read_each, places_of, mark_of, length_of, triplet_list, marks, lengths};
 ghost use Rattle.bz_triplets.specs.TripletsView.{state_of, state_read, places_listed, walk_by, step_place, TripletFits, Room};
 

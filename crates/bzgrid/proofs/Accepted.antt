@@ -1,45 +1,54 @@
 -- What the tests of the input leave known, and the call from them and the tables.
-use mathlib.Core.Path.{◌≡◌, sym, ◌∙◌, ap, ap₂}
-use mathlib.Core.Bool.{false, not, ◌&&◌}
+use mathlib.Core.Path.{◌≡◌, refl, sym, ◌∙◌, ap}
+use mathlib.Core.Bool.{Bool, true, false, not, ◌&&◌}
 use mathlib.Core.List.{List}
 use Prim.Native.Nat.{ℕ}
 use lib.Dec.{T}
 use lib.IntN.{ℤ}
 use lib.Ieee.{Float}
 use borrow.Author.Tests.{not-true}
-use Rattle.std.specs.Prelude.{Result, Err}
+use Rattle.std.specs.Prelude.{Result, Ok, Err}
 use Rattle.bzgrid.specs.declared.Lengths.{Lengths}
-use Rattle.common.specs.Tested.{Accepted}
+use Rattle.common.specs.Tested.{require, ◌then◌, told_of}
 use Rattle.integer.proofs.Test.{and_l, and_r, holds}
 use Rattle.common.specs.Array.{matrix_of}
 use Rattle.common.specs.FloatMatrix.{float_matrix}
 use Rattle.common.specs.Limits.{matrix_within, diagonal_fits, shift_fits}
 use Rattle.common.specs.declared.Refusal.{Refusal}
-use Rattle.common.specs.declared.Refusal.TheVariants.{OutsideLimits, BadGridType, NotUnimodularQ, SingularReciprocalLattice}
-use Rattle.common.proofs.Tests.{passed}
+use Rattle.common.specs.declared.Refusal.TheVariants.{OutsideLimits, NotUnimodularQ, SingularReciprocalLattice}
+use Rattle.common.proofs.Tests.{refused-not-ok}
 use Rattle.bzgrid.specs.declared.GridType.{GridType}
 use Rattle.bzsearch.specs.Lattice.{singular, lattice_fits}
 use Rattle.bzsearch.specs.Search.{Search, unimodular}
-use Rattle.bzgrid.specs.BzGridAddresses.{grid_type_of, is_known, search_of, within_limits, input_tests, build_answer, build_addresses, build_map, build_grg, answer_after, bz_answer, addresses_written, map_written, grg_written}
+use Rattle.bzgrid.specs.BzGridAddresses.{grid_type_of, search_of, within_limits, input_tests, build_answer, build_addresses, build_map, build_grg, bz_answer, addresses_written, map_written, grg_written}
 use Rattle.bzgrid.specs.Walked.{blank}
-use Rattle.bzgrid.proofs.Outcome.{left, wiped}
 
-pub record InputAccepted (d : List ℤ) (q : List (List ℤ)) (ps : List ℤ) (lattice : List (List Float)) (t : GridType) : Type 0 where
+-- ---- a call that gives a value passed each of its tests
+module _ {A : Type 0} {a : A} where
+  pub passes : (t : Bool) (r : Refusal) (rest : Result A Refusal) → require t r rest ≡ Ok a → (t ≡ true) × (rest ≡ Ok a)
+  passes true r rest e = (refl, e)
+  passes false r rest e = absurd (refused-not-ok e)
+
+  pub passes-first : {B : Type 0} (r : Result B Refusal) (f : B → Result A Refusal) → (r then f) ≡ Ok a → (b : B) × (r ≡ Ok b) × (f b ≡ Ok a)
+  passes-first (Ok b) f e = (b, refl, e)
+  passes-first (Err r) f e = absurd (refused-not-ok e)
+
+pub record InputAccepted (d : List ℤ) (q : List (List ℤ)) (ps : List ℤ) (lattice : List (List Float)) (t : ℤ) (k : GridType) : Type 0 where
   pub grid : T (diagonal_fits d)
   pub entries : T (matrix_within 1000 (matrix_of q))
   pub shift : T (shift_fits ps)
   pub bounded : T (lattice_fits (float_matrix lattice))
-  pub known : T (is_known t)
+  pub known : grid_type_of t ≡ Ok k
   pub unit : T (unimodular (matrix_of q))
   pub regular : singular (float_matrix lattice) ≡ false
 
-pub input-accepted : (d : List ℤ) (q : List (List ℤ)) (ps : List ℤ) (lattice : List (List Float)) (t : GridType) → input_tests d q ps lattice t ≡ Accepted → InputAccepted d q ps lattice t
+pub input-accepted : (d : List ℤ) (q : List (List ℤ)) (ps : List ℤ) (lattice : List (List Float)) (t : ℤ) {k : GridType} → input_tests d q ps lattice t ≡ Ok k → InputAccepted d q ps lattice t k
 unfolding input_tests
-input-accepted d q ps lattice t e =
-    let a = passed (within_limits d q ps lattice) OutsideLimits _ e in
-    let b = passed (is_known t) BadGridType _ a.1 in
-    let c = passed (unimodular (matrix_of q)) NotUnimodularQ _ b.1 in
-    let f = passed (not (singular (float_matrix lattice))) SingularReciprocalLattice _ c.1 in
+input-accepted d q ps lattice t {k} e =
+    let a = passes (within_limits d q ps lattice) OutsideLimits _ e in
+    let b = passes-first (grid_type_of t) _ a.1 in
+    let c = passes (unimodular (matrix_of q)) NotUnimodularQ _ b.2 in
+    let f = passes (not (singular (float_matrix lattice))) SingularReciprocalLattice _ c.1 in
     let g = and_r (diagonal_fits d) (matrix_within 1000 (matrix_of q) && (shift_fits ps && lattice_fits (float_matrix lattice))) (holds a.0) in
     let h = and_r (matrix_within 1000 (matrix_of q)) (shift_fits ps && lattice_fits (float_matrix lattice)) g in
     record {
@@ -47,28 +56,46 @@ input-accepted d q ps lattice t e =
       entries = and_l (matrix_within 1000 (matrix_of q)) (shift_fits ps && lattice_fits (float_matrix lattice)) g;
       shift = and_l (shift_fits ps) (lattice_fits (float_matrix lattice)) h;
       bounded = and_r (shift_fits ps) (lattice_fits (float_matrix lattice)) h;
-      known = holds b.0;
+      known = b.1 ∙ f.1;
       unit = holds c.0;
       regular = not-true (singular (float_matrix lattice)) f.0;
     }
 
 module _ (d : List ℤ) (q : List (List ℤ)) (ps : List ℤ) (lattice : List (List Float)) where
+  -- ---- the tests that follow that of the limits
+  pub typed : (t : ℤ) {r : Result GridType Refusal} {u v : Bool} → true ≡ within_limits d q ps lattice → r ≡ grid_type_of t → u ≡ unimodular (matrix_of q) → v ≡ singular (float_matrix lattice)
+      → (r then λ k. require u NotUnimodularQ (require (not v) SingularReciprocalLattice (Ok k))) ≡ input_tests d q ps lattice t
+  unfolding input_tests
+  typed t b e f g = λ i. require (b i) OutsideLimits (e i then λ k. require (f i) NotUnimodularQ (require (not (g i)) SingularReciprocalLattice (Ok k)))
+
   -- ---- the call, with outputs of lengths x, y and z
   module _ (t : ℤ) (x y z : ℕ) where
     abbrev Answers : Result Lengths Refusal → (a m b : List ℤ) → Type 0
     Answers r a m b = (r ≡ bz_answer d q ps lattice t x y z) × ((a ≡ addresses_written d q ps lattice t x y z) × ((m ≡ map_written d q ps lattice t x y z) × (b ≡ grg_written d q ps lattice t x y z)))
 
-    pub accepted-call : input_tests d q ps lattice (grid_type_of t) ≡ Accepted → {k : GridType} {s : Search} → k ≡ grid_type_of t → s ≡ search_of d q ps lattice
+    abbrev answer : GridType → Result Lengths Refusal
+    answer k = build_answer k (search_of d q ps lattice) x y z
+
+    abbrev addresses : GridType → List ℤ
+    addresses k = build_addresses k (search_of d q ps lattice) x y z
+
+    abbrev map : GridType → List ℤ
+    map k = build_map k (search_of d q ps lattice) x y z
+
+    abbrev grg : GridType → List ℤ
+    grg k = build_grg k (search_of d q ps lattice) x y z
+
+    pub accepted-call : {k : GridType} {s : Search} → input_tests d q ps lattice t ≡ Ok k → s ≡ search_of d q ps lattice
         → {r : Result Lengths Refusal} {a m b : List ℤ} → r ≡ build_answer k s x y z → a ≡ build_addresses k s x y z → m ≡ build_map k s x y z → b ≡ build_grg k s x y z → Answers r a m b
     unfolding bz_answer addresses_written map_written grg_written
-    accepted-call h ek es e p q' w = (
-      e ∙ ap₂ (λ k s. build_answer k s x y z) ek es ∙ ap (answer_after d q ps lattice t x y z) (sym h),
+    accepted-call {k} h es e p q' w = (
+      e ∙ ap (λ s. build_answer k s x y z) es ∙ ap (λ r. r then answer) (sym h),
       (
-        left x _ h (p ∙ ap₂ (λ k s. build_addresses k s x y z) ek es),
-        (left y _ h (q' ∙ ap₂ (λ k s. build_map k s x y z) ek es), left z _ h (w ∙ ap₂ (λ k s. build_grg k s x y z) ek es)),
+        p ∙ ap (λ s. build_addresses k s x y z) es ∙ ap (told_of addresses x) (sym h),
+        (q' ∙ ap (λ s. build_map k s x y z) es ∙ ap (told_of map y) (sym h), w ∙ ap (λ s. build_grg k s x y z) es ∙ ap (told_of grg z) (sym h)),
       ),
     )
 
-    pub refused-call : {r : Refusal} → input_tests d q ps lattice (grid_type_of t) ≡ Err r → {a m b : List ℤ} → a ≡ blank x → m ≡ blank y → b ≡ blank z → Answers (Err r) a m b
+    pub refused-call : {r : Refusal} → input_tests d q ps lattice t ≡ Err r → {a m b : List ℤ} → a ≡ blank x → m ≡ blank y → b ≡ blank z → Answers (Err r) a m b
     unfolding bz_answer addresses_written map_written grg_written
-    refused-call h p q' w = (ap (answer_after d q ps lattice t x y z) (sym h), (wiped x (build_addresses (grid_type_of t) (search_of d q ps lattice) x y z) h p, (wiped y (build_map (grid_type_of t) (search_of d q ps lattice) x y z) h q', wiped z (build_grg (grid_type_of t) (search_of d q ps lattice) x y z) h w)))
+    refused-call h p q' w = (ap (λ r. r then answer) (sym h), (p ∙ ap (told_of addresses x) (sym h), (q' ∙ ap (told_of map y) (sym h), w ∙ ap (told_of grg z) (sym h))))

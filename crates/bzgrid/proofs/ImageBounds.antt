@@ -1,7 +1,7 @@
 -- Images with their point, and sizes: the numbers of an image, and how many images there are.
 use mathlib.Core.Path.{◌≡◌, refl, sym, ◌∙◌, ap, subst}
 use mathlib.Core.List.{List, map, map-map, map-id}
-use Prim.Native.Nat.{ℕ, zero, suc, ◌+◌, ◌≤◌, ◌<◌, zero-le}
+use Prim.Native.Nat.{ℕ, zero, suc, ◌+◌, ◌≤◌, ◌<◌}
 use native.Mathlib.Nat.{le_trans, le_of_lt, le_of_eq, mul-le-mul_right}
 use native.Mathlib.Omega.{arith}
 use lib.Dec.{lit≤}
@@ -14,7 +14,7 @@ use Rattle.grgrid.specs.Grid.{size, digits, address}
 use Rattle.grgrid.proofs.Lists.{◌∈◌}
 use Rattle.grgrid.proofs.Folding.{Sides, digits-within}
 use Rattle.bzgrid.specs.declared.GridType.{GridType}
-use Rattle.bzgrid.specs.declared.GridType.TheVariants.{Sparse, Dense, Unknown}
+use Rattle.bzgrid.specs.declared.GridType.TheVariants.{Sparse, Dense}
 use Rattle.bzsearch.specs.Search.{Search, set_bz_address, images, rows}
 use Rattle.bzgrid.specs.Table.{Image, image_of, images_at, first, others, sparse}
 use Rattle.bzgrid.specs.BzGridAddresses.{table_of}
@@ -95,4 +95,3 @@ module _ (s : Search) (n : ℕ) (h : n ≤ 65536) where
   pub images-total : (t : GridType) → length (table_of t (images_at s) n) ≤ 2363359232
   images-total Sparse = le_trans (le_of_eq (sparse-length (images_at s) n)) rows-total
   images-total Dense = rows-total
-  images-total Unknown = zero-le

@@ -13,19 +13,19 @@ use Rattle.integer.proofs.Test.{and_l, and_r, holds}
 use Rattle.common.specs.Matrix.{Axis, X, Y, Z, Vec, side}
 use Rattle.common.specs.Array.{sides_of}
 use Rattle.common.specs.Limits.{diagonal_fits}
-use Rattle.common.specs.Tested.{require, output_of, Tested, Accepted}
+use Rattle.common.specs.Tested.{require, output_of, Tested, Accepted, giving}
 use Rattle.common.specs.declared.Refusal.{Refusal}
 use Rattle.common.specs.declared.Refusal.TheVariants.{SearchFailed, WrongLength}
 use Rattle.common.proofs.Matrix.{side-vector}
 use Rattle.grgrid.specs.Grid.{size}
 use Rattle.grgrid.proofs.Accepted.{side-small, few-points, grid-fits}
 use Rattle.bzgrid.specs.declared.GridType.{GridType}
-use Rattle.bzgrid.specs.declared.GridType.TheVariants.{Sparse, Dense, Unknown}
+use Rattle.bzgrid.specs.declared.GridType.TheVariants.{Sparse, Dense}
 use Rattle.bzgrid.specs.declared.Lengths.{Lengths}
 use Rattle.std.specs.Prelude.{Option, Some, None}
 use Rattle.bzsearch.specs.Search.{Search}
 use Rattle.bzgrid.specs.Table.{Image, images_at, dense_map, sparse_map, doubled, address_list, point_list}
-use Rattle.bzgrid.specs.BzGridAddresses.{is_known, is_sparse, table_of, map_of, map_length, all_found, lengths_of, has_room, answer_for, padded, build_tests, build_answer, build_addresses, build_map, build_grg}
+use Rattle.bzgrid.specs.BzGridAddresses.{is_sparse, table_of, map_of, map_length, all_found, lengths_of, has_room, padded, build_tests, build_answer, build_addresses, build_map, build_grg}
 use Rattle.bzgrid.specs.Writing.{if_sparse, with_mesh}
 use Rattle.bzgrid.specs.Walked.{walk_of, blank, WrittenTo, lengths_for, judged, is_built, Filled, MeshFits}
 use Rattle.bzgrid.proofs.Layouts.{table, length-table, addresses-laid, points-laid}
@@ -42,20 +42,17 @@ told-missing false k e = refl
 
 -- ---- by the layout
 module _ (d : Vec ℕ) (g : ℕ → List Image) where
-  table_is : (t : GridType) → T (is_known t) → table_of t g (size d) ≡ table g (is_sparse t) (size d)
-  table_is Sparse k = refl
-  table_is Dense k = refl
-  table_is Unknown k = absurd k
+  table_is : (t : GridType) → table_of t g (size d) ≡ table g (is_sparse t) (size d)
+  table_is Sparse = refl
+  table_is Dense = refl
 
-  map_is : (t : GridType) → T (is_known t) → map_of t d g ≡ pick (is_sparse t) (sparse_map d g) (dense_map g (size d))
-  map_is Sparse k = refl
-  map_is Dense k = refl
-  map_is Unknown k = absurd k
+  map_is : (t : GridType) → map_of t d g ≡ pick (is_sparse t) (sparse_map d g) (dense_map g (size d))
+  map_is Sparse = refl
+  map_is Dense = refl
 
-  map-length : (t : GridType) → T (is_known t) → if_sparse (is_sparse t) (8 * size d) + (size d + 1) ≡ map_length t d
-  map-length Sparse k = refl
-  map-length Dense k = omega arith
-  map-length Unknown k = absurd k
+  map-length : (t : GridType) → if_sparse (is_sparse t) (8 * size d) + (size d + 1) ≡ map_length t d
+  map-length Sparse = refl
+  map-length Dense = omega arith
 
 -- ---- the grid and the doubled mesh
 pub mesh-of : (l : List ℤ) → T (diagonal_fits l) → MeshFits (sides_of l)
@@ -109,9 +106,9 @@ module _ (t : GridType) (s : Search) (x y z : ℕ) where
 
     pub failed : None ≡ walk_of sp g k → Err SearchFailed ≡ build_answer t s x y z
     unfolding build_answer build_tests
-    failed e = sym (ap (λ f. answer_for (tests f (has_room (lengths_of t s.d g) x y z)) (lengths_of t s.d g)) (told-missing (all_found g n) _ (told e)))
+    failed e = sym (ap (λ f. giving (tests f (has_room (lengths_of t s.d g) x y z)) (lengths_of t s.d g)) (told-missing (all_found g n) _ (told e)))
 
-    module _ (known : T (is_known t)) {m : ℕ} (e : Some m ≡ walk_of sp g k) where
+    module _ {m : ℕ} (e : Some m ≡ walk_of sp g k) where
       found : all_found g n ≡ true
       found = (told-images (all_found g n) _ (told e)).0
 
@@ -121,13 +118,13 @@ module _ (t : GridType) (s : Search) (x y z : ℕ) where
       lengths : lengths_for sp k m ≡ lengths_of t s.d g
       lengths =
           ap₂ (λ b j. lengths_for b j m) es ek
-          ∙ ap₂ (λ c j. record { addresses = 3 * c; map = j; grg = c }) (count ∙ ap length (sym (table_is s.d g t known))) (map-length s.d g t known)
+          ∙ ap₂ (λ c j. record { addresses = 3 * c; map = j; grg = c }) (count ∙ ap length (sym (table_is s.d g t))) (map-length s.d g t)
 
       pub answered : judged (lengths_for sp k m) x y z ≡ build_answer t s x y z
       unfolding build_answer build_tests
-      answered = ap (λ l. judged l x y z) lengths ∙ by (has_room (lengths_of t s.d g) x y z) ∙ ap (λ f. answer_for (tests f (has_room (lengths_of t s.d g) x y z)) (lengths_of t s.d g)) (sym found)
+      answered = ap (λ l. judged l x y z) lengths ∙ by (has_room (lengths_of t s.d g) x y z) ∙ ap (λ f. giving (tests f (has_room (lengths_of t s.d g) x y z)) (lengths_of t s.d g)) (sym found)
         where
-          by : (h : Bool) → pick h (Ok (lengths_of t s.d g)) (Err WrongLength) ≡ answer_for (tests true h) (lengths_of t s.d g)
+          by : (h : Bool) → pick h (Ok (lengths_of t s.d g)) (Err WrongLength) ≡ giving (tests true h) (lengths_of t s.d g)
           by true = refl
           by false = refl
 
@@ -138,9 +135,9 @@ module _ (t : GridType) (s : Search) (x y z : ℕ) where
         pub filled : {a m₁ b m₂ : List ℤ} {d : Vec ℕ} → (T (all_found g k) → WrittenTo sp g k (if_sparse sp (8 * k)) (blank x) (blank y) (blank z) a m₁ b)
             → d ≡ doubled s.d → m₂ ≡ with_mesh sp d a m m₁ → Filled t s x y z a m₂ b
         filled {a} {m₁} {b} h ed q = record {
-          addresses = laid ∙ ap (λ xs. padded (address_list xs) x) (sym (table_is s.d g t known));
-          map = q ∙ (λ i. with_mesh (es i) (ed i) (laid i) (count i) (w.map i)) ∙ mapped s.d g y (is_sparse t) x room.1 ∙ ap (λ l. padded l y) (sym (map_is s.d g t known));
-          grg = w.grg ∙ points-laid g (is_sparse t) n x z (holds found) (subst (λ k. k ≤ z) count room.2) ∙ ap (λ xs. padded (point_list xs) z) (sym (table_is s.d g t known));
+          addresses = laid ∙ ap (λ xs. padded (address_list xs) x) (sym (table_is s.d g t));
+          map = q ∙ (λ i. with_mesh (es i) (ed i) (laid i) (count i) (w.map i)) ∙ mapped s.d g y (is_sparse t) x room.1 ∙ ap (λ l. padded l y) (sym (map_is s.d g t));
+          grg = w.grg ∙ points-laid g (is_sparse t) n x z (holds found) (subst (λ k. k ≤ z) count room.2) ∙ ap (λ xs. padded (point_list xs) z) (sym (table_is s.d g t));
         }
           where
             w : WrittenTo (is_sparse t) g n (if_sparse (is_sparse t) (8 * n)) (blank x) (blank y) (blank z) a m₁ b
@@ -150,11 +147,11 @@ module _ (t : GridType) (s : Search) (x y z : ℕ) where
             laid = w.addresses ∙ addresses-laid g (is_sparse t) n x z (holds found) (subst (λ k. 3 * k ≤ x) count room.0)
 
 -- ---- -1 in every place where the tables are refused
-accepts : (x : Tested) (k : Lengths) {l : Lengths} → Ok l ≡ answer_for x k → x ≡ Accepted
+accepts : (x : Tested) (k : Lengths) {l : Lengths} → Ok l ≡ giving x k → x ≡ Accepted
 accepts (Ok _) k e = refl
 accepts (Err r) k e = let z : ◌≡◌ {A = Bool} false true = cc in absurd (false≢true z)
 
-refuses : (x : Tested) (k : Lengths) {r : Refusal} → Err r ≡ answer_for x k → x ≡ Err r
+refuses : (x : Tested) (k : Lengths) {r : Refusal} → Err r ≡ giving x k → x ≡ Err r
 refuses (Ok _) k e = let z : ◌≡◌ {A = Bool} false true = cc in absurd (false≢true z)
 refuses (Err r) k e = cc
 

@@ -10,18 +10,31 @@ ghost use Rattle.bzgrid.specs.Table.{images_at, doubled};
 ghost use Rattle.bzgrid.specs.Writing.{if_sparse, placed_flat, with_mesh};
 ghost use Rattle.bzgrid.specs.Walked.{walk_of, images_in, blank, WrittenTo, lengths_for, judged, is_built, Filled, MeshFits};
 ghost use Rattle.bzsearch.specs.SearchView.{search_of};
-ghost use Rattle.bzgrid.specs.BzGridAddresses.{grid_type_of, is_known, is_sparse, all_found, within_limits, input_tests, has_room, build_answer, build_addresses, build_map, build_grg, bz_answer, addresses_written, map_written, grg_written};
+ghost use Rattle.bzgrid.specs.BzGridAddresses.{grid_type_of, is_sparse, all_found, within_limits, input_tests, has_room, build_answer, build_addresses, build_map, build_grg, bz_answer, addresses_written, map_written, grg_written};
 
 use bzsearch::BzSearch;
 use common::Refusal;
 use grgrid::Grid;
 
 // The layout of an image table: type 1 is sparse, type 2 dense.
-#[derive(Clone, Copy)]
+#[derive(Clone, Copy, Debug, PartialEq, Eq)]
 pub enum GridType {
     Sparse,
     Dense,
-    Unknown,
+}
+
+impl TryFrom<i64> for GridType {
+    type Error = Refusal;
+
+    ghost try_from_gives = { λ t r. r ≡ grid_type_of t };
+
+    fn try_from(t: i64) -> Result<GridType, Refusal> {
+        match t {
+            1 => Ok(GridType::Sparse),
+            2 => Ok(GridType::Dense),
+            _ => Err(Refusal::BadGridType),
+        }
+    }
 }
 
 // In places.
@@ -30,18 +43,6 @@ pub struct Lengths {
     pub addresses: usize,
     pub map: usize,
     pub grg: usize,
-}
-
-pub fn grid_type(t: i64) -> GridType
-    ensures { result ≡ grid_type_of t }
-{
-    if t == 1 {
-        return GridType::Sparse;
-    }
-    if t == 2 {
-        return GridType::Dense;
-    }
-    GridType::Unknown
 }
 
 fn within_limits(d: [i64; 3], q: [[i64; 3]; 3], ps: [i64; 3], lattice: [[f64; 3]; 3]) -> bool
@@ -53,52 +54,37 @@ fn within_limits(d: [i64; 3], q: [[i64; 3]; 3], ps: [i64; 3], lattice: [[f64; 3]
         && bzsearch::lattice_fits(lattice)
 }
 
+#[tactic(auto, unfolding(crate::specs::BzGridAddresses::input_tests))]
 fn input_tests(
     d: [i64; 3],
     q: [[i64; 3]; 3],
     ps: [i64; 3],
     lattice: [[f64; 3]; 3],
-    t: GridType,
-) -> Result<(), Refusal>
-    ensures { result ≡ input_tests d q ps lattice t }
+    bz_grid_type: i64,
+) -> Result<GridType, Refusal>
+    ensures { result ≡ input_tests d q ps lattice bz_grid_type }
 {
     if !within_limits(d, q, ps, lattice) {
         return Err(Refusal::OutsideLimits);
     }
-    if !is_known(t) {
-        return Err(Refusal::BadGridType);
-    }
+    let t = GridType::try_from(bz_grid_type)?;
     if !bzsearch::is_unimodular(q) {
         return Err(Refusal::NotUnimodularQ);
     }
     if bzsearch::is_singular(lattice) {
         return Err(Refusal::SingularReciprocalLattice);
     }
-    Ok(())
-}
-
-pub fn is_known(t: GridType) -> bool
-    ensures { result ≡ is_known t }
-{
-    match t {
-        GridType::Sparse => true,
-        GridType::Dense => true,
-        GridType::Unknown => false,
-    }
+    Ok(t)
 }
 
 fn is_sparse(t: GridType) -> bool
     ensures { result ≡ is_sparse t }
 {
-    match t {
-        GridType::Sparse => true,
-        GridType::Dense => false,
-        GridType::Unknown => false,
-    }
+    t == GridType::Sparse
 }
 
-// -1 in every place of the three.
-fn wipe(addresses: &mut [i64], map: &mut [i64], grg: &mut [i64])
+// -1 in every place of the three. Outputs as slices: see docs/DECISIONS.md, "Output slices".
+pub fn wipe(addresses: &mut [i64], map: &mut [i64], grg: &mut [i64])
     ensures addresses_after { addresses.new ≡ replicate (length addresses.old) (negsuc 0) }
     ensures map_after { map.new ≡ replicate (length map.old) (negsuc 0) }
     ensures grg_after { grg.new ≡ replicate (length grg.old) (negsuc 0) }
@@ -212,7 +198,6 @@ fn fill_tables(
     map: &mut [i64],
     grg: &mut [i64],
 ) -> Result<Lengths, Refusal>
-    requires { T (is_known t) }
     ensures value { result ≡ build_answer t (search_of s) (length addresses.old) (length map.old) (length grg.old) }
     ensures filled { T (is_built result) → Filled t (search_of s) (length addresses.old) (length map.old) (length grg.old) addresses.new map.new grg.new }
 {
@@ -240,7 +225,6 @@ fn build(
     map: &mut [i64],
     grg: &mut [i64],
 ) -> Result<Lengths, Refusal>
-    requires { T (is_known t) }
     ensures value { result ≡ build_answer t (search_of s) (length addresses.old) (length map.old) (length grg.old) }
     ensures addresses_after { addresses.new ≡ build_addresses t (search_of s) (length addresses.old) (length map.old) (length grg.old) }
     ensures map_after { map.new ≡ build_map t (search_of s) (length addresses.old) (length map.old) (length grg.old) }
@@ -271,9 +255,8 @@ pub fn bz_grid_addresses(
     ensures map_after { map.new ≡ map_written d q ps lattice bz_grid_type (length addresses.old) (length map.old) (length grg.old) }
     ensures grg_after { grg.new ≡ grg_written d q ps lattice bz_grid_type (length addresses.old) (length map.old) (length grg.old) }
 {
-    let t = grid_type(bz_grid_type);
-    match input_tests(d, q, ps, lattice, t) {
-        Ok(()) => build(BzSearch::new(d, ps, q, lattice), t, addresses, map, grg),
+    match input_tests(d, q, ps, lattice, bz_grid_type) {
+        Ok(t) => build(BzSearch::new(d, ps, q, lattice), t, addresses, map, grg),
         Err(r) => {
             wipe(addresses, map, grg);
             Err(r)

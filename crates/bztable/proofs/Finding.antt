@@ -19,7 +19,8 @@ use Rattle.common.specs.Matrix.{Vec, same_vector}
 use Rattle.common.specs.Array.{vector_of}
 use Rattle.common.specs.declared.Refusal.{Refusal}
 use Rattle.bzgrid.specs.declared.GridType.TheVariants.{Sparse}
-use Rattle.bztable.specs.Reading.{Read, got, ◌then◌, address_at, find}
+use Rattle.common.specs.Tested.{◌then◌}
+use Rattle.bztable.specs.Reading.{Read, got, address_at, find}
 use Rattle.bztable.specs.Rotate.{among_range, among_images}
 
 -- ---- `==` of two addresses

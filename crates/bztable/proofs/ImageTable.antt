@@ -13,7 +13,7 @@ use Rattle.grgrid.proofs.Lists.{◌∈◌, Distinct}
 use Rattle.bzgrid.specs.declared.GridType.{GridType}
 use Rattle.bzsearch.specs.Search.{Search, images}
 use Rattle.bzgrid.specs.Table.{Image, images_at, address_list, point_list}
-use Rattle.bzgrid.specs.BzGridAddresses.{is_known, table_of, map_of, all_found, padded}
+use Rattle.bzgrid.specs.BzGridAddresses.{table_of, map_of, all_found, padded}
 use Rattle.bztable.specs.Access.{number_in, image_places}
 use Rattle.bztable.specs.Reading.{triple_at}
 use Rattle.bzsearch.proofs.Listing.{map-apart}
@@ -32,7 +32,7 @@ pub record Stands (t : GridType) (s : Search) (addresses map points : List ℤ) 
   pub owner : (i : ℕ) → i < m → (p : ℕ) × (p < size s.d) × (i ∈ image_places t map (size s.d) p)
 
 -- the tables of an accepted call, in outputs of a, b and c places
-module _ (s : Search) (t : GridType) (known : T (is_known t)) (some : T (all_found (images_at s) (size s.d))) (a b c : ℕ) where
+module _ (s : Search) (t : GridType) (some : T (all_found (images_at s) (size s.d))) (a b c : ℕ) where
   abbrev n : ℕ
   n = size s.d
 
@@ -48,7 +48,7 @@ module _ (s : Search) (t : GridType) (known : T (is_known t)) (some : T (all_fou
   pub table-stands : Stands t s (padded (address_list table) a) (padded (map_of t s.d (images_at s)) b) (padded (point_list table) c) (length table)
   table-stands = record {
     reads = λ p l. ap (map_list (triple_at (padded (address_list table) a))) (as-placed p l)
-        ∙ read-places (images_at s) n each (triple_at (padded (address_list table) a)) (λ x. x.address) t known (address-reads table (replicate (a - length (address_list table)) (negsuc 0))) p l
+        ∙ read-places (images_at s) n each (triple_at (padded (address_list table) a)) (λ x. x.address) t (address-reads table (replicate (a - length (address_list table)) (negsuc 0))) p l
         ∙ images-addresses s p;
     names = λ p l {i} m. sym (of_map (λ v. p) (images s p) (subst (λ l. number_in points i ∈ l) (told p l) (map-in (number_in points) m))).2;
     inside = λ p l {i} m. place-below (images_at s) n each t p l (subst (λ l. i ∈ l) (as-placed p l) m);
@@ -61,7 +61,7 @@ module _ (s : Search) (t : GridType) (known : T (is_known t)) (some : T (all_fou
       told : (p : ℕ) → p < n → map_list (number_in points) (image_places t (padded (map_of t s.d (images_at s)) b) n p) ≡ map_list (λ v. p) (images s p)
       told p l =
           ap (map_list (number_in points)) (as-placed p l)
-          ∙ read-places (images_at s) n each (number_in points) (λ x. x.point) t known (point-reads table (replicate (c - length (point_list table)) (negsuc 0))) p l ∙ images-points s p
+          ∙ read-places (images_at s) n each (number_in points) (λ x. x.point) t (point-reads table (replicate (c - length (point_list table)) (negsuc 0))) p l ∙ images-points s p
 
 -- ---- what follows
 module _ {t : GridType} {s : Search} {addresses map points : List ℤ} {m : ℕ} (w : Stands t s addresses map points m) where

@@ -8,17 +8,18 @@ use lib.Dec.{T, eqb}
 use lib.IntN.{ℤ, negsuc}
 use lib.ListN.{length, replicate}
 use borrow.Author.Tests.{eqb-true}
-use Rattle.std.specs.Prelude.{Ok, Err, is_err}
+use Rattle.std.specs.Prelude.{Result, Ok, Err, is_err}
 use Rattle.integer.proofs.Test.{holds}
 use Rattle.common.specs.Array.{sides_of}
 use Rattle.common.specs.Limits.{all_within, diagonal_fits}
-use Rattle.common.specs.Tested.{giving, output_of, Tested, Accepted}
+use Rattle.common.specs.Tested.{giving, output_of, Tested, Accepted, ◌then◌}
+use Rattle.common.specs.declared.Refusal.{Refusal}
 use Rattle.common.specs.declared.Refusal.TheVariants.{WrongLength, OutsideLimits}
 use Rattle.common.proofs.Tests.{passed}
 use Rattle.bzgrid.specs.declared.GridType.{GridType}
 use Rattle.bzgrid.specs.BzGridAddresses.{grid_type_of}
-use Rattle.bztable.specs.Reading.{Read, got, ◌then◌, whole_addresses, tests_after, list_of}
-use Rattle.bztable.specs.Neighbours.{all_neighbours, read_for, input_tests, neighbours_read, neighbour_tests, neighbours_answer, neighbours_written}
+use Rattle.bztable.specs.Reading.{Read, got, whole_addresses, tests_after, list_of}
+use Rattle.bztable.specs.Neighbours.{all_neighbours, read_for, input_tests, neighbours_read, neighbours_answer, neighbours_written}
 
 -- ---- the tests of the input
 pub record InputAccepted (points : ℕ) (offsets d : List ℤ) (n : ℕ) : Type 0 where
@@ -26,9 +27,9 @@ pub record InputAccepted (points : ℕ) (offsets d : List ℤ) (n : ℕ) : Type 
   pub grid : T (diagonal_fits d)
   pub steps : T (all_within 1000 offsets)
 
-pub input-accepted : (points : ℕ) (offsets addresses d : List ℤ) (t : GridType) (n : ℕ) → input_tests points offsets addresses d t n ≡ Accepted → InputAccepted points offsets d n
+pub input-accepted : (points : ℕ) (offsets addresses d : List ℤ) (n : ℕ) → input_tests points offsets addresses d n ≡ Accepted → InputAccepted points offsets d n
 unfolding input_tests
-input-accepted points offsets addresses d t n e =
+input-accepted points offsets addresses d n e =
     let a = passed (whole_addresses offsets) WrongLength _ e in
     let b = passed (whole_addresses addresses) WrongLength _ a.1 in
     let c = passed (eqb n (points * (length offsets / 3))) WrongLength _ b.1 in
@@ -37,25 +38,32 @@ input-accepted points offsets addresses d t n e =
     record { places = eqb-true n (points * (length offsets / 3)) c.0; grid = holds f.0; steps = holds g.0 }
 
 -- ---- the walk
-module _ (points offsets addresses map d : List ℤ) (t : GridType) (n : ℕ) where
+module _ (points offsets addresses map d : List ℤ) (t : ℤ) (n : ℕ) where
   abbrev read : Read (List ℤ)
   read = neighbours_read points offsets addresses map d t n
 
+  abbrev all : GridType → Read (List ℤ)
+  all k = all_neighbours k (sides_of d) offsets addresses map points
+
   pub read-none : n ≡ 0 → read ≡ got []
   unfolding neighbours_read
-  read-none e = ap (λ n. read_for n (all_neighbours t (sides_of d) offsets addresses map points)) e
+  read-none e = ap (λ n. read_for n (grid_type_of t then all)) e
 
-  pub read-some : (n ≡ 0 → ⊥) → read ≡ all_neighbours t (sides_of d) offsets addresses map points
+  pub read-some : (n ≡ 0 → ⊥) → {r : Result GridType Refusal} → r ≡ grid_type_of t → read ≡ (r then all)
   unfolding neighbours_read
-  read-some h = some n h
+  read-some h e = some n h ∙ ap (λ r. r then all) (sym e)
     where
-      some : (n : ℕ) → (n ≡ 0 → ⊥) → read_for n (all_neighbours t (sides_of d) offsets addresses map points) ≡ all_neighbours t (sides_of d) offsets addresses map points
+      some : (n : ℕ) → (n ≡ 0 → ⊥) → read_for n (grid_type_of t then all) ≡ (grid_type_of t then all)
       some zero h = absurd (h refl)
       some (suc n) h = refl
 
-  pub after-tests : {s : Tested} → s ≡ input_tests (length points) offsets addresses d t n → tests_after s read ≡ neighbour_tests points offsets addresses map d t n
-  unfolding neighbour_tests
+  pub after-tests : {s : Tested} → s ≡ input_tests (length points) offsets addresses d n → tests_after s read ≡ neighbours_answer points offsets addresses map d t n
+  unfolding neighbours_answer
   after-tests e = ap (λ s. tests_after s read) e
+
+  pub call-output : {s : Tested} → s ≡ neighbours_answer points offsets addresses map d t n → output_of s n (list_of read) ≡ neighbours_written points offsets addresses map d t n
+  unfolding neighbours_written
+  call-output f = ap (λ s. output_of s n (list_of read)) f
 
   -- where the walk gave r and left `out`
   module _ (r : Tested) (out : List ℤ) (w : giving r out ≡ read) where
@@ -95,15 +103,3 @@ module _ (s : Tested) (n : ℕ) (l : List ℤ) where
       go : (s : Tested) → is_err s ≡ false → (s ≡ Accepted) × (l ≡ output_of s n l)
       go (Ok _) e = (refl, refl)
       go (Err r) e = absurd (true≢false e)
-
--- ---- the call
-module _ (points offsets addresses map d : List ℤ) (z : ℤ) (n : ℕ) {t : GridType} (e : t ≡ grid_type_of z) where
-  pub call-answer : {s : Tested} → s ≡ neighbour_tests points offsets addresses map d t n → s ≡ neighbours_answer points offsets addresses map d z n
-  unfolding neighbours_answer
-  call-answer f = f ∙ ap (λ t. neighbour_tests points offsets addresses map d t n) e
-
-  pub call-output : {s : Tested} → s ≡ neighbour_tests points offsets addresses map d t n → output_of s n (list_of (neighbours_read points offsets addresses map d t n)) ≡ neighbours_written points offsets addresses map d z n
-  unfolding neighbours_written
-  call-output f =
-      ap (λ s. output_of s n (list_of (neighbours_read points offsets addresses map d t n))) f
-      ∙ ap (λ t. output_of (neighbour_tests points offsets addresses map d t n) n (list_of (neighbours_read points offsets addresses map d t n))) e

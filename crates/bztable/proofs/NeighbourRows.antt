@@ -13,7 +13,8 @@ use Rattle.std.specs.Prelude.{Err}
 use Rattle.common.specs.Matrix.{Vec}
 use Rattle.common.specs.Array.{vector_of, items, row_at}
 use Rattle.common.specs.declared.Refusal.{Refusal}
-use Rattle.bztable.specs.Reading.{Read, got, ◌then◌, triple_at, address_of}
+use Rattle.common.specs.Tested.{◌then◌}
+use Rattle.bztable.specs.Reading.{Read, got, triple_at, address_of}
 use Rattle.bztable.specs.Neighbours.{moved, joined, read_rows}
 
 -- what is written from place `at` on stands behind what was before it

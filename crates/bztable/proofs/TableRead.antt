@@ -4,7 +4,6 @@ use mathlib.Core.Logic.{⊎_elim}
 use mathlib.Core.Bool.{not}
 use mathlib.Core.List.Memᴰ.{cases_cons as cases}
 use mathlib.Core.List.Memᴰ.{head as here}
-use mathlib.Core.List.Memᴰ.{not-nil}
 use mathlib.Core.List.Memᴰ.{tail as there}
 use mathlib.Core.List.{List, [], ◌∷◌, ◌++◌, map, append_assoc, map-append}
 use Prim.Native.Nat.{ℕ, zero, suc, ◌+◌, ◌*◌, ◌-◌, ◌≤◌, ◌<◌}
@@ -21,10 +20,10 @@ use Rattle.common.specs.Array.{items}
 use Rattle.grgrid.specs.Grid.{size, index}
 use Rattle.grgrid.proofs.Lists.{◌∈◌}
 use Rattle.bzgrid.specs.declared.GridType.{GridType}
-use Rattle.bzgrid.specs.declared.GridType.TheVariants.{Sparse, Dense, Unknown}
+use Rattle.bzgrid.specs.declared.GridType.TheVariants.{Sparse, Dense}
 use Rattle.bzsearch.specs.Search.{rows, numbers_from}
 use Rattle.bzgrid.specs.Table.{Image, listed, dense_map, first, others, sparse, doubled, placed, empty, sparse_map, address_list, point_list}
-use Rattle.bzgrid.specs.BzGridAddresses.{is_known, table_of, map_of, all_found}
+use Rattle.bzgrid.specs.BzGridAddresses.{table_of, map_of, all_found}
 use Rattle.bztable.specs.Access.{number_in, places_from, image_places}
 use Rattle.bztable.specs.Reading.{triple_at}
 use Rattle.bzsearch.proofs.AxisNumbers.{below}
@@ -113,7 +112,6 @@ module _ (d : Vec ℕ) (g : ℕ → List Image) (r : List ℤ) (p : ℕ) (h : p 
 abbrev pub places_of : GridType → (ℕ → List Image) → ℕ → ℕ → List ℕ
 places_of Sparse g n p = p ∷ numbers_from (λ i. i) (n + length (rows (others g) p)) (length (others g p))
 places_of Dense g n p = numbers_from (λ i. i) (length (rows g p)) (length (g p))
-places_of Unknown g n p = []
 
 span-is : {a b i : ℕ} (k : ℕ) → a ≡ i → b ≡ i + k → places_from a b ≡ numbers_from (λ j. j) i k
 span-is {a} {b} {i} k e f = let g : b - a ≡ k = omega arith in ap₂ (λ j m. numbers_from (λ j. j) j m) e g
@@ -129,7 +127,6 @@ places-are Sparse d g r p h =
     after =
         omega (arith, ap (λ (i : ℕ). number_in m i) (add_assoc (8 * size d) p 1), sparse-start d g r (p + 1) (omega arith), start-next (others g) p)
 places-are Dense d g r p h = span-is (length (g p)) (dense-start d g r p (le_of_lt h)) (dense-start d g r (p + 1) (omega arith) ∙ start-next g p)
-places-are Unknown d g r p h = refl
 
 module _ (g : ℕ → List Image) (n : ℕ) (some : (p : ℕ) → p < n → 0 < length (g p)) {B : Type 0} (at : ℕ → B) (f : Image → B) where
   module _ (r : Reads at f (sparse g n)) (p : ℕ) (h : p < n) where
@@ -150,10 +147,9 @@ module _ (g : ℕ → List Image) (n : ℕ) (some : (p : ℕ) → p < n → 0 < 
         before : length (rows (first g) n ++ rows (others g) p) ≡ n + length (rows (others g) p)
         before = omega (arith, length-append (rows (first g) n) (rows (others g) p), firsts g n some)
 
-  pub read-places : (t : GridType) → T (is_known t) → Reads at f (table_of t g n) → (p : ℕ) → p < n → map at (places_of t g n p) ≡ map f (g p)
-  read-places Sparse k r p h = ap₂ ◌++◌ (first_read r p h) (others-read r p h) ∙ sym (map-append f (first g p) (others g p)) ∙ ap (map f) (take-append-drop 1 (g p))
-  read-places Dense k r p h = let w = rows-part g n p h in read-part at f (rows g n) r (rows g p) (g p) w.0 w.1
-  read-places Unknown k r p h = absurd k
+  pub read-places : (t : GridType) → Reads at f (table_of t g n) → (p : ℕ) → p < n → map at (places_of t g n p) ≡ map f (g p)
+  read-places Sparse r p h = ap₂ ◌++◌ (first_read r p h) (others-read r p h) ∙ sym (map-append f (first g p) (others g p)) ∙ ap (map f) (take-append-drop 1 (g p))
+  read-places Dense r p h = let w = rows-part g n p h in read-part at f (rows g n) r (rows g p) (g p) w.0 w.1
 
 -- ---- every place of the table belongs to a point
 module _ (g : ℕ → List Image) where
@@ -176,7 +172,6 @@ module _ (g : ℕ → List Image) (n : ℕ) (some : (p : ℕ) → p < n → 0 < 
   place-below Sparse p h {i} m =
       ⊎_elim (λ e. omega (arith, length-sparse)) (λ k. omega (arith, length-sparse, number_of (n + length (rows (others g) p)) (length (others g p)) k, row_below (others g) n p h)) (cases m)
   place-below Dense p h m = omega (arith, number_of (length (rows g p)) (length (g p)) m, row_below g n p h)
-  place-below Unknown p h m = absurd (not-nil m)
 
   pub place_found : (t : GridType) (i : ℕ) → i < length (table_of t g n) → (p : ℕ) × (p < n) × (i ∈ places_of t g n p)
   place_found Sparse i h = ⊎_elim (λ l. (i, l, here refl)) other (below i n)
@@ -186,4 +181,3 @@ module _ (g : ℕ → List Image) (n : ℕ) (some : (p : ℕ) → p < n → 0 < 
           let r = row-found (others g) n (i - n) (omega (arith, length-sparse)) in
           (r.0, r.1, there (number-in (n + length (rows (others g) r.0)) (length (others g r.0)) i (omega (arith, r.2)) (omega (arith, r.3))))
   place_found Dense i h = let r = row-found g n i h in (r.0, r.1, number-in (length (rows g r.0)) (length (g r.0)) i r.2 r.3)
-  place_found Unknown i h = absurd (not-suc-le-zero h)

@@ -1,7 +1,7 @@
 -- How an image table of either type is read: the places of the images of a point.
-use Rattle.std.specs.Prelude.{List, [], ◌∷◌, ℕ, ◌+◌, ◌*◌, ◌-◌, ℤ, pos, nat_abs, get_or}
+use Rattle.std.specs.Prelude.{List, ◌∷◌, ℕ, ◌+◌, ◌*◌, ◌-◌, ℤ, pos, nat_abs, get_or}
 use Rattle.bzgrid.specs.declared.GridType.{GridType}
-use Rattle.bzgrid.specs.declared.GridType.TheVariants.{Sparse, Dense, Unknown}
+use Rattle.bzgrid.specs.declared.GridType.TheVariants.{Sparse, Dense}
 use Rattle.bzsearch.specs.Search.{numbers_from}
 
 -- a number of a map or of the table of points
@@ -16,4 +16,3 @@ places_from a b = numbers_from (λ i. i) a (b - a)
 abbrev pub image_places : GridType → List ℤ → ℕ → ℕ → List ℕ
 image_places Sparse map n p = p ∷ places_from (n + number_in map (8 * n + p)) (n + number_in map (8 * n + p + 1))
 image_places Dense map n p = places_from (number_in map p) (number_in map (p + 1))
-image_places Unknown map n p = []

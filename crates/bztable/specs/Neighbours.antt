@@ -1,17 +1,17 @@
 -- `neighboring_grid_points_many`: the tests, the walk over points and offsets, the answer and the output, which has n places.
-use Rattle.std.specs.Prelude.{◌||◌, List, [], ◌∷◌, ◌++◌, ℕ, zero, suc, ◌+◌, ◌*◌, ◌-◌, ◌/◌, ltb, eqb, ℤ, pos, ◌+ℤ◌, length, get_or, unwrap_or}
+use Rattle.std.specs.Prelude.{List, [], ◌∷◌, ◌++◌, ℕ, zero, suc, ◌+◌, ◌*◌, ◌-◌, ◌/◌, ltb, eqb, ℤ, pos, ◌+ℤ◌, length, get_or, unwrap_or}
 use Rattle.integer.specs.Checked.{pick}
 use Rattle.common.specs.Matrix.{Vec, side, vector}
 use Rattle.common.specs.Array.{sides_of}
 use Rattle.common.specs.Limits.{all_within, diagonal_fits}
-use Rattle.common.specs.Tested.{require, output_of, Tested, Accepted}
-use Rattle.common.specs.declared.Refusal.TheVariants.{OutsideLimits, BadGridType, WrongLength}
+use Rattle.common.specs.Tested.{require, output_of, Tested, Accepted, ◌then◌}
+use Rattle.common.specs.declared.Refusal.TheVariants.{OutsideLimits, WrongLength}
 use Rattle.grgrid.specs.Grid.{index}
 use Rattle.bzgrid.specs.declared.GridType.{GridType}
-use Rattle.bzgrid.specs.declared.GridType.TheVariants.{Sparse, Dense, Unknown}
+use Rattle.bzgrid.specs.declared.GridType.TheVariants.{Sparse, Dense}
 use Rattle.bzgrid.specs.Table.{doubled, empty}
-use Rattle.bzgrid.specs.BzGridAddresses.{grid_type_of, is_known}
-use Rattle.bztable.specs.Reading.{Read, got, outside, ◌then◌, whole_addresses, triple_at, address_of, place_at, find, tests_after, list_of}
+use Rattle.bzgrid.specs.BzGridAddresses.{grid_type_of}
+use Rattle.bztable.specs.Reading.{Read, got, whole_addresses, triple_at, address_of, place_at, find, tests_after, list_of}
 
 abbrev pub moved : Vec ℤ → Vec ℤ → Vec ℤ
 moved a o = vector (λ k. side a k +ℤ side o k)
@@ -32,7 +32,6 @@ dense_neighbour d addresses map b = place_at map (index d b) then λ lo. place_a
 abbrev pub neighbour : Vec ℕ → (addresses map : List ℤ) → Vec ℤ → GridType → Read ℕ
 neighbour d addresses map b Sparse = sparse_neighbour d map b
 neighbour d addresses map b Dense = dense_neighbour d addresses map b
-neighbour d addresses map b Unknown = outside
 
 -- ---- g 0, then g 1, .. , then g (n - 1)
 abbrev pub joined : Read (List ℤ) → Read (List ℤ) → Read (List ℤ)
@@ -56,34 +55,28 @@ module _ (t : GridType) (d : Vec ℕ) (offsets addresses map : List ℤ) where
   all_neighbours points = read_rows (λ i. address_of addresses (get_or points i (pos 0)) then neighbours_from) (length points)
 
 -- ---- the call
--- without points or without offsets nothing is read
+-- without points or without offsets nothing is read, and the table may be of any type
 abbrev pub read_for : ℕ → Read (List ℤ) → Read (List ℤ)
 read_for zero r = got []
 read_for (suc n) r = r
 
-unfoldable pub input_tests : ℕ → (offsets addresses d : List ℤ) → GridType → ℕ → Tested
-input_tests points offsets addresses d t n =
+unfoldable pub input_tests : ℕ → (offsets addresses d : List ℤ) → ℕ → Tested
+input_tests points offsets addresses d n =
     require (whole_addresses offsets) WrongLength
     (require (whole_addresses addresses) WrongLength
     (require (eqb n (points * (length offsets / 3))) WrongLength
     (require (diagonal_fits d) OutsideLimits
-    (require (all_within 1000 offsets) OutsideLimits
-    (require (eqb n 0 || is_known t) BadGridType Accepted)))))
-
-module _ (points offsets addresses map d : List ℤ) (t : GridType) (n : ℕ) where
-  unfoldable pub neighbours_read : Read (List ℤ)
-  unfolding all_neighbours
-  neighbours_read = read_for n (all_neighbours t (sides_of d) offsets addresses map points)
-
-  unfoldable pub neighbour_tests : Tested
-  unfolding input_tests neighbours_read
-  neighbour_tests = tests_after (input_tests (length points) offsets addresses d t n) neighbours_read
+    (require (all_within 1000 offsets) OutsideLimits Accepted))))
 
 module _ (points offsets addresses map d : List ℤ) (t : ℤ) (n : ℕ) where
+  unfoldable pub neighbours_read : Read (List ℤ)
+  unfolding all_neighbours
+  neighbours_read = read_for n (grid_type_of t then λ k. all_neighbours k (sides_of d) offsets addresses map points)
+
   unfoldable pub neighbours_answer : Tested
-  unfolding neighbour_tests
-  neighbours_answer = neighbour_tests points offsets addresses map d (grid_type_of t) n
+  unfolding input_tests neighbours_read
+  neighbours_answer = tests_after (input_tests (length points) offsets addresses d n) neighbours_read
 
   unfoldable pub neighbours_written : List ℤ
-  unfolding neighbour_tests neighbours_read
-  neighbours_written = output_of (neighbour_tests points offsets addresses map d (grid_type_of t) n) n (list_of (neighbours_read points offsets addresses map d (grid_type_of t) n))
+  unfolding neighbours_answer neighbours_read
+  neighbours_written = output_of neighbours_answer n (list_of neighbours_read)

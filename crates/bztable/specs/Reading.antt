@@ -1,6 +1,6 @@
 -- How an image table is read. It may hold anything: a read is inside the slice and the limits, or `outside`, which is refusal 14.
 use Rattle.std.specs.Prelude.{Bool, true, false, ◌&&◌, List, [], ℕ, zero, suc, ◌*◌, ◌/◌, ◌%◌, ltb, leb, eqb, ℤ, pos, negsuc, length, get_or, Option, Some, None, Result, Ok, Err}
-use Rattle.common.specs.Tested.{Tested, Accepted}
+use Rattle.common.specs.Tested.{Tested, Accepted, ◌then◌}
 use Rattle.common.specs.declared.Refusal.{Refusal}
 use Rattle.integer.specs.Checked.{pick}
 use Rattle.common.specs.Matrix.{Vec, side, all_axes, same_vector}
@@ -16,11 +16,6 @@ got a = Ok a
 
 abbrev pub outside : {A : Type 0} → Read A
 outside = Err OutsideTable
-
-infixl 1 ◌then◌
-abbrev pub ◌then◌ : {A B : Type 0} → Read A → (A → Read B) → Read B
-(Ok a) then f = f a
-(Err r) then f = Err r
 
 abbrev pub inside : {A : Type 0} → Bool → A → Read A
 inside true a = got a

@@ -1,18 +1,19 @@
 -- `rotate_bz_grid_index`: the tests, the walk and the answer.
-use Rattle.std.specs.Prelude.{◌&&◌, List, ℕ, ◌+◌, ◌*◌, ◌-◌, ℤ, pos, Option, Some, None}
+use Rattle.std.specs.Prelude.{◌&&◌, List, ℕ, ◌+◌, ◌*◌, ◌-◌, ℤ, pos, Option, Some, None, Result}
 use Rattle.integer.specs.Checked.{pick}
 use Rattle.common.specs.Matrix.{Vec, Mat, ◌▹◌, same_vector}
 use Rattle.common.specs.Array.{vector_of, sides_of, matrix_of}
 use Rattle.common.specs.Limits.{matrix_within, diagonal_fits, shift_fits}
-use Rattle.common.specs.Tested.{require, Tested, Accepted}
-use Rattle.common.specs.declared.Refusal.TheVariants.{OutsideLimits, BadGridType, WrongLength}
+use Rattle.common.specs.Tested.{require, ◌then◌}
+use Rattle.common.specs.declared.Refusal.{Refusal}
+use Rattle.common.specs.declared.Refusal.TheVariants.{OutsideLimits, WrongLength}
 use Rattle.grgrid.specs.Grid.{size, index, double, halve}
 use Rattle.bzgrid.specs.declared.GridType.{GridType}
-use Rattle.bzgrid.specs.declared.GridType.TheVariants.{Sparse, Dense, Unknown}
+use Rattle.bzgrid.specs.declared.GridType.TheVariants.{Sparse, Dense}
 use Rattle.bztable.specs.declared.rotate.Rotated.{Rotated}
 use Rattle.bztable.specs.declared.rotate.Rotated.TheVariants.{Image, Fallback}
-use Rattle.bzgrid.specs.BzGridAddresses.{grid_type_of, is_known}
-use Rattle.bztable.specs.Reading.{Read, got, outside, ◌then◌, whole_addresses, address_at, address_of, place_at, find}
+use Rattle.bzgrid.specs.BzGridAddresses.{grid_type_of}
+use Rattle.bztable.specs.Reading.{Read, got, whole_addresses, address_at, address_of, place_at, find}
 
 -- double, rotate, halve toward zero
 abbrev pub turned : Mat ℤ → Vec ℤ → Vec ℤ → Vec ℤ
@@ -28,7 +29,6 @@ module _ (addresses map : List ℤ) (a : Vec ℤ) where
   abbrev pub among_images : GridType → (p n : ℕ) → Read (Option ℕ)
   among_images Sparse p n = address_at addresses p then λ b. pick (same_vector b a) (got (Some p)) (among_range (8 * n + p) n)
   among_images Dense p n = among_range p 0
-  among_images Unknown p n = outside
 
 -- the image, or else what the map holds at the point: its first image (type 2), or whatever the doubled mesh has there (type 1)
 abbrev pub image_or : Read ℕ → Option ℕ → Read Rotated
@@ -39,11 +39,10 @@ abbrev pub image_of : GridType → Vec ℕ → List ℤ → List ℤ → Vec ℤ
 image_of t d addresses map a = among_images addresses map a t (index d a) (size d) then image_or (place_at map (index d a))
 
 -- ---- the call
-unfoldable pub rotate_tests : List (List ℤ) → (addresses d ps : List ℤ) → GridType → Tested
+unfoldable pub rotate_tests : List (List ℤ) → (addresses d ps : List ℤ) → ℤ → Result GridType Refusal
 rotate_tests rotation addresses d ps t =
     require (whole_addresses addresses) WrongLength
-    (require (diagonal_fits d && (shift_fits ps && matrix_within 100000 (matrix_of rotation))) OutsideLimits
-    (require (is_known t) BadGridType Accepted))
+    (require (diagonal_fits d && (shift_fits ps && matrix_within 100000 (matrix_of rotation))) OutsideLimits (grid_type_of t))
 
 unfoldable pub rotate_read : ℤ → List (List ℤ) → (addresses map d ps : List ℤ) → GridType → Read Rotated
 unfolding index
@@ -51,4 +50,4 @@ rotate_read i rotation addresses map d ps t = address_of addresses i then λ b. 
 
 unfoldable pub rotate_answer : ℤ → List (List ℤ) → (addresses map d ps : List ℤ) → ℤ → Read Rotated
 unfolding rotate_tests rotate_read
-rotate_answer i rotation addresses map d ps t = rotate_tests rotation addresses d ps (grid_type_of t) then λ _. rotate_read i rotation addresses map d ps (grid_type_of t)
+rotate_answer i rotation addresses map d ps t = rotate_tests rotation addresses d ps t then rotate_read i rotation addresses map d ps

@@ -1,12 +1,11 @@
 // Neighbours of images.
-ghost use Rattle.std.specs.Prelude.{◌≡◌, ◌||◌, ◌*◌, ◌/◌, ◌<◌, T, eqb, length, IfOk};
+ghost use Rattle.std.specs.Prelude.{◌≡◌, ◌*◌, ◌/◌, ◌<◌, T, eqb, length, IfOk};
 ghost use Rattle.common.specs.Tested.{Accepted, giving};
 ghost use Rattle.common.specs.Array.{vector_of, items, Sized};
 ghost use Rattle.common.specs.Limits.{all_within};
 ghost use Rattle.grgrid.specs.Sides.{sides};
 ghost use Rattle.bztable.specs.Reading.{list_of};
-ghost use Rattle.bzgrid.specs.BzGridAddresses.{is_known};
-ghost use Rattle.bztable.specs.Neighbours.{moved, sparse_neighbour, image_among, dense_neighbour, neighbour, neighbours_from, all_neighbours, input_tests, neighbours_read, neighbour_tests, neighbours_answer, neighbours_written};
+ghost use Rattle.bztable.specs.Neighbours.{moved, sparse_neighbour, image_among, dense_neighbour, neighbour, neighbours_from, all_neighbours, input_tests, neighbours_read, neighbours_answer, neighbours_written};
 
 use crate::reading;
 use crate::reading::Table;
@@ -65,7 +64,6 @@ fn neighbour(table: &Table, b: [i64; 3]) -> Result<usize, Refusal>
     match table.t {
         GridType::Sparse => sparse_neighbour(table, b),
         GridType::Dense => dense_neighbour(table, b),
-        GridType::Unknown => Err(Refusal::OutsideTable),
     }
 }
 
@@ -107,22 +105,15 @@ fn is_product(n: usize, a: usize, b: usize) -> bool
     a.checked_mul(b) == Some(n)
 }
 
-fn type_fits(t: GridType, places: usize) -> bool
-    ensures { result ≡ eqb places 0 || is_known t }
-{
-    places == 0 || bzgrid::is_known(t)
-}
-
 #[tactic(auto, unfolding(crate::specs::Neighbours::input_tests))]
 fn input_tests(
     points: usize,
     offsets: &[i64],
     addresses: &[i64],
     d: [i64; 3],
-    t: GridType,
     places: usize,
 ) -> Result<(), Refusal>
-    ensures { result ≡ input_tests points offsets.now addresses.now d t places }
+    ensures { result ≡ input_tests points offsets.now addresses.now d places }
 {
     if !reading::whole_addresses(offsets) {
         return Err(Refusal::WrongLength);
@@ -139,9 +130,6 @@ fn input_tests(
     if !common::all_within(offsets, 1000) {
         return Err(Refusal::OutsideLimits);
     }
-    if !type_fits(t, places) {
-        return Err(Refusal::BadGridType);
-    }
     Ok(())
 }
 
@@ -152,16 +140,17 @@ fn neighbour_tests(
     addresses: &[i64],
     map: &[i64],
     d: [i64; 3],
-    t: GridType,
+    bz_grid_type: i64,
     out: &mut [i64],
 ) -> Result<(), Refusal>
-    ensures value { result ≡ neighbour_tests points.now offsets.now addresses.now map.now d t (length out.old) }
-    ensures out_after { result ≡ Accepted → out.new ≡ list_of (neighbours_read points.now offsets.now addresses.now map.now d t (length out.old)) }
+    ensures value { result ≡ neighbours_answer points.now offsets.now addresses.now map.now d bz_grid_type (length out.old) }
+    ensures out_after { result ≡ Accepted → out.new ≡ list_of (neighbours_read points.now offsets.now addresses.now map.now d bz_grid_type (length out.old)) }
 {
-    input_tests(points.len(), offsets, addresses, d, t, out.len())?;
+    input_tests(points.len(), offsets, addresses, d, out.len())?;
     if out.is_empty() {
         return Ok(());
     }
+    let t = GridType::try_from(bz_grid_type)?;
     let table = Table {
         t,
         g: grgrid::grid_of(d),
@@ -184,8 +173,7 @@ pub fn neighboring_grid_points_many(
     ensures value { result ≡ neighbours_answer points.now offsets.now addresses.now map.now d bz_grid_type (length out.old) }
     ensures out_after { out.new ≡ neighbours_written points.now offsets.now addresses.now map.now d bz_grid_type (length out.old) }
 {
-    let t = bzgrid::grid_type(bz_grid_type);
-    let answer = neighbour_tests(points, offsets, addresses, map, d, t, out);
+    let answer = neighbour_tests(points, offsets, addresses, map, d, bz_grid_type, out);
     if answer.is_err() {
         out.fill(-1);
     }

@@ -1,7 +1,7 @@
 // Rotation of an image.
-ghost use Rattle.std.specs.Prelude.{◌≡◌, ◌≤◌, ◌<◌, T, IfOk, IfSome};
+ghost use Rattle.std.specs.Prelude.{◌≡◌, ◌&&◌, ◌≤◌, ◌<◌, T, IfOk, IfSome};
 ghost use Rattle.common.specs.Array.{vector_of, items, matrix_of, Sized};
-ghost use Rattle.common.specs.Limits.{matrix_within, shift_fits};
+ghost use Rattle.common.specs.Limits.{matrix_within, diagonal_fits, shift_fits};
 ghost use Rattle.grgrid.specs.Grid.{size};
 ghost use Rattle.grgrid.specs.Sides.{sides};
 ghost use Rattle.bztable.specs.Rotate.{turned, among_range, among_images, image_of, rotate_tests, rotate_read, rotate_answer};
@@ -18,29 +18,29 @@ pub enum Rotated {
     Fallback(i64),
 }
 
+fn limits_fit(rotation: [[i64; 3]; 3], d: [i64; 3], ps: [i64; 3]) -> bool
+    ensures { result ≡ diagonal_fits d && (shift_fits ps && matrix_within 100000 (matrix_of rotation)) }
+{
+    common::diagonal_fits(d) && common::shift_fits(ps) && common::matrix_within(rotation, 100000)
+}
+
 #[tactic(auto, unfolding(crate::specs::Rotate::rotate_tests))]
 fn rotate_tests(
     rotation: [[i64; 3]; 3],
     addresses: &[i64],
     d: [i64; 3],
     ps: [i64; 3],
-    t: GridType,
-) -> Result<(), Refusal>
-    ensures { result ≡ rotate_tests rotation addresses.now d ps t }
+    bz_grid_type: i64,
+) -> Result<GridType, Refusal>
+    ensures { result ≡ rotate_tests rotation addresses.now d ps bz_grid_type }
 {
     if !reading::whole_addresses(addresses) {
         return Err(Refusal::WrongLength);
     }
-    if !(common::diagonal_fits(d)
-        && common::shift_fits(ps)
-        && common::matrix_within(rotation, 100000))
-    {
+    if !limits_fit(rotation, d, ps) {
         return Err(Refusal::OutsideLimits);
     }
-    if !bzgrid::is_known(t) {
-        return Err(Refusal::BadGridType);
-    }
-    Ok(())
+    GridType::try_from(bz_grid_type)
 }
 
 // The address that a rotation carries address a to.
@@ -87,7 +87,6 @@ fn among_images(table: &Table, a: [i64; 3], p: usize) -> Result<Option<usize>, R
     match table.t {
         GridType::Sparse => among_sparse(table, a, p, grgrid::points(table.g)),
         GridType::Dense => among_range(table, a, p, 0),
-        GridType::Unknown => Err(Refusal::OutsideTable),
     }
 }
 
@@ -115,8 +114,7 @@ pub fn rotate_bz_grid_index(
 ) -> Result<Rotated, Refusal>
     ensures { result ≡ rotate_answer bz_grid_index rotation addresses.now map.now d ps bz_grid_type }
 {
-    let t = bzgrid::grid_type(bz_grid_type);
-    rotate_tests(rotation, addresses, d, ps, t)?;
+    let t = rotate_tests(rotation, addresses, d, ps, bz_grid_type)?;
     let table = Table {
         t,
         g: grgrid::grid_of(d),

@@ -11,9 +11,15 @@ abbrev pub Accepted : Tested
 Accepted = Ok tt
 
 -- the refusal where a test fails, else the tests after it
-abbrev pub require : Bool → Refusal → Tested → Tested
+abbrev pub require : {A : Type 0} → Bool → Refusal → Result A Refusal → Result A Refusal
 require true r rest = rest
 require false r rest = Err r
+
+-- a call that goes on from what another gave, or is refused as that was
+infixl 1 ◌then◌
+abbrev pub ◌then◌ : {A B : Type 0} → Result A Refusal → (A → Result B Refusal) → Result B Refusal
+(Ok a) then f = f a
+(Err r) then f = Err r
 
 -- the first refusal of two groups of tests
 abbrev pub after : Tested → Tested → Tested
@@ -30,10 +36,14 @@ abbrev pub without_value : {A : Type 0} → Result A Refusal → Tested
 without_value (Ok _) = Accepted
 without_value (Err r) = Err r
 
--- an output of n places: l, or -1 everywhere
+-- an output of n places: l, or v everywhere
+abbrev pub filled_or : {E : Type 0} → E → Tested → ℕ → List E → List E
+filled_or v (Ok _) n l = l
+filled_or v (Err r) n l = replicate n v
+
+-- l, or -1 everywhere
 abbrev pub output_of : Tested → ℕ → List ℤ → List ℤ
-output_of (Ok _) n l = l
-output_of (Err r) n l = replicate n (negsuc 0)
+output_of = filled_or (negsuc 0)
 
 -- what an export answers: 0, or the number of the refusal
 abbrev pub answer_of : {A : Type 0} → Result A Refusal → ℤ

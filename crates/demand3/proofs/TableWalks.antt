@@ -15,7 +15,8 @@ use Rattle.common.specs.Array.{vector_of}
 use Rattle.common.specs.declared.Refusal.{Refusal}
 use Rattle.bzgrid.specs.declared.GridType.{GridType}
 use Rattle.bzgrid.specs.declared.GridType.TheVariants.{Sparse, Dense, Unknown}
-use Rattle.bztable.specs.Reading.{Read, got, ◌then◌, inside, near, triple_at, address_at, place_of, place_at}
+use Rattle.common.specs.Tested.{◌then◌}
+use Rattle.bztable.specs.Reading.{Read, got, inside, near, triple_at, address_at, place_of, place_at}
 use Rattle.bztable.specs.Access.{number_in, places_from, image_places}
 use Rattle.bzgrid.specs.Table.{listed}
 use Rattle.bzsearch.specs.Search.{numbers_from}

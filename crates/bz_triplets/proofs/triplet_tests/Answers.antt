@@ -5,7 +5,8 @@ use Rattle.std.proofs.lemmas.Result.{err_from_is_err_and}
 use Rattle.common.specs.Array.{vector_of}
 use Rattle.grgrid.specs.Sides.{sides}
 use Rattle.bzgrid.proofs.Outcome.{mesh-fits}
-use Rattle.bztable.specs.Reading.{got, ◌then◌, tests_after}
+use Rattle.common.specs.Tested.{◌then◌}
+use Rattle.bztable.specs.Reading.{got, tests_after}
 use Rattle.bz_triplets.specs.BzTriplets.{triplet_list, marks, lengths}
 use Rattle.bz_triplets.proofs.Measured.{measured}
 use Rattle.bz_triplets.proofs.CallOutcome.{asked-for, whole_below, point-below, Input, input-accepted, tests-read, read-from, walked, walk-answer, walk-output}

@@ -29,10 +29,10 @@ pub returns-in-Some-clause-value : goal.returns-in-Some-clause-value
 returns-in-Some-clause-value c =
     let a = c.args in
     told (goal.at.returns-in-Some-clause-value c).After-finish
-    ∙ answered a.t (search_of a.s) (length a.addresses.now) (length a.map.now) (length a.grg.now) c.is_sparse-sparse.ensures (c.points.ensures ∙ ap size c.grid_of-g.ensures) c.requires (sym c.in-Some.is ∙ c.walk_points.ensures.value)
+    ∙ answered a.t (search_of a.s) (length a.addresses.now) (length a.map.now) (length a.grg.now) c.is_sparse-sparse.ensures (c.points.ensures ∙ ap size c.grid_of-g.ensures) (sym c.in-Some.is ∙ c.walk_points.ensures.value)
 
 pub returns-in-Some-clause-filled : goal.returns-in-Some-clause-filled
 returns-in-Some-clause-filled c b =
     let a = c.args in
-    filled a.t (search_of a.s) (length a.addresses.now) (length a.map.now) (length a.grg.now) c.is_sparse-sparse.ensures (c.points.ensures ∙ ap size c.grid_of-g.ensures) c.requires (sym c.in-Some.is ∙ c.walk_points.ensures.value)
+    filled a.t (search_of a.s) (length a.addresses.now) (length a.map.now) (length a.grg.now) c.is_sparse-sparse.ensures (c.points.ensures ∙ ap size c.grid_of-g.ensures) (sym c.in-Some.is ∙ c.walk_points.ensures.value)
     (subst (λ r. T (is_built r)) (told (goal.at.returns-in-Some-clause-filled c).After-finish) b) c.walk_points.ensures.written_to (ap doubled c.grid_of-g.ensures) (c.finish.ensures.map_after b)

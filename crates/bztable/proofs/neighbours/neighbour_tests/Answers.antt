@@ -1,8 +1,11 @@
+use mir.Facts.{to_z-of_z}
+use Rattle.std.specs.Prelude.{Err}
 use Rattle.std.proofs.Common.{◌≡◌, sym, ◌∙◌, ap, length, rules}
 use Rattle.std.proofs.lemmas.Result.{err_from_is_err_and}
-use Rattle.common.specs.Tested.{giving, Accepted}
+use Rattle.common.specs.Tested.{giving, Accepted, ◌then◌}
+use Rattle.bzgrid.specs.BzGridAddresses.{grid_type_of}
 use Rattle.bzgrid.proofs.Outcome.{mesh-fits}
-use Rattle.bztable.specs.Reading.{◌then◌, list_of}
+use Rattle.bztable.specs.Reading.{list_of}
 use Rattle.bztable.specs.Neighbours.{all_neighbours, neighbours_read}
 use Rattle.bztable.proofs.NeighbourCall.{input-accepted, read-none, read-some, after-tests, walk-answer, walk-output, none, some}
 use Rattle.bztable.proofs.neighbours.neighbour_tests.Goals as goal
@@ -12,61 +15,70 @@ pub returns-in_err-input_tests-clause-value : goal.returns-in_err-input_tests-cl
 returns-in_err-input_tests-clause-value c =
     let s = c.args in
     let p = err_from_is_err_and c.from_residual.result c.from_residual.ensures.1 in
-    rw (p.1, p.2) (after-tests s.points.now s.offsets.now s.addresses.now s.map.now s.d s.t (length s.out.now) c.in_err-input_tests.ensures)
+    rw (p.1, p.2) (after-tests s.points.now s.offsets.now s.addresses.now s.map.now s.d s.bz_grid_type (length s.out.now) c.in_err-input_tests.ensures)
 
 pub returns-then-is_empty-clause-value : goal.returns-then-is_empty-clause-value
 returns-then-is_empty-clause-value c =
     let s = c.args in
     let n = length s.out.now in
-    let a = after-tests s.points.now s.offsets.now s.addresses.now s.map.now s.d s.t n c.in_ok-input_tests.ensures in
-    ap (λ x. x then λ _. Accepted) (sym (read-none s.points.now s.offsets.now s.addresses.now s.map.now s.d s.t n (search rules))) ∙ a
+    let a = after-tests s.points.now s.offsets.now s.addresses.now s.map.now s.d s.bz_grid_type n c.in_ok-input_tests.ensures in
+    ap (λ x. x then λ _. Accepted) (sym (read-none s.points.now s.offsets.now s.addresses.now s.map.now s.d s.bz_grid_type n (search rules))) ∙ a
 
 pub returns-then-is_empty-clause-out_after : goal.returns-then-is_empty-clause-out_after
 returns-then-is_empty-clause-out_after c e =
     let s = c.args in
     let n = length s.out.now in
-    none s.out.now (search rules) ∙ ap list_of (sym (read-none s.points.now s.offsets.now s.addresses.now s.map.now s.d s.t n (search rules)))
+    none s.out.now (search rules) ∙ ap list_of (sym (read-none s.points.now s.offsets.now s.addresses.now s.map.now s.d s.bz_grid_type n (search rules)))
 
 pub grid_of-requires : goal.grid_of-requires
 grid_of-requires c =
     let s = c.args in
-    let a = input-accepted (length s.points.now) s.offsets.now s.addresses.now s.d s.t (length s.out.now) (sym c.in_ok-input_tests.ensures) in
+    let a = input-accepted (length s.points.now) s.offsets.now s.addresses.now s.d (length s.out.now) (sym c.in_ok-input_tests.ensures) in
     a.grid
 
 pub invariant_of-table : goal.invariant_of-table
 invariant_of-table c =
     let s = c.args in
-    let a = input-accepted (length s.points.now) s.offsets.now s.addresses.now s.d s.t (length s.out.now) (sym c.in_ok-input_tests.ensures) in
+    let a = input-accepted (length s.points.now) s.offsets.now s.addresses.now s.d (length s.out.now) (sym c.in_ok-input_tests.ensures) in
     record { fits = mesh-fits s.d a.grid c.grid_of.ensures }
 
 pub fill_rows-requires-clause-fact_1 : goal.fill_rows-requires-clause-fact_1
 fill_rows-requires-clause-fact_1 c =
     let s = c.args in
-    let a = input-accepted (length s.points.now) s.offsets.now s.addresses.now s.d s.t (length s.out.now) (sym c.in_ok-input_tests.ensures) in
+    let a = input-accepted (length s.points.now) s.offsets.now s.addresses.now s.d (length s.out.now) (sym c.in_ok-input_tests.ensures) in
     a.steps
 
 pub fill_rows-requires-clause-fact_2 : goal.fill_rows-requires-clause-fact_2
 fill_rows-requires-clause-fact_2 c =
     let s = c.args in
-    let a = input-accepted (length s.points.now) s.offsets.now s.addresses.now s.d s.t (length s.out.now) (sym c.in_ok-input_tests.ensures) in
+    let a = input-accepted (length s.points.now) s.offsets.now s.addresses.now s.d (length s.out.now) (sym c.in_ok-input_tests.ensures) in
     a.places
 
+pub returns-in_err-t-clause-value : goal.returns-in_err-t-clause-value
+returns-in_err-t-clause-value c =
+    let s = c.args in
+    let n = length s.out.now in
+    let e : c.from_residual-in_err-t.result ≡ Err c.in_err-t.field-0.0 = search rules in
+    e
+    ∙ ap (λ x. x then λ _. Accepted) (sym (read-some s.points.now s.offsets.now s.addresses.now s.map.now s.d s.bz_grid_type n (some n (sym c.is_empty.ensures ∙ c.if-is_empty.false)) (c.in_err-t.ensures ∙ ap grid_type_of (to_z-of_z c.ranges.bz_grid_type))))
+    ∙ after-tests s.points.now s.offsets.now s.addresses.now s.map.now s.d s.bz_grid_type n c.in_ok-input_tests.ensures
+
 -- the walk read what the definition reads
-walked : (c : After-fill_rows) → let s = c.args in giving c.fill_rows.result c.fill_rows.new.out ≡ neighbours_read s.points.now s.offsets.now s.addresses.now s.map.now s.d s.t (length s.out.now)
+walked : (c : After-fill_rows) → let s = c.args in giving c.fill_rows.result c.fill_rows.new.out ≡ neighbours_read s.points.now s.offsets.now s.addresses.now s.map.now s.d s.bz_grid_type (length s.out.now)
 walked c =
     let s = c.args in
     c.fill_rows.ensures
-    ∙ ap (λ v. all_neighbours s.t v s.offsets.now s.addresses.now s.map.now s.points.now) c.grid_of.ensures
-    ∙ sym (read-some s.points.now s.offsets.now s.addresses.now s.map.now s.d s.t (length s.out.now) (some (length s.out.now) (sym c.is_empty.ensures ∙ c.if-is_empty.false)))
+    ∙ ap (λ v. all_neighbours c.in_ok-t.t v s.offsets.now s.addresses.now s.map.now s.points.now) c.grid_of.ensures
+    ∙ sym (read-some s.points.now s.offsets.now s.addresses.now s.map.now s.d s.bz_grid_type (length s.out.now) (some (length s.out.now) (sym c.is_empty.ensures ∙ c.if-is_empty.false)) (c.in_ok-t.ensures ∙ ap grid_type_of (to_z-of_z c.ranges.bz_grid_type)))
 
 pub returns-clause-value : goal.returns-clause-value
 returns-clause-value c =
     let s = c.args in
     let n = length s.out.now in
-    walk-answer s.points.now s.offsets.now s.addresses.now s.map.now s.d s.t n c.fill_rows.result c.fill_rows.new.out (walked c.before)
-    ∙ after-tests s.points.now s.offsets.now s.addresses.now s.map.now s.d s.t n c.in_ok-input_tests.ensures
+    walk-answer s.points.now s.offsets.now s.addresses.now s.map.now s.d s.bz_grid_type n c.fill_rows.result c.fill_rows.new.out (walked c.before)
+    ∙ after-tests s.points.now s.offsets.now s.addresses.now s.map.now s.d s.bz_grid_type n c.in_ok-input_tests.ensures
 
 pub returns-clause-out_after : goal.returns-clause-out_after
 returns-clause-out_after c =
     let s = c.args in
-    walk-output s.points.now s.offsets.now s.addresses.now s.map.now s.d s.t (length s.out.now) c.fill_rows.result c.fill_rows.new.out (walked c.before)
+    walk-output s.points.now s.offsets.now s.addresses.now s.map.now s.d s.bz_grid_type (length s.out.now) c.fill_rows.result c.fill_rows.new.out (walked c.before)

@@ -1,29 +1,36 @@
 use mir.Facts.{to_z-of_z}
-use Rattle.std.proofs.Common.{sym, ◌∙◌, ap, ap₂, rules}
+use Rattle.std.proofs.Common.{◌≡◌, sym, ◌∙◌, ap, ap₂, rules}
 use Rattle.std.proofs.lemmas.Result.{err_from_is_err_and}
+use Rattle.std.specs.Prelude.{Err}
 use Rattle.common.specs.Array.{vector_of, sides_of, matrix_of}
 use Rattle.grgrid.proofs.Accepted.{shift-sized}
-use Rattle.bzgrid.specs.BzGridAddresses.{grid_type_of}
 use Rattle.bzgrid.proofs.Outcome.{mesh-fits}
-use Rattle.bztable.specs.Reading.{◌then◌, address_of}
-use Rattle.bztable.specs.Rotate.{turned, image_of, rotate_read}
+use Rattle.common.specs.Tested.{◌then◌}
+use Rattle.bztable.specs.Reading.{address_of}
+use Rattle.bztable.specs.Rotate.{turned, image_of, rotate_tests, rotate_read}
 use Rattle.bztable.proofs.Turning.{rotate-accepted, rotate-answered}
 use Rattle.bztable.proofs.rotate.rotate_bz_grid_index.Goals as goal
 
 pub invariant_of-table : goal.invariant_of-table
 invariant_of-table c =
-    let r = rotate-accepted c.args.rotation c.args.addresses.now c.args.d c.args.ps _ (sym c.in_ok-rotate_tests.ensures) in
+    let r = rotate-accepted c.args.rotation c.args.addresses.now c.args.d c.args.ps _ (sym c.in_ok-t.ensures) in
     record { fits = mesh-fits c.args.d r.grid c.grid_of.ensures }
 
 pub turned-requires-clause-fact_2 : goal.turned-requires-clause-fact_2
 turned-requires-clause-fact_2 c =
-    let r = rotate-accepted c.args.rotation c.args.addresses.now c.args.d c.args.ps _ (sym c.in_ok-rotate_tests.ensures) in
+    let r = rotate-accepted c.args.rotation c.args.addresses.now c.args.d c.args.ps _ (sym c.in_ok-t.ensures) in
     r.entries
 
 pub turned-requires-clause-fact_3 : goal.turned-requires-clause-fact_3
 turned-requires-clause-fact_3 c =
-    let r = rotate-accepted c.args.rotation c.args.addresses.now c.args.d c.args.ps _ (sym c.in_ok-rotate_tests.ensures) in
+    let r = rotate-accepted c.args.rotation c.args.addresses.now c.args.d c.args.ps _ (sym c.in_ok-t.ensures) in
     shift-sized c.args.ps (search rules) r.shift
+
+pub returns-in_err-t : goal.returns-in_err-t
+returns-in_err-t c =
+    let s = c.args in
+    let e : c.from_residual.result ≡ Err c.in_err-t.field-0.0 = search rules in
+    e ∙ rotate-answered s.rotation s.addresses.now s.d s.ps s.bz_grid_index s.map.now s.bz_grid_type (c.in_err-t.ensures ∙ ap (rotate_tests s.rotation s.addresses.now s.d s.ps) (to_z-of_z c.ranges.bz_grid_type))
 
 pub returns-in_err-a : goal.returns-in_err-a
 unfolding rotate_read
@@ -32,17 +39,17 @@ returns-in_err-a c =
     let p = err_from_is_err_and c.from_residual-in_err-a.result c.from_residual-in_err-a.ensures.1 in
     let e = c.in_err-a.ensures.value ∙ ap (address_of s.addresses.now) (to_z-of_z c.ranges.bz_grid_index) in
     rw (p.1, p.2)
-    (ap (λ x. x then λ b. image_of c.grid_type-t.result (sides_of s.d) s.addresses.now s.map.now (turned (matrix_of s.rotation) (vector_of s.ps) b)) e
-    ∙ rotate-answered s.rotation s.addresses.now s.d s.ps s.bz_grid_index s.map.now s.bz_grid_type (c.grid_type-t.ensures ∙ ap grid_type_of (to_z-of_z c.ranges.bz_grid_type)) (sym c.in_ok-rotate_tests.ensures))
+    (ap (λ x. x then λ b. image_of c.in_ok-t.t (sides_of s.d) s.addresses.now s.map.now (turned (matrix_of s.rotation) (vector_of s.ps) b)) e
+    ∙ rotate-answered s.rotation s.addresses.now s.d s.ps s.bz_grid_index s.map.now s.bz_grid_type (c.in_ok-t.ensures ∙ ap (rotate_tests s.rotation s.addresses.now s.d s.ps) (to_z-of_z c.ranges.bz_grid_type)))
 
 pub returns : goal.returns
 unfolding rotate_read
 returns c =
     let s = c.args in
     let l = s.addresses.now in
-    let t = c.grid_type-t.result in
+    let t = c.in_ok-t.t in
     let e = c.in_ok-a.ensures.value ∙ ap (address_of l) (to_z-of_z c.ranges.bz_grid_index) in
     c.image_of.ensures
     ∙ ap₂ (λ g a. image_of t g l s.map.now (vector_of a)) c.grid_of.ensures c.turned.ensures
     ∙ ap (λ x. x then λ b. image_of t (sides_of s.d) l s.map.now (turned (matrix_of s.rotation) (vector_of s.ps) b)) e
-    ∙ rotate-answered s.rotation l s.d s.ps s.bz_grid_index s.map.now s.bz_grid_type (c.grid_type-t.ensures ∙ ap grid_type_of (to_z-of_z c.ranges.bz_grid_type)) (sym c.in_ok-rotate_tests.ensures)
+    ∙ rotate-answered s.rotation l s.d s.ps s.bz_grid_index s.map.now s.bz_grid_type (c.in_ok-t.ensures ∙ ap (rotate_tests s.rotation l s.d s.ps) (to_z-of_z c.ranges.bz_grid_type))

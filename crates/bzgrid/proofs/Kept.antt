@@ -18,7 +18,7 @@ use Rattle.bzsearch.specs.declared.types.Point.{Point}
 
 -- ---- the walk that keeps images
 abbrev pub keeping : BzSearch → Point → Float → Tables → Vec ℤ → Tables
-keeping s p bound = keep (search_of s) p.index (vector_of p.address) (point_split p) bound
+keeping s p bound = keep (search_of s) p.index (vector_of p.address.v) (point_split p) bound
 
 both : {A B C : Type 0} (b : Bool) (g : A → C) (k : B → C) {x y : A} {u v : B} → g x ≡ k u → g y ≡ k v → g (pick b x y) ≡ k (pick b u v)
 both true g k p q = p

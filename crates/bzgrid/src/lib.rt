@@ -12,7 +12,7 @@ ghost use Rattle.bzgrid.specs.Walked.{walk_of, images_in, blank, WrittenTo, leng
 ghost use Rattle.bzsearch.specs.SearchView.{search_of};
 ghost use Rattle.bzgrid.specs.BzGridAddresses.{grid_type_of, is_sparse, all_found, within_limits, input_tests, has_room, build_answer, build_addresses, build_map, build_grg, bz_answer, addresses_written, map_written, grg_written};
 
-use bzsearch::BzSearch;
+use bzsearch::{Basis, BzSearch};
 use common::Refusal;
 use grgrid::Grid;
 
@@ -68,7 +68,7 @@ fn input_tests(
         return Err(Refusal::OutsideLimits);
     }
     let t = GridType::try_from(bz_grid_type)?;
-    if !bzsearch::is_unimodular(q) {
+    if !bzsearch::is_unimodular(Basis { m: q }) {
         return Err(Refusal::NotUnimodularQ);
     }
     if bzsearch::is_singular(lattice) {
@@ -256,7 +256,10 @@ pub fn bz_grid_addresses(
     ensures grg_after { grg.new ≡ grg_written d q ps lattice bz_grid_type (length addresses.old) (length map.old) (length grg.old) }
 {
     match input_tests(d, q, ps, lattice, bz_grid_type) {
-        Ok(t) => build(BzSearch::new(d, ps, q, lattice), t, addresses, map, grg),
+        Ok(t) => {
+            let s = BzSearch::new(d, common::shift(ps), Basis { m: q }, lattice);
+            build(s, t, addresses, map, grg)
+        }
         Err(r) => {
             wipe(addresses, map, grg);
             Err(r)

@@ -11,7 +11,7 @@ ghost use Rattle.bzgrid.specs.Writing.{put_at, tables, store, stored, keep, kept
 ghost use Rattle.bzgrid.specs.Walked.{walk_of, images_in, WrittenTo};
 ghost use Rattle.bzsearch.specs.SearchView.{search_of, axes_view, point_split};
 
-use bzsearch::{Axes, BzSearch, Point, candidates};
+use bzsearch::{Axes, BzSearch, Candidate, Point, candidates};
 use grgrid::Grid;
 
 // The place of the next image, and that of the one after it.
@@ -87,10 +87,9 @@ pub struct Keeping {
 }
 
 impl Keeping {
-    fn keep(&self, m: [i64; 3], addresses: &mut [i64], grg: &mut [i64], c: Cursor) -> Cursor
-        requires fact_1 { Sized 16 m }
-        requires fact_2 { c.next < 1099511627776 }
-        ensures next_after { let k = self.now in tables addresses.new grg.new result.at result.next ≡ keep (search_of k.bz) k.p.index (vector_of k.p.address) (point_split k.p) k.bound (tables addresses.old grg.old c.at c.next) (vector_of m) }
+    fn keep(&self, m: Candidate, addresses: &mut [i64], grg: &mut [i64], c: Cursor) -> Cursor
+        requires { c.next < 1099511627776 }
+        ensures next_after { let k = self.now in tables addresses.new grg.new result.at result.next ≡ keep (search_of k.bz) k.p.index (vector_of k.p.address.v) (point_split k.p) k.bound (tables addresses.old grg.old c.at c.next) (vector_of m.v) }
         ensures at_le_next { (c.next ≤ result.next) × (result.next ≤ c.next + 1) }
     {
         if self.bz.distance(self.p.s0, m) < self.bound {
@@ -102,18 +101,17 @@ impl Keeping {
 
     fn keep_one(
         &self,
-        m: [i64; 3],
+        m: Candidate,
         rest: bool,
         addresses: &mut [i64],
         grg: &mut [i64],
         c: Cursor,
     ) -> Cursor
-        requires fact_1 { Sized 16 m }
-        requires fact_2 { c.next < 1099511627776 }
-        ensures next_after { let k = self.now in tables addresses.new grg.new result.at result.next ≡ kept (search_of k.bz) k.p.index (vector_of k.p.address) (point_split k.p) k.bound (tables addresses.old grg.old c.at c.next) (chosen rest (vector_of m)) }
+        requires { c.next < 1099511627776 }
+        ensures next_after { let k = self.now in tables addresses.new grg.new result.at result.next ≡ kept (search_of k.bz) k.p.index (vector_of k.p.address.v) (point_split k.p) k.bound (tables addresses.old grg.old c.at c.next) (chosen rest (vector_of m.v)) }
         ensures at_le_next { (c.next ≤ result.next) × (result.next ≤ c.next + 1) }
     {
-        if rest && !candidates::is_outside(m) {
+        if rest && !candidates::is_outside(m.v) {
             return c;
         }
         self.keep(m, addresses, grg, c)
@@ -129,7 +127,7 @@ impl Keeping {
         c: Cursor,
     ) -> Cursor
         requires { c.next + 35937 ≤ 1099511627776 }
-        ensures next_after { let k = self.now in tables addresses.new grg.new result.at result.next ≡ kept (search_of k.bz) k.p.index (vector_of k.p.address) (point_split k.p) k.bound (tables addresses.old grg.old c.at c.next) (box rest (axes_view b)) }
+        ensures next_after { let k = self.now in tables addresses.new grg.new result.at result.next ≡ kept (search_of k.bz) k.p.index (vector_of k.p.address.v) (point_split k.p) k.bound (tables addresses.old grg.old c.at c.next) (box rest (axes_view b)) }
         ensures at_le_next { (c.next ≤ result.next) × (result.next ≤ c.next + 35937) }
     {
         let mut t = c;
@@ -138,7 +136,9 @@ impl Keeping {
             for j in 0..b.y.n {
                 let y = b.y.at(j);
                 for k in 0..b.z.n {
-                    let m = [x, y, b.z.at(k)];
+                    let m = Candidate {
+                        v: [x, y, b.z.at(k)],
+                    };
                     t = self.keep_one(m, rest, &mut *addresses, &mut *grg, t);
                 }
             }

@@ -16,12 +16,12 @@ returns-in_err-t c =
     let e : c.from_residual.result ≡ Err c.in_err-t.field-0.0 = search rules in
     e ∙ typed a.d a.q a.ps a.lattice a.bz_grid_type c.if-not-within_limits.ensures (c.in_err-t.ensures ∙ ap grid_type_of (to_z-of_z c.ranges.bz_grid_type)) refl refl
 
-pub is_unimodular-requires : goal.is_unimodular-requires
-is_unimodular-requires c =
+pub invariant_of-is_unimodular : goal.invariant_of-is_unimodular
+invariant_of-is_unimodular c =
     let a = c.args in
     let m = matrix_within 1000 (matrix_of a.q) in
     let rest = shift_fits a.ps && lattice_fits (float_matrix a.lattice) in
-    and_l m rest (and_r (diagonal_fits a.d) (m && rest) (holds (sym c.if-not-within_limits.ensures)))
+    record { within = and_l m rest (and_r (diagonal_fits a.d) (m && rest) (holds (sym c.if-not-within_limits.ensures))) }
 
 pub returns-then-not-is_unimodular : goal.returns-then-not-is_unimodular
 returns-then-not-is_unimodular c =

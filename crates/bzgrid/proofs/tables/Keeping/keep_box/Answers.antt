@@ -2,14 +2,15 @@ use Rattle.std.proofs.Common.{ℤ, ap, ◌∙◌, arith}
 use Rattle.integer.proofs.Fits.{held, held-is}
 use Rattle.bzsearch.specs.Search.{rows, chosen, box_at, plane_at, line_at}
 use Rattle.bzsearch.specs.SearchView.{numbers_view, axes_view}
-use Rattle.bzsearch.proofs.Rows.{turn, finished, three-sized, held-small}
+use Rattle.common.proofs.Sized.{sized-items}
+use Rattle.bzsearch.proofs.Rows.{turn, finished, held-small}
 use Rattle.bzgrid.specs.Writing.{tables}
 use Rattle.bzgrid.proofs.Kept.{keeping}
 use Rattle.bzgrid.proofs.tables.Keeping.keep_box.Goals as goal
 
-pub keep_one-t-requires-clause-fact_1 : goal.keep_one-t-requires-clause-fact_1
-keep_one-t-requires-clause-fact_1 c =
-    three-sized (held-small c.at-x.result c.at-x.type_inv c.at-x.ensures.small) (held-small c.at-y.result c.at-y.type_inv c.at-y.ensures.small) (held-small c.at.result c.at.type_inv c.at.ensures.small)
+pub invariant_of-m : goal.invariant_of-m
+invariant_of-m c =
+    record { sized = sized-items _ (held-small c.at-x.result c.at-x.type_inv c.at-x.ensures.small) (held-small c.at-y.result c.at-y.type_inv c.at-y.ensures.small) (held-small c.at.result c.at.type_inv c.at.ensures.small) }
 
 pub loop-k-preserved : goal.loop-k-preserved
 loop-k-preserved c =

@@ -2,27 +2,26 @@
 use mathlib.Core.Path.{refl}
 use mathlib.Core.List.Memᴰ.{head as here}
 use mathlib.Core.List.{List, [], ◌∷◌}
-use Prim.Native.Nat.{ℕ, ◌+◌, ◌*◌, ◌≤◌, ◌<◌}
+use Prim.Native.Nat.{ℕ, ◌≤◌, ◌<◌}
 use native.Mathlib.Nat.{not-suc-le-zero}
-use lib.Dec.{T, leb→le}
-use lib.IntN.{ℤ, pos, negsuc, nat_abs}
+use lib.Dec.{T}
+use lib.IntN.{ℤ, nat_abs}
 use lib.Ieee.{Float, le}
-use lib.ListN.{length, get_or}
-use lib.Signed.{le_z}
-use Rattle.integer.proofs.Test.{and_r}
+use lib.ListN.{length}
 use Rattle.float.specs.Value.{Bounded, zero_f}
-use Rattle.common.specs.Matrix.{Axis, Vec, Mat, side, entry, entries, inverse}
-use Rattle.common.specs.Array.{number, vector_of, sides_of, matrix_of, Sized}
+use Rattle.common.specs.Matrix.{Axis, Vec, Mat, side, entry, inverse}
+use Rattle.common.specs.Array.{vector_of, sides_of, matrix_of}
 use Rattle.common.specs.Limits.{matrix_within, half_fits}
-use Rattle.common.proofs.Matrix.{axes-of, entry-matrix}
+use Rattle.common.proofs.Matrix.{axes-of}
 use Rattle.common.proofs.Bounds.{matrix-sizes}
+use Rattle.common.proofs.Sized.{half-size}
 use Rattle.grgrid.specs.Grid.{size, address}
 use Rattle.grgrid.proofs.Accepted.{side-small, grid-fits}
 use Rattle.grgrid.proofs.Lists.{◌∈◌}
 use Rattle.bzgrid.specs.declared.Lengths.{Lengths}
 use Rattle.bzsearch.specs.Search.{Search, grid_coordinate, images, distance, range_fits, unimodular}
 use Rattle.bzgrid.specs.BzGridAddresses.{search_of}
-use Rattle.bzsearch.proofs.Sizes.{inverse-sized}
+use Rattle.bzsearch.proofs.Sizes.{inverse_within}
 use Rattle.bzsearch.proofs.Coordinates.{coordinate-bounded, reduced-bounded, nint-sized, address_below}
 use Rattle.bzsearch.proofs.CandidateSet.{candidate-size}
 use Rattle.bzsearch.proofs.Images.{split_at, range_at, tried, image-made}
@@ -30,15 +29,8 @@ use Rattle.bzsearch.proofs.LatticeBounds.{s0-bounded, distance-length}
 use Rattle.bzgrid.proofs.ImageBounds.{image-size}
 use Rattle.bztable.proofs.AcceptedCall.{CallAccepted, call-sound, call-found}
 
-half-size : (z : ℤ) → T (half_fits z) → nat_abs z ≤ 1
-half-size (pos n) t = leb→le n 1 (and_r (le_z (pos 0) (pos n)) (le_z (pos n) (pos 1)) t)
-half-size (negsuc n) t = absurd t
-
 inverse-size : (m : Mat ℤ) → T (matrix_within 1000 m) → T (unimodular m) → (j k : Axis) → nat_abs (entry (inverse m) j k) ≤ 2000000
-inverse-size m t u j k = at (inverse m) (inverse-sized m t u) j k
-  where
-    at : (n : Mat ℤ) → Sized 2000000 (entries n []) → (j k : Axis) → nat_abs (entry n j k) ≤ 2000000
-    at n h j k = rw (← entry-matrix (λ j k. get_or (entries n []) (number j * 3 + number k) (pos 0)) j k) at (h.each (number j * 3 + number k))
+inverse-size m t u = matrix-sizes 2000000 (inverse m) (inverse_within m t u)
 
 module _ {d : List ℤ} {q : List (List ℤ)} {ps : List ℤ} {lattice : List (List Float)} {t : ℤ} {a b c : ℕ} {l : Lengths} (h : CallAccepted d q ps lattice t a b c l) (p : ℕ) (k : p < size (sides_of d)) where
   abbrev s : Search

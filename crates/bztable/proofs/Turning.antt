@@ -1,39 +1,21 @@
 -- What the accepted tests of `rotate_bz_grid_index` say of its input, and its answer from what was read.
 use mathlib.Core.Path.{◌≡◌, ap}
 use mathlib.Core.Bool.{Bool, ◌&&◌}
-use mathlib.Core.List.{List, []}
-use Prim.Native.Nat.{ℕ, zero, suc, zero-le}
+use mathlib.Core.List.{List}
 use lib.Dec.{T}
 use lib.IntN.{ℤ}
-use lib.ListN.{get_or}
 use Rattle.std.specs.Prelude.{Result, Ok}
 use Rattle.integer.proofs.Test.{holds, and_l, and_r}
 use Rattle.common.specs.Tested.{require, ◌then◌}
-use Rattle.common.specs.Matrix.{Axis, Mat, X, Y, Z, vector, entry}
-use Rattle.common.specs.Array.{matrix_of, items, rows, Sized, SizedRows}
+use Rattle.common.specs.Array.{matrix_of}
 use Rattle.common.specs.Limits.{matrix_within, diagonal_fits, shift_fits}
 use Rattle.common.specs.declared.Refusal.{Refusal}
 use Rattle.common.specs.declared.Refusal.TheVariants.{OutsideLimits, WrongLength}
-use Rattle.common.proofs.Bounds.{matrix-sizes}
-use Rattle.grgrid.proofs.Sizes.{sized-items}
 use Rattle.bzgrid.specs.declared.GridType.{GridType}
 use Rattle.bzgrid.specs.BzGridAddresses.{grid_type_of}
 use Rattle.bzgrid.proofs.Accepted.{passes}
 use Rattle.bztable.specs.Reading.{whole_addresses}
 use Rattle.bztable.specs.Rotate.{rotate_tests, rotate_read, rotate_answer}
-
--- a matrix within k, by its rows
-pub within-sized : (k : ℕ) (m : Mat ℤ) → T (matrix_within k m) → SizedRows k (rows m)
-within-sized k m t = record { each = at }
-  where
-    row : (j : Axis) → Sized k (items (vector (entry m j)))
-    row j = sized-items (vector (entry m j)) (matrix-sizes k m t j X) (matrix-sizes k m t j Y) (matrix-sizes k m t j Z)
-
-    at : (n : ℕ) → Sized k (get_or (rows m) n [])
-    at zero = row X
-    at (suc zero) = row Y
-    at (suc (suc zero)) = row Z
-    at (suc (suc (suc n))) = record { each = λ n. zero-le }
 
 -- ---- the call
 module _ (rotation : List (List ℤ)) (l d ps : List ℤ) where

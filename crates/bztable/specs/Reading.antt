@@ -4,6 +4,7 @@ use Rattle.common.specs.Tested.{Tested, Accepted, ◌then◌}
 use Rattle.common.specs.declared.Refusal.{Refusal}
 use Rattle.integer.specs.Checked.{pick}
 use Rattle.common.specs.Matrix.{Vec, side, all_axes, same_vector}
+use Rattle.common.specs.declared.bounded.Bounded.{Bounded}
 use Rattle.common.specs.Array.{vector_of, row_at}
 use Rattle.common.specs.Limits.{within}
 use Rattle.common.specs.declared.Refusal.TheVariants.{OutsideTable}
@@ -42,8 +43,8 @@ abbrev pub near : Vec ℤ → Bool
 near a = all_axes (λ k. within 10000000000000 (side a k))
 
 -- as the code holds one
-abbrev pub vector_read : Read (List ℤ) → Read (Vec ℤ)
-vector_read r = r then λ a. got (vector_of a)
+abbrev pub vector_read : Read (Bounded 10000000000000) → Read (Vec ℤ)
+vector_read r = r then λ a. got (vector_of a.v)
 
 abbrev pub address_at : List ℤ → ℕ → Read (Vec ℤ)
 address_at l i = inside (ltb i (length l / 3) && near (triple_at l i)) (triple_at l i)

@@ -11,13 +11,13 @@ use crate::reading;
 use crate::reading::Table;
 use bzgrid::GridType;
 use common::Refusal;
+use grgrid::Address;
 
-fn moved(a: [i64; 3], o: [i64; 3]) -> [i64; 3]
-    requires fact_1 { Sized 10000000000000 a }
-    requires fact_2 { Sized 1000 o }
-    ensures { result ≡ items (moved (vector_of a) (vector_of o)) }
+fn moved(a: Address, o: [i64; 3]) -> [i64; 3]
+    requires { Sized 1000 o }
+    ensures { result ≡ items (moved (vector_of a.v) (vector_of o)) }
 {
-    [a[0] + o[0], a[1] + o[1], a[2] + o[2]]
+    [a.v[0] + o[0], a.v[1] + o[1], a.v[2] + o[2]]
 }
 
 // A place of the doubled mesh that holds 8 N is empty.
@@ -68,11 +68,10 @@ fn neighbour(table: &Table, b: [i64; 3]) -> Result<usize, Refusal>
 }
 
 // Along each offset.
-fn fill_row(table: &Table, base: [i64; 3], offsets: &[i64], out: &mut [i64]) -> Result<(), Refusal>
-    requires fact_1 { Sized 10000000000000 base }
-    requires fact_2 { T (all_within 1000 offsets.now) }
-    requires fact_3 { length out.old ≡ length offsets.now / 3 }
-    ensures { giving result out.new ≡ neighbours_from table.now.t (sides table.now.g) offsets.now table.now.addresses.now table.now.map.now (vector_of base) }
+fn fill_row(table: &Table, base: Address, offsets: &[i64], out: &mut [i64]) -> Result<(), Refusal>
+    requires fact_1 { T (all_within 1000 offsets.now) }
+    requires fact_2 { length out.old ≡ length offsets.now / 3 }
+    ensures { giving result out.new ≡ neighbours_from table.now.t (sides table.now.g) offsets.now table.now.addresses.now table.now.map.now (vector_of base.v) }
 {
     for j in 0..out.len() {
         let b = moved(base, common::row_at(offsets, 3 * j));

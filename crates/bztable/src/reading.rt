@@ -7,7 +7,7 @@ ghost use Rattle.bztable.specs.Reading.{vector_read, whole_addresses, address_at
 
 use bzgrid::GridType;
 use common::Refusal;
-use grgrid::Grid;
+use grgrid::{Address, Grid};
 
 // An image table of a grid, as the walks take it: the addresses of the images, and the map that says which of them a point has.
 // The readers take a slice alone, since they ask nothing of the grid.
@@ -38,23 +38,21 @@ fn place_of(n: i64) -> Result<usize, Refusal>
 }
 
 // Each number within 10^13.
-pub fn address_at(addresses: &[i64], i: usize) -> Result<[i64; 3], Refusal>
-    ensures value { vector_read result ≡ address_at addresses.now i }
-    ensures sized { IfOk result (λ a. Sized 10000000000000 a) }
+pub fn address_at(addresses: &[i64], i: usize) -> Result<Address, Refusal>
+    ensures { vector_read result ≡ address_at addresses.now i }
 {
     if i < addresses.len() / 3 {
         let a = common::row_at(addresses, 3 * i);
         if common::row_within(a, 10000000000000) {
-            return Ok(a);
+            return Ok(Address { v: a });
         }
     }
     Err(Refusal::OutsideTable)
 }
 
 // Of an index that was asked for.
-pub fn address_of(addresses: &[i64], i: i64) -> Result<[i64; 3], Refusal>
-    ensures value { vector_read result ≡ address_of addresses.now i }
-    ensures sized { IfOk result (λ a. Sized 10000000000000 a) }
+pub fn address_of(addresses: &[i64], i: i64) -> Result<Address, Refusal>
+    ensures { vector_read result ≡ address_of addresses.now i }
 {
     if i < 0 {
         return Err(Refusal::OutsideTable);
@@ -80,7 +78,7 @@ pub fn find(
     ensures below { IfOk result (λ f. IfSome f (λ i. i < to)) }
 {
     for i in from..to {
-        if address_at(addresses, i)? == a {
+        if address_at(addresses, i)?.v == a {
             return Ok(Some(i));
         }
     }

@@ -9,7 +9,8 @@ ghost use Rattle.bztable.specs.Rotate.{turned, among_range, among_images, image_
 use crate::reading;
 use crate::reading::Table;
 use bzgrid::GridType;
-use common::Refusal;
+use common::{Refusal, Shift};
+use grgrid::{Address, Rotation};
 
 // The image's place. A fallback is what the map holds at the point where no image has the rotated address.
 #[derive(Clone, Copy, Debug, PartialEq, Eq)]
@@ -44,16 +45,11 @@ fn rotate_tests(
 }
 
 // The address that a rotation carries address a to.
-fn turned(a: [i64; 3], rotation: [[i64; 3]; 3], ps: [i64; 3]) -> [i64; 3]
-    requires fact_1 { Sized 10000000000000 a }
-    requires fact_2 { T (matrix_within 100000 (matrix_of rotation)) }
-    requires fact_3 { Sized 1 ps }
-    ensures { result ≡ items (turned (matrix_of rotation) (vector_of ps) (vector_of a)) }
+fn turned(a: Address, rotation: Rotation, ps: Shift) -> [i64; 3]
+    ensures { result ≡ items (turned (matrix_of rotation.m) (vector_of ps.v) (vector_of a.v)) }
 {
-    grgrid::halve_address(
-        common::matvec_ii(rotation, grgrid::double_grid_address(a, ps)),
-        ps,
-    )
+    let doubled = grgrid::double_grid_address(a, ps);
+    grgrid::halve_address(common::matvec_ii(rotation.m, doubled.v), ps)
 }
 
 // Among the images whose places, counted from `first` on, the map bounds at k and k + 1.
@@ -73,7 +69,7 @@ fn among_sparse(table: &Table, a: [i64; 3], p: usize, n: usize) -> Result<Option
     ensures value { result ≡ among_images table.now.addresses.now table.now.map.now (vector_of a) GridType.Sparse p n }
     ensures below { IfOk result (λ f. IfSome f (λ i. i < 4611686018427387904)) }
 {
-    if reading::address_at(table.addresses, p)? == a {
+    if reading::address_at(table.addresses, p)?.v == a {
         return Ok(Some(p));
     }
     among_range(table, a, 8 * n + p, n)
@@ -122,5 +118,6 @@ pub fn rotate_bz_grid_index(
         map,
     };
     let a = reading::address_of(addresses, bz_grid_index)?;
-    image_of(&table, turned(a, rotation, ps))
+    let rotation = Rotation { m: rotation };
+    image_of(&table, turned(a, rotation, common::shift(ps)))
 }

@@ -37,7 +37,7 @@ pub rotation_within : (k : ℕ) (l : List ℤ) → T (all_within k l) → (n : �
 rotation_within k l t n = sizes-within k (matrix_at l n) (λ i j. rw (entry-matrix (λ i j. get_or l (n * 9 + number i * 3 + number j) (pos 0)) i j) (entry-within k l t (n * 9 + number i * 3 + number j)))
 
 -- ---- the shift
-half-size : (z : ℤ) → T (half_fits z) → nat_abs z ≤ 1
+pub half-size : (z : ℤ) → T (half_fits z) → nat_abs z ≤ 1
 half-size (pos n) t = leb→le n 1 (and_r (le_z (pos 0) (pos n)) (le_z (pos n) (pos 1)) t)
 half-size (negsuc n) t = absurd t
 

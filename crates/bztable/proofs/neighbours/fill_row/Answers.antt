@@ -8,7 +8,7 @@ use Rattle.common.specs.Matrix.{Vec}
 use Rattle.common.specs.Array.{vector_of}
 use Rattle.common.proofs.Bounds.{entry-within}
 use Rattle.grgrid.specs.Sides.{sides}
-use Rattle.grgrid.proofs.Sizes.{sized-items}
+use Rattle.common.proofs.Sized.{sized-items}
 use Rattle.bztable.specs.declared.reading.Table.{Table}
 use Rattle.bztable.specs.Reading.{Read, got}
 use Rattle.bztable.specs.Neighbours.{neighbour, neighbour_at}
@@ -21,9 +21,9 @@ image_at t b = neighbour (sides t.g) t.addresses.now t.map.now b t.t
 abbrev rows : Table → (offsets base : List ℤ) → ℕ → Read (List ℤ)
 rows t offsets base = neighbour_at t.t (sides t.g) offsets t.addresses.now t.map.now (vector_of base)
 
-pub moved-b-requires-clause-fact_2 : goal.moved-b-requires-clause-fact_2
-moved-b-requires-clause-fact_2 c =
-    let small = entry-within 1000 c.args.offsets.now c.requires.fact_2 in
+pub moved-b-requires : goal.moved-b-requires
+moved-b-requires c =
+    let small = entry-within 1000 c.args.offsets.now c.requires.fact_1 in
     rw c.row_at.ensures (sized-items _ (small _) (small _) (small _))
 
 pub returns-in_err-out : goal.returns-in_err-out
@@ -31,13 +31,13 @@ returns-in_err-out c =
     let t = c.args.table.now in
     let l = c.args.offsets.now in
     let p = err_from_is_err_and c.from_residual.result c.from_residual.ensures.1 in
-    let e = along (image_at t) l c.args.base c.loop-j.j c.row_at.ensures c.moved-b.ensures c.in_err-out.ensures.value in
-    rw (p.1, p.2) (rows-refused (rows t l c.args.base) c.loop-j.j (length l / 3) (omega (arith, c.requires.fact_3, c.loop-j-test.true)) c.loop-j.invariant e)
+    let e = along (image_at t) l c.args.base.v c.loop-j.j c.row_at.ensures c.moved-b.ensures c.in_err-out.ensures.value in
+    rw (p.1, p.2) (rows-refused (rows t l c.args.base.v) c.loop-j.j (length l / 3) (omega (arith, c.requires.fact_2, c.loop-j-test.true)) c.loop-j.invariant e)
 
 pub loop-j-preserved : goal.loop-j-preserved
 loop-j-preserved c =
     let t = c.args.table.now in
     let l = c.args.offsets.now in
-    let e = along (image_at t) l c.args.base c.loop-j.j c.row_at.ensures c.moved-b.ensures c.in_ok-out.ensures.value in
+    let e = along (image_at t) l c.args.base.v c.loop-j.j c.row_at.ensures c.moved-b.ensures c.in_ok-out.ensures.value in
     let z = to_z_pos w64 (lt_trans c.in_ok-out.ensures.below (lit< tt)) in
-    rows-set (rows t l c.args.base) c.loop-j.j c.loop-j.j c.loop-j.out c.loop-j.invariant (to_z w64 c.in_ok-out.field-0) (omega (arith, c.loop-j-test.true, c.loop-j.auto.out)) (e ∙ ap (λ z. got (z ∷ [])) (sym z))
+    rows-set (rows t l c.args.base.v) c.loop-j.j c.loop-j.j c.loop-j.out c.loop-j.invariant (to_z w64 c.in_ok-out.field-0) (omega (arith, c.loop-j-test.true, c.loop-j.auto.out)) (e ∙ ap (λ z. got (z ∷ [])) (sym z))

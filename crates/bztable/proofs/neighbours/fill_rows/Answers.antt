@@ -23,7 +23,7 @@ returns-in_err-base c =
     let l = c.args.points.now in
     let same : to_z w64 (of_z w64 (get_or l c.loop-point.point-index (pos 0))) ≡ get_or l c.loop-point.point-index (pos 0) = search rules in
     let p = err_from_is_err_and c.from_residual.result c.from_residual.ensures.1 in
-    let e = row_read (from t o) t.addresses.now l c.loop-point.point-index (c.in_err-base.ensures.value ∙ ap (address_of t.addresses.now) same) in
+    let e = row_read (from t o) t.addresses.now l c.loop-point.point-index (c.in_err-base.ensures ∙ ap (address_of t.addresses.now) same) in
     rw (p.1, p.2) (rows-refused (rows t o l) c.loop-point.point-index (length l) c.loop-point-test.true c.loop-point.invariant.read e)
 
 pub returns-in_err-fill_row : goal.returns-in_err-fill_row
@@ -34,7 +34,7 @@ returns-in_err-fill_row c =
     let l = c.args.points.now in
     let same : to_z w64 (of_z w64 (get_or l c.loop-point.point-index (pos 0))) ≡ get_or l c.loop-point.point-index (pos 0) = search rules in
     let p = err_from_is_err_and c.from_residual-in_err-fill_row.result c.from_residual-in_err-fill_row.ensures.1 in
-    let e = row_read (from t o) t.addresses.now l c.loop-point.point-index (c.in_ok-base.ensures.value ∙ ap (address_of t.addresses.now) same) in
+    let e = row_read (from t o) t.addresses.now l c.loop-point.point-index (c.in_ok-base.ensures ∙ ap (address_of t.addresses.now) same) in
     rw (p.1, p.2) (rows-refused (rows t o l) c.loop-point.point-index (length l) c.loop-point-test.true c.loop-point.invariant.read (e ∙ sym c.in_err-fill_row.ensures))
 
 pub loop-point-preserved : goal.loop-point-preserved
@@ -45,7 +45,7 @@ loop-point-preserved c =
     let i = c.loop-point.point-index in
     let n = length o / 3 in
     let same : to_z w64 (of_z w64 (get_or l i (pos 0))) ≡ get_or l i (pos 0) = search rules in
-    let e = row_read (from t o) t.addresses.now l i (c.in_ok-base.ensures.value ∙ ap (address_of t.addresses.now) same) in
+    let e = row_read (from t o) t.addresses.now l i (c.in_ok-base.ensures ∙ ap (address_of t.addresses.now) same) in
     let room = row_room i (length l) n c.loop-point-test.true in
     record {
       at_is = omega (arith, c.loop-point.invariant.at_is);

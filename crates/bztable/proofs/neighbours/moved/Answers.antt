@@ -13,4 +13,4 @@ sum-held : {a o : List ℤ} → Sized 10000000000000 a → Sized 1000 o → (n :
 sum-held f g n = plain-is (search (plain, p-sized) depth 12) tt
 
 pub returns : goal.returns
-returns c = let p = c.requires in λ i. sum-held p.fact_1 p.fact_2 0 i ∷ sum-held p.fact_1 p.fact_2 1 i ∷ sum-held p.fact_1 p.fact_2 2 i ∷ []
+returns c = let h = c.args.a.sized in λ i. sum-held h c.requires 0 i ∷ sum-held h c.requires 1 i ∷ sum-held h c.requires 2 i ∷ []

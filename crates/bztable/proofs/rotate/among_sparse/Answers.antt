@@ -5,11 +5,11 @@ use Rattle.bztable.proofs.rotate.among_sparse.Goals as goal
 
 pub returns-then-eq-clause-value : goal.returns-then-eq-clause-value
 returns-then-eq-clause-value c =
-    first-here c.args.table.now.addresses.now c.args.table.now.map.now (vector_of c.args.a) c.args.p c.args.n c.in_ok-address_at.ensures.value
-    (same-rows c.in_ok-address_at.field-0 c.args.a (search rules) (search rules) c.eq.ensures c.if-eq.true)
+    first-here c.args.table.now.addresses.now c.args.table.now.map.now (vector_of c.args.a) c.args.p c.args.n c.in_ok-address_at.ensures
+    (same-rows c.in_ok-address_at.field-0.v c.args.a (search rules) (search rules) c.eq.ensures c.if-eq.true)
 
 pub returns-clause-value : goal.returns-clause-value
 returns-clause-value c =
     c.among_range.ensures.value
-    ∙ first-on c.args.table.now.addresses.now c.args.table.now.map.now (vector_of c.args.a) c.args.p c.args.n c.in_ok-address_at.ensures.value
-    (same-rows c.in_ok-address_at.field-0 c.args.a (search rules) (search rules) c.eq.ensures c.if-eq.false)
+    ∙ first-on c.args.table.now.addresses.now c.args.table.now.map.now (vector_of c.args.a) c.args.p c.args.n c.in_ok-address_at.ensures
+    (same-rows c.in_ok-address_at.field-0.v c.args.a (search rules) (search rules) c.eq.ensures c.if-eq.false)

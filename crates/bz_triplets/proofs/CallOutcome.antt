@@ -1,38 +1,40 @@
 -- What accepted tests say of the input of `bz_triplets_at_q`, and its answer and outputs from those of the walk over the classes.
-use mathlib.Core.Path.{◌≡◌, refl, sym, ◌∙◌, ap}
-use mathlib.Core.Bool.{Bool, true, false, false≢true, ◌&&◌}
+use mathlib.Core.Path.{◌≡◌, refl, sym, ◌∙◌, ap, ap₂}
+use mathlib.Core.Bool.{Bool, true, false, false≢true, ◌&&◌, ◌||◌}
 use mathlib.Core.List.{List}
 use Prim.Native.Nat.{ℕ, ◌*◌, ◌<◌}
 use native.Mathlib.Nat.{lt_of_lt_of_le, le_trans}
 use lib.Dec.{T, eqb, lit≤}
 use lib.IntN.{ℤ, pos, negsuc, nat_abs}
-use lib.ListN.{length, replicate}
+use lib.ListN.{length}
 use lib.Ieee.{Float, binary64, of_int}
 use lib.Signed.{non_neg, mag}
 use mir.Syntax.{w64}
 use mir.Val.{SFits}
 use mir.Facts.{to_z-of_z}
 use borrow.Author.Tests.{eqb-true}
-use Rattle.std.specs.Prelude.{Ok, Err, is_err}
+use Rattle.std.specs.Prelude.{Result, Ok, Err}
 use Rattle.integer.proofs.Fits.{held}
 use Rattle.integer.proofs.Test.{holds, and_l, and_r, is_true}
 use Rattle.common.specs.Matrix.{Vec}
 use Rattle.common.specs.Array.{sides_of, matrix_of}
 use Rattle.common.specs.FloatMatrix.{float_matrix}
-use Rattle.common.specs.Limits.{matrix_within, diagonal_fits}
-use Rattle.common.specs.Tested.{giving, output_of, Tested, Accepted, ◌then◌}
+use Rattle.common.specs.Limits.{matrix_within, diagonal_fits, point_fits}
+use Rattle.common.specs.Tested.{require, giving, filled_or, output_of, Tested, Accepted, ◌then◌}
 use Rattle.common.specs.declared.Refusal.{Refusal}
 use Rattle.common.specs.declared.Refusal.TheVariants.{WrongLength, OutsideLimits}
-use Rattle.common.proofs.Tests.{passed, same-ok}
+use Rattle.common.proofs.Tests.{same-ok}
+use Rattle.grgrid.specs.Grid.{size}
 use Rattle.grgrid.specs.Sides.{GridFits}
 use Rattle.grgrid.specs.Own.{own_places, own_points}
 use Rattle.grgrid.proofs.Folding.{index-lt}
 use Rattle.bzgrid.specs.declared.GridType.{GridType}
-use Rattle.bzgrid.specs.declared.GridType.TheVariants.{Sparse, Dense, Unknown}
+use Rattle.bzgrid.specs.declared.GridType.TheVariants.{Sparse, Dense}
 use Rattle.bzgrid.specs.BzGridAddresses.{grid_type_of}
+use Rattle.bzgrid.proofs.Accepted.{passes}
 use Rattle.bzsearch.specs.Lattice.{lattice_fits}
-use Rattle.bztable.specs.Reading.{Read, got, whole_addresses, address_of, tests_after, list_of}
-use Rattle.bz_triplets.specs.BzTriplets.{State, Walk, walk_of, point_of, triplet_of, triplet_at, read_each, input_tests, triplets_read, triplet_list, marks, lengths, lengths_for, bz_triplet_tests, bz_triplets_answer, triplets_written, left_written, left_length_written}
+use Rattle.bztable.specs.Reading.{Read, got, whole_addresses, address_of, list_of}
+use Rattle.bz_triplets.specs.BzTriplets.{State, Walk, walk_of, point_of, triplet_of, triplet_at, read_each, is_dense, input_tests, triplets_read, states_read, triplet_list, marks, lengths, bz_triplets_answer, triplets_written, left_written, left_length_written}
 use Rattle.bz_triplets.specs.TripletsView.{Room}
 
 pub not-refused : {A : Type 0} {x : A} {r : Refusal} → ◌≡◌ {A = Read A} (Err r) (got x) → ⊥
@@ -54,9 +56,8 @@ whole_below {z} f = rw (to_z-of_z f) (below z f.sfits)
 pub point-below : (d : Vec ℕ) → GridFits d → (t : GridType) {n : ℕ} → n < 9223372036854775808 → (a0 : Vec ℤ) → point_of d t n a0 < 9223372036854775808
 point-below d g Sparse h a0 = h
 point-below d g Dense h a0 = lt_of_lt_of_le (index-lt d (record { positive = g.positive }) a0) (le_trans g.few (lit≤ tt))
-point-below d g Unknown h a0 = h
 
--- ---- the input of a call, with the layout t of its tables and the lengths of its outputs
+-- ---- the input of a call, with the type t of its tables and the lengths of its outputs
 pub record Input : Type 0 where
   pub q0 : ℤ
   pub addresses : List ℤ
@@ -65,39 +66,59 @@ pub record Input : Type 0 where
   pub d : List ℤ
   pub q : List (List ℤ)
   pub lattice : List (List Float)
-  pub t : GridType
+  pub t : ℤ
   pub n : ℕ
   pub m : ℕ
   pub l : ℕ
 
-pub record InputAccepted (i : Input) : Type 0 where
+pub record InputAccepted (i : Input) (k : GridType) : Type 0 where
   pub room : Room i.classes i.n i.m i.l
   pub grid : T (diagonal_fits i.d)
+  pub known : grid_type_of i.t ≡ Ok k
 
 -- over the grid g by the walk w, where p is the point of q0
-abbrev each : Input → Vec ℕ → Walk → Vec ℤ → ℕ → Read (List State)
-each i g w a0 p = read_each (triplet_of i.t g i.map w a0 p) (own_points i.classes (length i.classes))
+abbrev each : Input → GridType → Vec ℕ → Walk → Vec ℤ → ℕ → Read (List State)
+each i k g w a0 p = read_each (triplet_of k g i.map w a0 p) (own_points i.classes (length i.classes))
 
 module _ (i : Input) where
-  abbrev pub inputs : ℤ → Tested
-  inputs q0 = input_tests q0 i.addresses i.classes i.d i.q i.lattice i.t i.n i.m i.l
+  abbrev pub inputs : (q0 t : ℤ) → Result GridType Refusal
+  inputs q0 t = input_tests q0 i.addresses i.classes i.d i.q i.lattice t i.n i.m i.l
 
-  abbrev pub read : Read (List State)
-  read = triplets_read i.q0 i.addresses i.map i.classes i.d i.q i.lattice i.t
+  abbrev pub read : GridType → Read (List State)
+  read k = triplets_read i.q0 i.addresses i.map i.classes i.d i.q i.lattice k
 
-  abbrev pub tests : Tested
-  tests = bz_triplet_tests i.q0 i.addresses i.map i.classes i.d i.q i.lattice i.t i.n i.m i.l
+  abbrev pub states : List State
+  states = states_read i.q0 i.addresses i.map i.classes i.d i.q i.lattice i.t
 
-  pub input-accepted : (q0 : ℤ) → inputs q0 ≡ Accepted → InputAccepted i
+  abbrev pub answer : Tested
+  answer = bz_triplets_answer i.q0 i.addresses i.map i.classes i.d i.q i.lattice i.t i.n i.m i.l
+
+  abbrev pub lengths_fit : ℕ → Bool
+  lengths_fit own = whole_addresses i.addresses && (eqb i.n (own * 3) && (eqb i.m own && eqb i.l own))
+
+  abbrev limits_fit : Bool
+  limits_fit = diagonal_fits i.d && (matrix_within 1000 (matrix_of i.q) && lattice_fits (float_matrix i.lattice))
+
+  abbrev pub point_inside : ℤ → Result GridType Refusal → Bool
+  point_inside q0 r = is_dense r || point_fits q0 (pos (size (sides_of i.d)))
+
+  -- ---- the tests of the input
+  pub tested : (q0 t : ℤ) {u v w : Bool} {r : Result GridType Refusal} → u ≡ lengths_fit (own_places i.classes (length i.classes)) → v ≡ limits_fit → w ≡ point_inside q0 (grid_type_of t) → r ≡ grid_type_of t
+      → require u WrongLength (require v OutsideLimits (require w OutsideLimits r)) ≡ inputs q0 t
   unfolding input_tests
-  input-accepted q0 e =
+  tested q0 t a b c e = λ j. require (a j) WrongLength (require (b j) OutsideLimits (require (c j) OutsideLimits (e j)))
+
+  input-passed : {k : GridType} → inputs i.q0 i.t ≡ Ok k → InputAccepted i k
+  unfolding input_tests
+  input-passed e =
       let own = own_places i.classes (length i.classes) in
       let triplets = eqb i.n (own * 3) in
       let left = eqb i.m own in
       let lengths = eqb i.l own in
       let limits = matrix_within 1000 (matrix_of i.q) && lattice_fits (float_matrix i.lattice) in
-      let a = passed (whole_addresses i.addresses && (triplets && (left && lengths))) WrongLength _ e in
-      let b = passed (diagonal_fits i.d && limits) OutsideLimits _ a.1 in
+      let a = passes (whole_addresses i.addresses && (triplets && (left && lengths))) WrongLength _ e in
+      let b = passes (diagonal_fits i.d && limits) OutsideLimits _ a.1 in
+      let c = passes (point_inside i.q0 (grid_type_of i.t)) OutsideLimits (grid_type_of i.t) b.1 in
       let three = and_r (whole_addresses i.addresses) (triplets && (left && lengths)) (holds a.0) in
       let two = and_r triplets (left && lengths) three in
       record {
@@ -107,76 +128,61 @@ module _ (i : Input) where
           lengths = eqb-true i.l own (is_true lengths (and_r left lengths two));
         };
         grid = and_l (diagonal_fits i.d) limits (holds b.0);
+        known = c.1;
       }
 
-  -- ---- where the code has q0 back from its bits
-  module _ {q0 : ℤ} (same : q0 ≡ i.q0) where
-    pub tests-read : {s : Tested} → s ≡ inputs q0 → tests_after s read ≡ tests
-    unfolding bz_triplet_tests
-    tests-read e = ap (λ s. tests_after s read) (e ∙ ap inputs same)
+  -- ---- where the code has q0 and the type back from their bits
+  module _ {q0 t : ℤ} (same : q0 ≡ i.q0) (same-type : t ≡ i.t) where
+    pub input-accepted : {k : GridType} → Ok k ≡ inputs q0 t → InputAccepted i k
+    input-accepted e = input-passed (sym (e ∙ ap₂ inputs same same-type))
 
-    abbrev from : Read (Vec ℤ) → Read (List State)
-    from b = b then λ a0. read_each (triplet_at i.q0 i.addresses i.map i.classes i.d i.q i.lattice i.t a0) (own_points i.classes (length i.classes))
-
-    pub read-from : {b : Read (Vec ℤ)} → b ≡ address_of i.addresses q0 → from b ≡ read
-    unfolding triplets_read
-    read-from e = ap from (e ∙ ap (address_of i.addresses) same)
-
-    pub walked : {a0 : Vec ℤ} → got a0 ≡ address_of i.addresses q0 → {g : Vec ℕ} → g ≡ sides_of i.d → {w : Walk} → w ≡ walk_of i.addresses i.d i.q i.lattice → {p : ℕ} → p ≡ point_of g i.t (nat_abs q0) a0 → each i g w a0 p ≡ read
-    walked {a0} f {g} eg ew ep = (λ j. each i (eg j) (ew j) a0 ((ep ∙ (λ j. point_of (eg j) i.t (nat_abs (same j)) a0)) j)) ∙ read-from f
-
-  -- ---- where the walk gave r and left x
-  module _ {B : Type 0} (f : List State → B) (r : Tested) (x : B) (w : giving r x ≡ (read then λ l. got (f l))) where
-    pub walk-answer : r ≡ (read then λ _. Accepted)
-    walk-answer = given r ∙ ap (λ y. y then λ _. Accepted) w ∙ dropped read
-      where
-        given : (r : Tested) → r ≡ (giving r x then λ _. Accepted)
-        given (Ok _) = refl
-        given (Err e) = refl
-
-        dropped : (y : Read (List State)) → ((y then λ l. got (f l)) then λ _. Accepted) ≡ (y then λ _. Accepted)
-        dropped (Ok l) = refl
-        dropped (Err e) = refl
-
-    pub walk-output : r ≡ Accepted → x ≡ f (list_of read)
-    walk-output e = go read (ap (λ r. giving r x) (sym e) ∙ w)
-      where
-        go : (y : Read (List State)) → got x ≡ (y then λ l. got (f l)) → x ≡ f (list_of y)
-        go (Ok l) h = same-ok h
-        go (Err e) h = absurd (not-refused (sym h))
-
-  -- ---- the call, which is given the type u
-  module _ (u : ℤ) (e : i.t ≡ grid_type_of u) {s : Tested} (f : s ≡ tests) where
-    pub call-answer : s ≡ bz_triplets_answer i.q0 i.addresses i.map i.classes i.d i.q i.lattice u i.n i.m i.l
+    pub tests-read : {r : Result GridType Refusal} → r ≡ inputs q0 t → (r then λ k. read k then λ _. Accepted) ≡ answer
     unfolding bz_triplets_answer
-    call-answer = f ∙ ap (λ t. bz_triplet_tests i.q0 i.addresses i.map i.classes i.d i.q i.lattice t i.n i.m i.l) e
+    tests-read e = ap (λ r. r then λ k. read k then λ _. Accepted) (e ∙ ap₂ inputs same same-type)
 
-    abbrev tests_of : GridType → Tested
-    tests_of t = bz_triplet_tests i.q0 i.addresses i.map i.classes i.d i.q i.lattice t i.n i.m i.l
+  module _ (k : GridType) where
+    module _ {q0 : ℤ} (same : q0 ≡ i.q0) where
+      abbrev from : Read (Vec ℤ) → Read (List State)
+      from b = b then λ a0. read_each (triplet_at i.q0 i.addresses i.map i.classes i.d i.q i.lattice k a0) (own_points i.classes (length i.classes))
 
-    abbrev read_of : GridType → Read (List State)
-    read_of t = triplets_read i.q0 i.addresses i.map i.classes i.d i.q i.lattice t
+      pub read-from : {b : Read (Vec ℤ)} → b ≡ address_of i.addresses q0 → from b ≡ read k
+      unfolding triplets_read
+      read-from e = ap from (e ∙ ap (address_of i.addresses) same)
 
-    pub call-triplets : output_of s i.n (triplet_list (list_of read)) ≡ triplets_written i.q0 i.addresses i.map i.classes i.d i.q i.lattice u i.n i.m i.l
+      pub walked : {a0 : Vec ℤ} → got a0 ≡ address_of i.addresses q0 → {g : Vec ℕ} → g ≡ sides_of i.d → {w : Walk} → w ≡ walk_of i.addresses i.d i.q i.lattice → {p : ℕ} → p ≡ point_of g k (nat_abs q0) a0 → each i k g w a0 p ≡ read k
+      walked {a0} f {g} eg ew ep = (λ j. each i k (eg j) (ew j) a0 ((ep ∙ (λ j. point_of (eg j) k (nat_abs (same j)) a0)) j)) ∙ read-from f
+
+    -- ---- where the walk gave r and left x
+    module _ {B : Type 0} (f : List State → B) (r : Tested) (x : B) (w : giving r x ≡ (read k then λ l. got (f l))) where
+      pub walk-answer : r ≡ (read k then λ _. Accepted)
+      walk-answer = given r ∙ ap (λ y. y then λ _. Accepted) w ∙ dropped (read k)
+        where
+          given : (r : Tested) → r ≡ (giving r x then λ _. Accepted)
+          given (Ok _) = refl
+          given (Err e) = refl
+
+          dropped : (y : Read (List State)) → ((y then λ l. got (f l)) then λ _. Accepted) ≡ (y then λ _. Accepted)
+          dropped (Ok l) = refl
+          dropped (Err e) = refl
+
+      pub walk-output : InputAccepted i k → r ≡ Accepted → x ≡ f states
+      unfolding states_read
+      walk-output a e = go (read k) (ap (λ r. giving r x) (sym e) ∙ w) ∙ ap (λ t. f (list_of (t then read))) (sym a.known)
+        where
+          go : (y : Read (List State)) → got x ≡ (y then λ l. got (f l)) → x ≡ f (list_of y)
+          go (Ok l) h = same-ok h
+          go (Err e) h = absurd (not-refused (sym h))
+
+  -- ---- the outputs of the call
+  module _ {s : Tested} (e : s ≡ answer) where
+    pub call-triplets : output_of s i.n (triplet_list states) ≡ triplets_written i.q0 i.addresses i.map i.classes i.d i.q i.lattice i.t i.n i.m i.l
     unfolding triplets_written
-    call-triplets = ap (λ s. output_of s i.n (triplet_list (list_of read))) f ∙ ap (λ t. output_of (tests_of t) i.n (triplet_list (list_of (read_of t)))) e
+    call-triplets = ap (λ s. output_of s i.n (triplet_list states)) e
 
-    pub call-marks : output_of s i.m (marks (list_of read)) ≡ left_written i.q0 i.addresses i.map i.classes i.d i.q i.lattice u i.n i.m i.l
+    pub call-marks : output_of s i.m (marks states) ≡ left_written i.q0 i.addresses i.map i.classes i.d i.q i.lattice i.t i.n i.m i.l
     unfolding left_written
-    call-marks = ap (λ s. output_of s i.m (marks (list_of read))) f ∙ ap (λ t. output_of (tests_of t) i.m (marks (list_of (read_of t)))) e
+    call-marks = ap (λ s. output_of s i.m (marks states)) e
 
-    pub call-lengths : lengths_for s i.l (lengths (list_of read)) ≡ left_length_written i.q0 i.addresses i.map i.classes i.d i.q i.lattice u i.n i.m i.l
+    pub call-lengths : filled_or (of_int binary64 (negsuc 0)) s i.l (lengths states) ≡ left_length_written i.q0 i.addresses i.map i.classes i.d i.q i.lattice i.t i.n i.m i.l
     unfolding left_length_written
-    call-lengths = ap (λ s. lengths_for s i.l (lengths (list_of read))) f ∙ ap (λ t. lengths_for (tests_of t) i.l (lengths (list_of (read_of t)))) e
-
--- ---- the output of lengths
-module _ (s : Tested) (n : ℕ) (l : List Float) where
-  pub lengths-refused : is_err s ≡ true → replicate n (of_int binary64 (negsuc 0)) ≡ lengths_for s n l
-  lengths-refused = go s
-    where
-      go : (s : Tested) → is_err s ≡ true → replicate n (of_int binary64 (negsuc 0)) ≡ lengths_for s n l
-      go (Ok _) e = absurd (false≢true e)
-      go (Err r) e = refl
-
-  pub lengths-kept : s ≡ Accepted → l ≡ lengths_for s n l
-  lengths-kept e = ap (λ s. lengths_for s n l) (sym e)
+    call-lengths = ap (λ s. filled_or (of_int binary64 (negsuc 0)) s i.l (lengths states)) e

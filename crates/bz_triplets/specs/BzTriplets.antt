@@ -1,5 +1,5 @@
 -- `bz_triplets_at_q`: for each class a triplet of images of q0, q1 and q2. The image table and the class map may hold anything.
-use Rattle.std.specs.Prelude.{Bool, true, false, ◌&&◌, ◌||◌, List, [], ◌∷◌, ◌++◌, map as map_list, ℕ, zero, suc, ◌+◌, ◌*◌, ◌-◌, eqb, ℤ, pos, negsuc, nat_abs, ◌+ℤ◌, length, replicate, Float, Ok, Err}
+use Rattle.std.specs.Prelude.{Bool, true, false, ◌&&◌, ◌||◌, List, [], ◌∷◌, ◌++◌, map as map_list, ℕ, zero, suc, ◌+◌, ◌*◌, ◌-◌, eqb, ℤ, pos, negsuc, nat_abs, ◌+ℤ◌, length, Float, Result, Ok, Err}
 use Rattle.std.specs.Float.{binary64}
 use Rattle.std.specs.Float.Ieee.{sub, div, of_int, lt}
 use Rattle.integer.specs.Same.{same}
@@ -7,17 +7,18 @@ use Rattle.common.specs.Matrix.{Vec, Mat, side, vector, entry, matrix, map_vec, 
 use Rattle.common.specs.Array.{sides_of, matrix_of, items}
 use Rattle.common.specs.FloatMatrix.{floats, float_matrix}
 use Rattle.common.specs.Limits.{matrix_within, diagonal_fits, point_fits}
-use Rattle.common.specs.Tested.{require, output_of, Tested, Accepted, ◌then◌}
-use Rattle.common.specs.declared.Refusal.TheVariants.{OutsideLimits, BadGridType, WrongLength}
+use Rattle.common.specs.Tested.{require, filled_or, output_of, Tested, Accepted, ◌then◌}
+use Rattle.common.specs.declared.Refusal.{Refusal}
+use Rattle.common.specs.declared.Refusal.TheVariants.{OutsideLimits, WrongLength}
 use Rattle.grgrid.specs.Grid.{size, index}
 use Rattle.grgrid.specs.Own.{own_places, own_points}
 use Rattle.bzgrid.specs.declared.GridType.{GridType}
-use Rattle.bzgrid.specs.declared.GridType.TheVariants.{Sparse, Dense, Unknown}
+use Rattle.bzgrid.specs.declared.GridType.TheVariants.{Sparse, Dense}
 use Rattle.bzsearch.specs.Lattice.{bz_tolerance, lattice_fits}
 use Rattle.bzsearch.specs.Search.{length_squared}
 use Rattle.bzgrid.specs.Table.{listed}
-use Rattle.bzgrid.specs.BzGridAddresses.{grid_type_of, is_known}
-use Rattle.bztable.specs.Reading.{Read, got, outside, whole_addresses, address_at, address_of, place_at, tests_after, list_of}
+use Rattle.bzgrid.specs.BzGridAddresses.{grid_type_of}
+use Rattle.bztable.specs.Reading.{Read, got, whole_addresses, address_at, address_of, place_at, list_of}
 use Rattle.triplet_grid.specs.Partner.{third}
 use Rattle.bz_triplets.specs.Choosing.{Found, start, left, closed, tried, nested}
 
@@ -70,7 +71,6 @@ place_in first others (suc k) = others + k
 abbrev pub places_read : GridType → List ℤ → ℕ → ℕ → Read (List ℕ)
 places_read Sparse map n p = place_at map (8 * n + p) then λ s. place_at map (8 * n + p + 1) then λ e. got (listed (place_in p (n + s)) (e + 1 - s))
 places_read Dense map n p = place_at map p then λ s. place_at map (p + 1) then λ e. got (listed (place_in s (s + 1)) (e - s))
-places_read Unknown map n p = outside
 
 -- ---- the triplet of the class of q1
 unfoldable pub chosen : GridType → ℕ → List ℤ → Walk → (q0 q1 q2 : ℕ) → Read State
@@ -83,7 +83,6 @@ chosen t n map w q0 q1 q2 =
 abbrev pub first_of : (map addresses : List ℤ) → GridType → ℕ → Read (Vec ℤ)
 first_of map addresses Sparse q1 = address_at addresses q1
 first_of map addresses Dense q1 = place_at map q1 then address_at addresses
-first_of map addresses Unknown q1 = outside
 
 -- where a0 is an address of q0
 unfoldable pub triplet_of : GridType → Vec ℕ → List ℤ → Walk → Vec ℤ → (q0 q1 : ℕ) → Read State
@@ -94,7 +93,6 @@ triplet_of t d map w a0 q0 q1 = first_of map w.addresses t q1 then λ a1. chosen
 abbrev pub point_of : Vec ℕ → GridType → ℕ → Vec ℤ → ℕ
 point_of d Sparse q0 a0 = q0
 point_of d Dense q0 a0 = index d a0
-point_of d Unknown q0 a0 = q0
 
 -- of each point of a list
 abbrev pub read_each : {A : Type 0} → (ℕ → Read A) → List ℕ → Read (List A)
@@ -129,20 +127,19 @@ abbrev pub lengths : List State → List Float
 lengths l = map_list length_of l
 
 -- ---- the call
-abbrev pub is_dense : GridType → Bool
-is_dense Sparse = false
-is_dense Dense = true
-is_dense Unknown = false
+abbrev pub is_dense : Result GridType Refusal → Bool
+is_dense (Ok Sparse) = false
+is_dense (Ok Dense) = true
+is_dense (Err r) = false
 
-module _ (q0 : ℤ) (addresses classes d : List ℤ) (q : List (List ℤ)) (lattice : List (List Float)) (t : GridType) (n m l : ℕ) where
-  -- the three outputs have n, m and l places
-  unfoldable pub input_tests : Tested
+module _ (q0 : ℤ) (addresses classes d : List ℤ) (q : List (List ℤ)) (lattice : List (List Float)) (t : ℤ) (n m l : ℕ) where
+  -- the three outputs have n, m and l places; the layout of the tables, where the tests pass
+  unfoldable pub input_tests : Result GridType Refusal
   input_tests =
       let own = own_places classes (length classes) in
       require (whole_addresses addresses && (eqb n (own * 3) && (eqb m own && eqb l own))) WrongLength
       (require (diagonal_fits d && (matrix_within 1000 (matrix_of q) && lattice_fits (float_matrix lattice))) OutsideLimits
-      (require (is_dense t || point_fits q0 (pos (size (sides_of d)))) OutsideLimits
-      (require (is_known t) BadGridType Accepted)))
+      (require (is_dense (grid_type_of t) || point_fits q0 (pos (size (sides_of d)))) OutsideLimits (grid_type_of t)))
 
 abbrev pub walk_of : (addresses d : List ℤ) → List (List ℤ) → List (List Float) → Walk
 walk_of addresses d q lattice = record { lqd = lqd_inv (float_matrix lattice) (matrix_of q) (sides_of d); tolerance = bz_tolerance (float_matrix lattice) (sides_of d); addresses = addresses }
@@ -156,35 +153,25 @@ module _ (q0 : ℤ) (addresses map classes d : List ℤ) (q : List (List ℤ)) (
   unfolding triplet_of lqd_inv
   triplets_read = address_of addresses q0 then λ a0. read_each (triplet_at a0) (own_points classes (length classes))
 
--- an output of lengths
-abbrev pub lengths_for : Tested → ℕ → List Float → List Float
-lengths_for (Ok _) n l = l
-lengths_for (Err r) n l = replicate n (of_int binary64 (negsuc 0))
+module _ (q0 : ℤ) (addresses map classes d : List ℤ) (q : List (List ℤ)) (lattice : List (List Float)) (t : ℤ) where
+  -- what a call reads whose tests pass
+  unfoldable pub states_read : List State
+  unfolding triplets_read
+  states_read = list_of (grid_type_of t then triplets_read q0 addresses map classes d q lattice)
 
-unfoldable pub bz_triplet_tests : ℤ → (addresses map classes d : List ℤ) → List (List ℤ) → List (List Float) → GridType → (n m l : ℕ) → Tested
-unfolding input_tests triplets_read
-bz_triplet_tests q0 addresses map classes d q lattice t n m l =
-    tests_after (input_tests q0 addresses classes d q lattice t n m l) (triplets_read q0 addresses map classes d q lattice t)
+  module _ (n m l : ℕ) where
+    unfoldable pub bz_triplets_answer : Tested
+    unfolding input_tests triplets_read
+    bz_triplets_answer = input_tests q0 addresses classes d q lattice t n m l then λ k. triplets_read q0 addresses map classes d q lattice k then λ _. Accepted
 
-module _ (q0 : ℤ) (addresses map classes d : List ℤ) (q : List (List ℤ)) (lattice : List (List Float)) (t : ℤ) (n m l : ℕ) where
-  abbrev tests : Tested
-  tests = bz_triplet_tests q0 addresses map classes d q lattice (grid_type_of t) n m l
+    unfoldable pub triplets_written : List ℤ
+    unfolding bz_triplets_answer states_read
+    triplets_written = output_of bz_triplets_answer n (triplet_list states_read)
 
-  abbrev states : List State
-  states = list_of (triplets_read q0 addresses map classes d q lattice (grid_type_of t))
+    unfoldable pub left_written : List ℤ
+    unfolding bz_triplets_answer states_read
+    left_written = output_of bz_triplets_answer m (marks states_read)
 
-  unfoldable pub bz_triplets_answer : Tested
-  unfolding bz_triplet_tests
-  bz_triplets_answer = tests
-
-  unfoldable pub triplets_written : List ℤ
-  unfolding bz_triplet_tests triplets_read
-  triplets_written = output_of tests n (triplet_list states)
-
-  unfoldable pub left_written : List ℤ
-  unfolding bz_triplet_tests triplets_read
-  left_written = output_of tests m (marks states)
-
-  unfoldable pub left_length_written : List Float
-  unfolding bz_triplet_tests triplets_read
-  left_length_written = lengths_for tests l (lengths states)
+    unfoldable pub left_length_written : List Float
+    unfolding bz_triplets_answer states_read
+    left_length_written = filled_or (of_int binary64 (negsuc 0)) bz_triplets_answer l (lengths states_read)

@@ -55,7 +55,6 @@ fn places_at(table: &Table, p: usize) -> Result<Places, Refusal>
     match table.t {
         GridType::Sparse => sparse_places(table, p),
         GridType::Dense => dense_places(table, p),
-        GridType::Unknown => Err(Refusal::OutsideTable),
     }
 }
 
@@ -81,7 +80,6 @@ fn first_of(table: &Table, q1: usize) -> Result<[i64; 3], Refusal>
     match table.t {
         GridType::Sparse => reading::address_at(table.addresses, q1),
         GridType::Dense => reading::address_at(table.addresses, reading::place_at(table.map, q1)?),
-        GridType::Unknown => Err(Refusal::OutsideTable),
     }
 }
 

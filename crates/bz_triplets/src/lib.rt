@@ -16,8 +16,8 @@ ghost use Rattle.grgrid.specs.Grid.{size};
 ghost use Rattle.grgrid.specs.Sides.{sides};
 ghost use Rattle.bzsearch.specs.Lattice.{bz_tolerance, lattice_fits};
 ghost use Rattle.bzsearch.specs.SearchView.{float_nine};
-ghost use Rattle.bztable.specs.Reading.{whole_addresses, list_of};
-ghost use Rattle.bz_triplets.specs.BzTriplets.{lqd_inv, point_of, is_dense, input_tests, triplets_read, triplet_list, marks, lengths, bz_triplet_tests, bz_triplets_answer, triplets_written, left_written, left_length_written};
+ghost use Rattle.bztable.specs.Reading.{whole_addresses};
+ghost use Rattle.bz_triplets.specs.BzTriplets.{lqd_inv, point_of, is_dense, input_tests, states_read, triplet_list, marks, lengths, bz_triplets_answer, triplets_written, left_written, left_length_written};
 ghost use Rattle.bz_triplets.specs.TripletsView.{row_over};
 
 use bzgrid::GridType;
@@ -71,21 +71,17 @@ fn limits_fit(d: [i64; 3], q: [[i64; 3]; 3], lattice: [[f64; 3]; 3]) -> bool
 }
 
 // Type 2 has q0 by an image, whose index may be anything.
-fn point_fits(t: GridType, q0: i64, d: [i64; 3]) -> bool
+fn point_fits(t: Result<GridType, Refusal>, q0: i64, d: [i64; 3]) -> bool
     requires { T (diagonal_fits d) }
     ensures { result ≡ is_dense t || point_fits q0 (pos (size (sides_of d))) }
 {
     is_dense(t) || common::point_fits(q0, grgrid::points(grgrid::grid_of(d)) as i64)
 }
 
-fn is_dense(t: GridType) -> bool
+fn is_dense(t: Result<GridType, Refusal>) -> bool
     ensures { result ≡ is_dense t }
 {
-    match t {
-        GridType::Sparse => false,
-        GridType::Dense => true,
-        GridType::Unknown => false,
-    }
+    t == Ok(GridType::Dense)
 }
 
 #[tactic(auto, unfolding(crate::specs::BzTriplets::input_tests))]
@@ -96,12 +92,12 @@ fn input_tests(
     d: [i64; 3],
     q: [[i64; 3]; 3],
     lattice: [[f64; 3]; 3],
-    t: GridType,
+    bz_grid_type: i64,
     triplets: usize,
     left: usize,
     lengths: usize,
-) -> Result<(), Refusal>
-    ensures { result ≡ input_tests q0 addresses.now class_map.now d q lattice t triplets left lengths }
+) -> Result<GridType, Refusal>
+    ensures { result ≡ input_tests q0 addresses.now class_map.now d q lattice bz_grid_type triplets left lengths }
 {
     if !lengths_fit(
         addresses,
@@ -115,13 +111,11 @@ fn input_tests(
     if !limits_fit(d, q, lattice) {
         return Err(Refusal::OutsideLimits);
     }
+    let t = GridType::try_from(bz_grid_type);
     if !point_fits(t, q0, d) {
         return Err(Refusal::OutsideLimits);
     }
-    if !bzgrid::is_known(t) {
-        return Err(Refusal::BadGridType);
-    }
-    Ok(())
+    t
 }
 
 // The grid point of q0, which type 2 has by an image at address a0.
@@ -132,7 +126,6 @@ fn point_of(t: GridType, g: Grid, q0: i64, a0: [i64; 3]) -> usize
     match t {
         GridType::Sparse => q0 as usize,
         GridType::Dense => grgrid::grid_index_from_address(a0, g),
-        GridType::Unknown => q0 as usize,
     }
 }
 
@@ -145,24 +138,24 @@ fn triplet_tests(
     d: [i64; 3],
     q: [[i64; 3]; 3],
     lattice: [[f64; 3]; 3],
-    t: GridType,
+    bz_grid_type: i64,
     out: &mut [i64],
     left: &mut [i64],
     left_length: &mut [f64],
 ) -> Result<(), Refusal>
-    ensures value { result ≡ bz_triplet_tests q0 addresses.now map.now class_map.now d q lattice t (length out.old) (length left.old) (length left_length.old) }
-    ensures out_after { result ≡ Accepted → out.new ≡ triplet_list (list_of (triplets_read q0 addresses.now map.now class_map.now d q lattice t)) }
-    ensures left_after { result ≡ Accepted → left.new ≡ marks (list_of (triplets_read q0 addresses.now map.now class_map.now d q lattice t)) }
-    ensures left_length_after { result ≡ Accepted → left_length.new ≡ lengths (list_of (triplets_read q0 addresses.now map.now class_map.now d q lattice t)) }
+    ensures value { result ≡ bz_triplets_answer q0 addresses.now map.now class_map.now d q lattice bz_grid_type (length out.old) (length left.old) (length left_length.old) }
+    ensures out_after { result ≡ Accepted → out.new ≡ triplet_list (states_read q0 addresses.now map.now class_map.now d q lattice bz_grid_type) }
+    ensures left_after { result ≡ Accepted → left.new ≡ marks (states_read q0 addresses.now map.now class_map.now d q lattice bz_grid_type) }
+    ensures left_length_after { result ≡ Accepted → left_length.new ≡ lengths (states_read q0 addresses.now map.now class_map.now d q lattice bz_grid_type) }
 {
-    input_tests(
+    let t = input_tests(
         q0,
         addresses,
         class_map,
         d,
         q,
         lattice,
-        t,
+        bz_grid_type,
         out.len(),
         left.len(),
         left_length.len(),
@@ -207,7 +200,6 @@ pub fn bz_triplets_at_q(
     ensures left_after { left.new ≡ left_written q0 addresses.now map.now class_map.now d q lattice bz_grid_type (length out.old) (length left.old) (length left_length.old) }
     ensures left_length_after { left_length.new ≡ left_length_written q0 addresses.now map.now class_map.now d q lattice bz_grid_type (length out.old) (length left.old) (length left_length.old) }
 {
-    let t = bzgrid::grid_type(bz_grid_type);
     let answer = triplet_tests(
         q0,
         addresses,
@@ -216,7 +208,7 @@ pub fn bz_triplets_at_q(
         d,
         q,
         lattice,
-        t,
+        bz_grid_type,
         &mut *out,
         &mut *left,
         &mut *left_length,

@@ -5,14 +5,14 @@ use mathlib.Core.List.{List, [], ◌∷◌}
 use Prim.Native.Nat.{ℕ, zero, suc, ◌*◌, ◌/◌}
 use native.Mathlib.Omega.{arith}
 use lib.Dec.{T, eqb}
-use lib.IntN.{ℤ, negsuc}
+use lib.IntN.{ℤ}
 use lib.ListN.{length, replicate}
 use borrow.Author.Tests.{eqb-true}
 use Rattle.std.specs.Prelude.{Result, Ok, Err, is_err}
 use Rattle.integer.proofs.Test.{holds}
 use Rattle.common.specs.Array.{sides_of}
 use Rattle.common.specs.Limits.{all_within, diagonal_fits}
-use Rattle.common.specs.Tested.{giving, output_of, Tested, Accepted, ◌then◌}
+use Rattle.common.specs.Tested.{giving, filled_or, output_of, Tested, Accepted, ◌then◌}
 use Rattle.common.specs.declared.Refusal.{Refusal}
 use Rattle.common.specs.declared.Refusal.TheVariants.{WrongLength, OutsideLimits}
 use Rattle.common.proofs.Tests.{passed}
@@ -89,17 +89,17 @@ some zero e h = true≢false e
 some (suc n) e h = omega (arith, h)
 
 -- ---- what a refusal leaves
-module _ (s : Tested) (n : ℕ) (l : List ℤ) where
-  pub output-refused : is_err s ≡ true → replicate n (negsuc 0) ≡ output_of s n l
+module _ {E : Type 0} (v : E) (s : Tested) (n : ℕ) (l : List E) where
+  pub output-refused : is_err s ≡ true → replicate n v ≡ filled_or v s n l
   output-refused = go s
     where
-      go : (s : Tested) → is_err s ≡ true → replicate n (negsuc 0) ≡ output_of s n l
+      go : (s : Tested) → is_err s ≡ true → replicate n v ≡ filled_or v s n l
       go (Ok _) e = absurd (true≢false (sym e))
       go (Err r) e = refl
 
-  pub output-kept : is_err s ≡ false → (s ≡ Accepted) × (l ≡ output_of s n l)
+  pub output-kept : is_err s ≡ false → (s ≡ Accepted) × (l ≡ filled_or v s n l)
   output-kept = go s
     where
-      go : (s : Tested) → is_err s ≡ false → (s ≡ Accepted) × (l ≡ output_of s n l)
+      go : (s : Tested) → is_err s ≡ false → (s ≡ Accepted) × (l ≡ filled_or v s n l)
       go (Ok _) e = (refl, refl)
       go (Err r) e = absurd (true≢false e)

@@ -1,31 +1,29 @@
 use mir.Facts.{to_z-of_z}
-use Rattle.std.proofs.Common.{pos, ◌||◌, sym, ◌∙◌, ap}
-use Rattle.common.specs.Array.{sides_of}
-use Rattle.common.specs.Limits.{point_fits}
-use Rattle.grgrid.specs.Grid.{size}
-use Rattle.bz_triplets.specs.BzTriplets.{is_dense, input_tests}
+use Rattle.std.proofs.Common.{◌≡◌, true, [], length, ◌∙◌, ap}
+use Rattle.grgrid.specs.Own.{own_places}
+use Rattle.bzgrid.specs.BzGridAddresses.{grid_type_of}
+use Rattle.bz_triplets.proofs.CallOutcome.{Input, lengths_fit, point_inside, tested}
 use Rattle.bz_triplets.proofs.input_tests.Goals as goal
+use Rattle.bz_triplets.proofs.input_tests.Goals.{After-point_fits}
+
+-- the call's input; the map and the lengths of the outputs are not read
+abbrev input : After-point_fits → Input
+input c =
+    let a = c.args in
+    record { q0 = a.q0; addresses = a.addresses.now; map = []; classes = a.class_map.now; d = a.d; q = a.q; lattice = a.lattice; t = a.bz_grid_type; n = a.triplets; m = a.left; l = a.lengths }
+
+room : (c : After-point_fits) → true ≡ lengths_fit (input c) (own_places c.args.class_map.now (length c.args.class_map.now))
+room c = c.if-not-lengths_fit.ensures ∙ ap (lengths_fit (input c)) c.own_places.ensures.value
+
+kind : (c : After-point_fits) → c.try_from-t.result ≡ grid_type_of c.args.bz_grid_type
+kind c = c.try_from-t.ensures ∙ ap grid_type_of (to_z-of_z c.ranges.bz_grid_type)
 
 pub returns-then-not-point_fits : goal.returns-then-not-point_fits
-unfolding input_tests
 returns-then-not-point_fits c =
-    let room = sym c.if-not-lengths_fit.ensures in
-    let limits = sym c.if-not-limits_fit.ensures in
-    let point = sym (c.if-not-point_fits.ensures ∙ ap (λ q0. is_dense c.args.t || point_fits q0 (pos (size (sides_of c.args.d)))) (to_z-of_z c.ranges.q0)) in
-    rw (← c.own_places.ensures.value, room, limits, point)
-
-pub returns-then-not-is_known : goal.returns-then-not-is_known
-unfolding input_tests
-returns-then-not-is_known c =
-    let room = sym c.if-not-lengths_fit.ensures in
-    let limits = sym c.if-not-limits_fit.ensures in
-    let point = sym (c.if-not-point_fits.ensures ∙ ap (λ q0. is_dense c.args.t || point_fits q0 (pos (size (sides_of c.args.d)))) (to_z-of_z c.ranges.q0)) in
-    rw (← c.own_places.ensures.value, room, limits, point, sym c.if-not-is_known.ensures)
+    let b = (goal.at.returns-then-not-point_fits c).After-point_fits in
+    tested (input b) c.args.q0 c.args.bz_grid_type (room b) c.if-not-limits_fit.ensures (c.if-not-point_fits.ensures ∙ (λ i. point_inside (input b) (to_z-of_z c.ranges.q0 i) (kind b i))) (kind b)
 
 pub returns : goal.returns
-unfolding input_tests
 returns c =
-    let room = sym c.if-not-lengths_fit.ensures in
-    let limits = sym c.if-not-limits_fit.ensures in
-    let point = sym (c.if-not-point_fits.ensures ∙ ap (λ q0. is_dense c.args.t || point_fits q0 (pos (size (sides_of c.args.d)))) (to_z-of_z c.ranges.q0)) in
-    rw (← c.own_places.ensures.value, room, limits, point, sym c.if-not-is_known.ensures)
+    let b = (goal.at.returns c).After-point_fits in
+    tested (input b) c.args.q0 c.args.bz_grid_type (room b) c.if-not-limits_fit.ensures (c.if-not-point_fits.ensures ∙ (λ i. point_inside (input b) (to_z-of_z c.ranges.q0 i) (kind b i))) (kind b)

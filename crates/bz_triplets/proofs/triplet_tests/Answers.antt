@@ -1,92 +1,94 @@
 use mir.Facts.{to_z-of_z}
-use Rattle.std.proofs.Common.{length, sym, ◌∙◌, ap}
-use Rattle.std.specs.Prelude.{Ok}
+use Rattle.std.proofs.Common.{length, ◌∙◌, ap}
 use Rattle.std.proofs.lemmas.Result.{err_from_is_err_and}
 use Rattle.common.specs.Array.{vector_of}
 use Rattle.grgrid.specs.Sides.{sides}
 use Rattle.bzgrid.proofs.Outcome.{mesh-fits}
-use Rattle.common.specs.Tested.{◌then◌}
-use Rattle.bztable.specs.Reading.{got, tests_after}
+use Rattle.common.specs.Tested.{Accepted, ◌then◌}
+use Rattle.bztable.specs.Reading.{got}
 use Rattle.bz_triplets.specs.BzTriplets.{triplet_list, marks, lengths}
 use Rattle.bz_triplets.proofs.Measured.{measured}
 use Rattle.bz_triplets.proofs.CallOutcome.{asked-for, whole_below, point-below, Input, input-accepted, tests-read, read-from, walked, walk-answer, walk-output}
 use Rattle.bz_triplets.proofs.triplet_tests.Goals as goal
 
-pub returns-in_err-input_tests-clause-value : goal.returns-in_err-input_tests-clause-value
-returns-in_err-input_tests-clause-value c =
+pub returns-in_err-t-clause-value : goal.returns-in_err-t-clause-value
+returns-in_err-t-clause-value c =
     let s = c.args in
-    let i : Input = record { q0 = s.q0; addresses = s.addresses.now; map = s.map.now; classes = s.class_map.now; d = s.d; q = s.q; lattice = s.lattice; t = s.t; n = length s.out.now; m = length s.left.now; l = length s.left_length.now } in
+    let i : Input = record { q0 = s.q0; addresses = s.addresses.now; map = s.map.now; classes = s.class_map.now; d = s.d; q = s.q; lattice = s.lattice; t = s.bz_grid_type; n = length s.out.now; m = length s.left.now; l = length s.left_length.now } in
     let p = err_from_is_err_and c.from_residual.result c.from_residual.ensures.1 in
-    rw (p.1, p.2) (tests-read i (to_z-of_z c.ranges.q0) c.in_err-input_tests.ensures)
+    rw (p.1, p.2) (tests-read i (to_z-of_z c.ranges.q0) (to_z-of_z c.ranges.bz_grid_type) c.in_err-t.ensures)
 
 pub grid_of-g-requires : goal.grid_of-g-requires
 grid_of-g-requires c =
     let s = c.args in
-    let i : Input = record { q0 = s.q0; addresses = s.addresses.now; map = s.map.now; classes = s.class_map.now; d = s.d; q = s.q; lattice = s.lattice; t = s.t; n = length s.out.now; m = length s.left.now; l = length s.left_length.now } in
-    let a = input-accepted i _ (sym c.in_ok-input_tests.ensures) in
+    let i : Input = record { q0 = s.q0; addresses = s.addresses.now; map = s.map.now; classes = s.class_map.now; d = s.d; q = s.q; lattice = s.lattice; t = s.bz_grid_type; n = length s.out.now; m = length s.left.now; l = length s.left_length.now } in
+    let a = input-accepted i (to_z-of_z c.ranges.q0) (to_z-of_z c.ranges.bz_grid_type) c.in_ok-t.ensures in
     a.grid
 
 pub invariant_of-table : goal.invariant_of-table
 invariant_of-table c =
     let s = c.args in
-    let i : Input = record { q0 = s.q0; addresses = s.addresses.now; map = s.map.now; classes = s.class_map.now; d = s.d; q = s.q; lattice = s.lattice; t = s.t; n = length s.out.now; m = length s.left.now; l = length s.left_length.now } in
-    let a = input-accepted i _ (sym c.in_ok-input_tests.ensures) in
+    let i : Input = record { q0 = s.q0; addresses = s.addresses.now; map = s.map.now; classes = s.class_map.now; d = s.d; q = s.q; lattice = s.lattice; t = s.bz_grid_type; n = length s.out.now; m = length s.left.now; l = length s.left_length.now } in
+    let a = input-accepted i (to_z-of_z c.ranges.q0) (to_z-of_z c.ranges.bz_grid_type) c.in_ok-t.ensures in
     record { fits = mesh-fits s.d a.grid c.grid_of-g.ensures }
 
 pub measure_of-requires : goal.measure_of-requires
 measure_of-requires c =
     let s = c.args in
-    let i : Input = record { q0 = s.q0; addresses = s.addresses.now; map = s.map.now; classes = s.class_map.now; d = s.d; q = s.q; lattice = s.lattice; t = s.t; n = length s.out.now; m = length s.left.now; l = length s.left_length.now } in
-    let a = input-accepted i _ (sym c.in_ok-input_tests.ensures) in
+    let i : Input = record { q0 = s.q0; addresses = s.addresses.now; map = s.map.now; classes = s.class_map.now; d = s.d; q = s.q; lattice = s.lattice; t = s.bz_grid_type; n = length s.out.now; m = length s.left.now; l = length s.left_length.now } in
+    let a = input-accepted i (to_z-of_z c.ranges.q0) (to_z-of_z c.ranges.bz_grid_type) c.in_ok-t.ensures in
     a.grid
 
 pub returns-in_err-a0-clause-value : goal.returns-in_err-a0-clause-value
 returns-in_err-a0-clause-value c =
     let s = c.args in
-    let i : Input = record { q0 = s.q0; addresses = s.addresses.now; map = s.map.now; classes = s.class_map.now; d = s.d; q = s.q; lattice = s.lattice; t = s.t; n = length s.out.now; m = length s.left.now; l = length s.left_length.now } in
+    let i : Input = record { q0 = s.q0; addresses = s.addresses.now; map = s.map.now; classes = s.class_map.now; d = s.d; q = s.q; lattice = s.lattice; t = s.bz_grid_type; n = length s.out.now; m = length s.left.now; l = length s.left_length.now } in
     let p = err_from_is_err_and c.from_residual-in_err-a0.result c.from_residual-in_err-a0.ensures.1 in
-    rw (p.1, p.2) (ap (λ x. tests_after (Ok tt) x) (read-from i (to_z-of_z c.ranges.q0) c.in_err-a0.ensures.value) ∙ tests-read i (to_z-of_z c.ranges.q0) c.in_ok-input_tests.ensures)
+    rw (p.1, p.2) (ap (λ x. x then λ _. Accepted) (read-from i c.in_ok-t.t (to_z-of_z c.ranges.q0) c.in_err-a0.ensures.value) ∙ tests-read i (to_z-of_z c.ranges.q0) (to_z-of_z c.ranges.bz_grid_type) c.in_ok-t.ensures)
 
 pub fill_triplets-requires-clause-fact_2 : goal.fill_triplets-requires-clause-fact_2
 fill_triplets-requires-clause-fact_2 c =
     let s = c.args in
-    let i : Input = record { q0 = s.q0; addresses = s.addresses.now; map = s.map.now; classes = s.class_map.now; d = s.d; q = s.q; lattice = s.lattice; t = s.t; n = length s.out.now; m = length s.left.now; l = length s.left_length.now } in
-    let a = input-accepted i _ (sym c.in_ok-input_tests.ensures) in
+    let i : Input = record { q0 = s.q0; addresses = s.addresses.now; map = s.map.now; classes = s.class_map.now; d = s.d; q = s.q; lattice = s.lattice; t = s.bz_grid_type; n = length s.out.now; m = length s.left.now; l = length s.left_length.now } in
+    let a = input-accepted i (to_z-of_z c.ranges.q0) (to_z-of_z c.ranges.bz_grid_type) c.in_ok-t.ensures in
     rw c.point_of.ensures
-    (point-below (sides c.grid_of-g.result) (mesh-fits s.d a.grid c.grid_of-g.ensures).grid s.t (whole_below c.ranges.q0 (asked-for s.addresses.now _ c.in_ok-a0.ensures.value)) (vector_of c.in_ok-a0.a0))
+    (point-below (sides c.grid_of-g.result) (mesh-fits s.d a.grid c.grid_of-g.ensures).grid c.in_ok-t.t (whole_below c.ranges.q0 (asked-for s.addresses.now _ c.in_ok-a0.ensures.value)) (vector_of c.in_ok-a0.a0))
 
 pub fill_triplets-requires-clause-fact_3 : goal.fill_triplets-requires-clause-fact_3
 fill_triplets-requires-clause-fact_3 c =
     let s = c.args in
-    let i : Input = record { q0 = s.q0; addresses = s.addresses.now; map = s.map.now; classes = s.class_map.now; d = s.d; q = s.q; lattice = s.lattice; t = s.t; n = length s.out.now; m = length s.left.now; l = length s.left_length.now } in
-    let a = input-accepted i _ (sym c.in_ok-input_tests.ensures) in
+    let i : Input = record { q0 = s.q0; addresses = s.addresses.now; map = s.map.now; classes = s.class_map.now; d = s.d; q = s.q; lattice = s.lattice; t = s.bz_grid_type; n = length s.out.now; m = length s.left.now; l = length s.left_length.now } in
+    let a = input-accepted i (to_z-of_z c.ranges.q0) (to_z-of_z c.ranges.bz_grid_type) c.in_ok-t.ensures in
     a.room
 
 pub returns-clause-value : goal.returns-clause-value
 returns-clause-value c =
     let s = c.args in
-    let i : Input = record { q0 = s.q0; addresses = s.addresses.now; map = s.map.now; classes = s.class_map.now; d = s.d; q = s.q; lattice = s.lattice; t = s.t; n = length s.out.now; m = length s.left.now; l = length s.left_length.now } in
-    let w = walked i (to_z-of_z c.ranges.q0) c.in_ok-a0.ensures.value c.grid_of-g.ensures (measured s.addresses.now s.d s.q s.lattice c.measure_of.result c.measure_of.ensures.lqd_value c.measure_of.ensures.tolerance_value) c.point_of.ensures in
-    walk-answer i triplet_list c.fill_triplets.result c.fill_triplets.new.out (c.fill_triplets.ensures.out_after ∙ ap (λ x. x then λ l. got (triplet_list l)) w)
-    ∙ tests-read i (to_z-of_z c.ranges.q0) c.in_ok-input_tests.ensures
+    let i : Input = record { q0 = s.q0; addresses = s.addresses.now; map = s.map.now; classes = s.class_map.now; d = s.d; q = s.q; lattice = s.lattice; t = s.bz_grid_type; n = length s.out.now; m = length s.left.now; l = length s.left_length.now } in
+    let w = walked i c.in_ok-t.t (to_z-of_z c.ranges.q0) c.in_ok-a0.ensures.value c.grid_of-g.ensures (measured s.addresses.now s.d s.q s.lattice c.measure_of.result c.measure_of.ensures.lqd_value c.measure_of.ensures.tolerance_value) c.point_of.ensures in
+    walk-answer i c.in_ok-t.t triplet_list c.fill_triplets.result c.fill_triplets.new.out (c.fill_triplets.ensures.out_after ∙ ap (λ x. x then λ l. got (triplet_list l)) w)
+    ∙ tests-read i (to_z-of_z c.ranges.q0) (to_z-of_z c.ranges.bz_grid_type) c.in_ok-t.ensures
 
 pub returns-clause-out_after : goal.returns-clause-out_after
 returns-clause-out_after c =
     let s = c.args in
-    let i : Input = record { q0 = s.q0; addresses = s.addresses.now; map = s.map.now; classes = s.class_map.now; d = s.d; q = s.q; lattice = s.lattice; t = s.t; n = length s.out.now; m = length s.left.now; l = length s.left_length.now } in
-    let w = walked i (to_z-of_z c.ranges.q0) c.in_ok-a0.ensures.value c.grid_of-g.ensures (measured s.addresses.now s.d s.q s.lattice c.measure_of.result c.measure_of.ensures.lqd_value c.measure_of.ensures.tolerance_value) c.point_of.ensures in
-    walk-output i triplet_list c.fill_triplets.result c.fill_triplets.new.out (c.fill_triplets.ensures.out_after ∙ ap (λ x. x then λ l. got (triplet_list l)) w)
+    let i : Input = record { q0 = s.q0; addresses = s.addresses.now; map = s.map.now; classes = s.class_map.now; d = s.d; q = s.q; lattice = s.lattice; t = s.bz_grid_type; n = length s.out.now; m = length s.left.now; l = length s.left_length.now } in
+    let w = walked i c.in_ok-t.t (to_z-of_z c.ranges.q0) c.in_ok-a0.ensures.value c.grid_of-g.ensures (measured s.addresses.now s.d s.q s.lattice c.measure_of.result c.measure_of.ensures.lqd_value c.measure_of.ensures.tolerance_value) c.point_of.ensures in
+    walk-output i c.in_ok-t.t triplet_list c.fill_triplets.result c.fill_triplets.new.out (c.fill_triplets.ensures.out_after ∙ ap (λ x. x then λ l. got (triplet_list l)) w)
+    (input-accepted i (to_z-of_z c.ranges.q0) (to_z-of_z c.ranges.bz_grid_type) c.in_ok-t.ensures)
 
 pub returns-clause-left_after : goal.returns-clause-left_after
 returns-clause-left_after c =
     let s = c.args in
-    let i : Input = record { q0 = s.q0; addresses = s.addresses.now; map = s.map.now; classes = s.class_map.now; d = s.d; q = s.q; lattice = s.lattice; t = s.t; n = length s.out.now; m = length s.left.now; l = length s.left_length.now } in
-    let w = walked i (to_z-of_z c.ranges.q0) c.in_ok-a0.ensures.value c.grid_of-g.ensures (measured s.addresses.now s.d s.q s.lattice c.measure_of.result c.measure_of.ensures.lqd_value c.measure_of.ensures.tolerance_value) c.point_of.ensures in
-    walk-output i marks c.fill_triplets.result c.fill_triplets.new.left (c.fill_triplets.ensures.left_after ∙ ap (λ x. x then λ l. got (marks l)) w)
+    let i : Input = record { q0 = s.q0; addresses = s.addresses.now; map = s.map.now; classes = s.class_map.now; d = s.d; q = s.q; lattice = s.lattice; t = s.bz_grid_type; n = length s.out.now; m = length s.left.now; l = length s.left_length.now } in
+    let w = walked i c.in_ok-t.t (to_z-of_z c.ranges.q0) c.in_ok-a0.ensures.value c.grid_of-g.ensures (measured s.addresses.now s.d s.q s.lattice c.measure_of.result c.measure_of.ensures.lqd_value c.measure_of.ensures.tolerance_value) c.point_of.ensures in
+    walk-output i c.in_ok-t.t marks c.fill_triplets.result c.fill_triplets.new.left (c.fill_triplets.ensures.left_after ∙ ap (λ x. x then λ l. got (marks l)) w)
+    (input-accepted i (to_z-of_z c.ranges.q0) (to_z-of_z c.ranges.bz_grid_type) c.in_ok-t.ensures)
 
 pub returns-clause-left_length_after : goal.returns-clause-left_length_after
 returns-clause-left_length_after c =
     let s = c.args in
-    let i : Input = record { q0 = s.q0; addresses = s.addresses.now; map = s.map.now; classes = s.class_map.now; d = s.d; q = s.q; lattice = s.lattice; t = s.t; n = length s.out.now; m = length s.left.now; l = length s.left_length.now } in
-    let w = walked i (to_z-of_z c.ranges.q0) c.in_ok-a0.ensures.value c.grid_of-g.ensures (measured s.addresses.now s.d s.q s.lattice c.measure_of.result c.measure_of.ensures.lqd_value c.measure_of.ensures.tolerance_value) c.point_of.ensures in
-    walk-output i lengths c.fill_triplets.result c.fill_triplets.new.left_length (c.fill_triplets.ensures.left_length_after ∙ ap (λ x. x then λ l. got (lengths l)) w)
+    let i : Input = record { q0 = s.q0; addresses = s.addresses.now; map = s.map.now; classes = s.class_map.now; d = s.d; q = s.q; lattice = s.lattice; t = s.bz_grid_type; n = length s.out.now; m = length s.left.now; l = length s.left_length.now } in
+    let w = walked i c.in_ok-t.t (to_z-of_z c.ranges.q0) c.in_ok-a0.ensures.value c.grid_of-g.ensures (measured s.addresses.now s.d s.q s.lattice c.measure_of.result c.measure_of.ensures.lqd_value c.measure_of.ensures.tolerance_value) c.point_of.ensures in
+    walk-output i c.in_ok-t.t lengths c.fill_triplets.result c.fill_triplets.new.left_length (c.fill_triplets.ensures.left_length_after ∙ ap (λ x. x then λ l. got (lengths l)) w)
+    (input-accepted i (to_z-of_z c.ranges.q0) (to_z-of_z c.ranges.bz_grid_type) c.in_ok-t.ensures)

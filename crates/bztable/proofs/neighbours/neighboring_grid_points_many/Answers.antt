@@ -19,7 +19,7 @@ returns-then-is_err-clause-out_after c =
     let m : length c.neighbour_tests-answer.new.out ≡ n = search rules in
     c.fill.ensures.after (λ y e. e)
     ∙ ap (λ n. replicate n (negsuc 0)) m
-    ∙ output-refused c.neighbour_tests-answer.result n l (sym c.is_err.ensures.value ∙ c.if-is_err.true)
+    ∙ output-refused (negsuc 0) c.neighbour_tests-answer.result n l (sym c.is_err.ensures.value ∙ c.if-is_err.true)
     ∙ call-output s.points.now s.offsets.now s.addresses.now s.map.now s.d s.bz_grid_type n (answered (goal.at.returns-then-is_err-clause-out_after c).After-neighbour_tests-answer)
 
 pub returns-else-is_err-clause-out_after : goal.returns-else-is_err-clause-out_after
@@ -27,7 +27,7 @@ returns-else-is_err-clause-out_after c =
     let s = c.args in
     let n = length s.out.now in
     let l = list_of (neighbours_read s.points.now s.offsets.now s.addresses.now s.map.now s.d s.bz_grid_type n) in
-    let k = output-kept c.neighbour_tests-answer.result n l (sym c.is_err.ensures.value ∙ c.if-is_err.false) in
+    let k = output-kept (negsuc 0) c.neighbour_tests-answer.result n l (sym c.is_err.ensures.value ∙ c.if-is_err.false) in
     c.neighbour_tests-answer.ensures.out_after k.0
     ∙ ap (λ t. list_of (neighbours_read s.points.now s.offsets.now s.addresses.now s.map.now s.d t n)) (to_z-of_z c.ranges.bz_grid_type) ∙ k.1
     ∙ call-output s.points.now s.offsets.now s.addresses.now s.map.now s.d s.bz_grid_type n (answered (goal.at.returns-else-is_err-clause-out_after c).After-neighbour_tests-answer)

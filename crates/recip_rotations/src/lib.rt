@@ -53,8 +53,8 @@ fn transpose_at(list: &mut [i64], at: usize)
 }
 
 // Rotation n after the first `found` matrices of the output, unless it is among them: how many there are then.
-fn keep(rotations: &[i64], n: usize, out: &mut [i64], found: usize) -> Result<usize, Refusal>
-    requires { (n * 9 + 9 ≤ length rotations.now) × (found ≤ 48) × (length out.old ≡ 432) }
+fn keep(rotations: &[i64], n: usize, out: &mut [i64; 432], found: usize) -> Result<usize, Refusal>
+    requires { (n * 9 + 9 ≤ length rotations.now) × (found ≤ 48) }
     ensures { let list = kept (matrices_from out.old 0 found) (matrix_at rotations.now n) in
         Grouped (few list) list out.old out.new result }
 {
@@ -71,8 +71,7 @@ fn keep(rotations: &[i64], n: usize, out: &mut [i64], found: usize) -> Result<us
 }
 
 // How many distinct rotations there are, which the output then holds.
-fn collect(rotations: &[i64], out: &mut [i64]) -> Result<usize, Refusal>
-    requires { length out.old ≡ 432 }
+fn collect(rotations: &[i64], out: &mut [i64; 432]) -> Result<usize, Refusal>
     ensures { let list = unique (matrices rotations.now) in
         Grouped (few list) list out.old out.new result }
 {
@@ -84,8 +83,8 @@ fn collect(rotations: &[i64], out: &mut [i64]) -> Result<usize, Refusal>
 }
 
 // The first `count` matrices, transposed where asked for.
-fn turn(out: &mut [i64], count: usize, is_transpose: bool)
-    requires { count * 9 ≤ length out.old }
+fn turn(out: &mut [i64; 432], count: usize, is_transpose: bool)
+    requires { count ≤ 48 }
     ensures { out.new ≡ laid (turned is_transpose (matrices_from out.old 0 count)) out.old }
 {
     if is_transpose {
@@ -96,21 +95,22 @@ fn turn(out: &mut [i64], count: usize, is_transpose: bool)
 }
 
 // The negatives of the first `count` matrices, after them.
-fn negatives(out: &mut [i64], count: usize)
-    requires fact_1 { count * 18 ≤ length out.old }
-    requires fact_2 { Sized 100000 out.old }
+fn negatives(out: &mut [i64; 432], count: usize)
+    requires room { count ≤ 24 }
+    requires sized { Sized 100000 out.old }
     ensures { out.new ≡ paste out.old (count * 9) (map neg_ℤ out.old) (count * 9) }
 {
     let half = count * 9;
+    // By index: of places that an iterator lends, a proof knows no element afterwards.
     for i in 0..half {
         out[half + i] = -out[i];
     }
 }
 
 // Under time reversal the negatives of the first `count` matrices, unless the inversion is among these.
-fn join(out: &mut [i64], count: usize, is_time_reversal: bool) -> Result<usize, Refusal>
-    requires fact_1 { (count ≤ 48) × (length out.old ≡ 432) }
-    requires fact_2 { Sized 100000 out.old }
+fn join(out: &mut [i64; 432], count: usize, is_time_reversal: bool) -> Result<usize, Refusal>
+    requires room { count ≤ 48 }
+    requires sized { Sized 100000 out.old }
     ensures { let list = matrices_from out.old 0 count in
         Grouped (join_tests is_time_reversal list) (joined is_time_reversal list) out.old out.new result }
 {
@@ -157,10 +157,14 @@ fn group_of(
         Grouped (group_tests rotations.now is_time_reversal is_transpose n) list (replicate n (negsuc 0)) out.new result }
 {
     input_tests(rotations, out.len())?;
-    out.fill(-1);
-    let count = collect(rotations, out)?;
-    turn(out, count, is_transpose);
-    join(out, count, is_time_reversal)
+    // The tests say that there are 432 places.
+    let Some(group) = out.as_mut_array::<432>() else {
+        unreachable!()
+    };
+    group.fill(-1);
+    let count = collect(rotations, group)?;
+    turn(group, count, is_transpose);
+    join(group, count, is_time_reversal)
 }
 
 // The distinct rotations in order, transposed where asked for, and under time reversal their negatives after them, unless the inversion is among them.

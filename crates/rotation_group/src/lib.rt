@@ -3,7 +3,6 @@
 
 mod members;
 mod products;
-mod rotations;
 
 ghost use Rattle.std.specs.Prelude.{◌≡◌, ◌≤◌, T, length};
 ghost use Rattle.common.specs.Array.{matrices};
@@ -12,7 +11,7 @@ ghost use Rattle.rotation_group.specs.Group.{is_group};
 ghost use Rattle.rotation_group.specs.ReciprocalGroup.{given_tests, reciprocal_answer, reciprocal_written};
 
 use common::Refusal;
-use rotations::Rotations;
+use grgrid::Rotations;
 
 // Within the limits; a part of a matrix at the end does not count.
 #[tactic(auto, unfolding(crate::specs::Group::is_group))]
@@ -24,9 +23,9 @@ pub fn is_group(rotations: &[i64]) -> bool
     let identity = [1, 0, 0, 0, 1, 0, 0, 0, 1];
     let l = Rotations { list: rotations };
     recip_rotations::contains(&identity, 0, rotations, l.count())
-        && l.no_repeats()
-        && l.units()
-        && l.products_inside()
+        && members::no_repeats(l)
+        && members::units(l)
+        && products::products_inside(l)
 }
 
 // Of the list as given.

@@ -4,7 +4,7 @@
 ghost use Rattle.std.specs.Prelude.{IfOk, ◌≡◌, true, false, map, ◌+◌, ◌*◌, ◌≤◌, ◌<◌, T, pos, nat_abs, length, get_or, Err};
 ghost use Rattle.common.specs.Tested.{Accepted};
 ghost use Rattle.common.specs.Matrix.{◌▹◌};
-ghost use Rattle.common.specs.Array.{vector_of, matrix_of, items, matrices, Sized, SizedRows};
+ghost use Rattle.common.specs.Array.{vector_of, matrix_of, items, matrices};
 ghost use Rattle.common.specs.Limits.{all_within, whole_matrices, rotations_fit};
 ghost use Rattle.grgrid.specs.Grid.{size, index, address};
 ghost use Rattle.grgrid.specs.Sides.{sides};
@@ -15,39 +15,38 @@ ghost use Rattle.triplet_grid.specs.Partner.{stabilizer, third};
 ghost use Rattle.triplet_grid.specs.IrTriplets.{map_q_of, lower_of, map_triplets_of, input_tests, classes_at, ir_triplets_answer, map_triplets_written, map_qwritten};
 
 use common::Refusal;
-use grgrid::Grid;
+use grgrid::{Address, Grid, Rotation, Rotations};
 
 // `-a - b`.
-pub fn third(a: [i64; 3], b: [i64; 3]) -> [i64; 3]
-    requires fact_1 { Sized 10000000000000 a }
-    requires fact_2 { Sized 10000000000000 b }
-    ensures { result ≡ items (third (vector_of a) (vector_of b)) }
+pub fn third(a: Address, b: Address) -> [i64; 3]
+    ensures { result ≡ items (third (vector_of a.v) (vector_of b.v)) }
 {
-    [-a[0] - b[0], -a[1] - b[1], -a[2] - b[2]]
+    [-a.v[0] - b.v[0], -a.v[1] - b.v[1], -a.v[2] - b.v[2]]
 }
 
 // Where a rotation carries the point at an address.
-fn carried(rotation: [[i64; 3]; 3], address: [i64; 3], g: Grid) -> usize
-    requires fact_1 { SizedRows 100000 rotation }
-    requires fact_2 { Sized 10000000000000 address }
-    ensures { result ≡ index (sides g) (matrix_of rotation ▹ vector_of address) }
+fn carried(rotation: Rotation, address: Address, g: Grid) -> usize
+    ensures { result ≡ index (sides g) (matrix_of rotation.m ▹ vector_of address.v) }
 {
-    grgrid::grid_index_from_address(common::matvec_ii(rotation, address), g)
+    grgrid::grid_index_from_address(common::matvec_ii(rotation.m, address.v), g)
 }
 
 // Moves the matrices that keep q0 to the front, and answers how many there are.
+// `within` is a clause, and no type: only this and its caller have a list of rotations that is written.
 fn keep_stabilizer(group: &mut [i64], g: Grid, q0: usize) -> usize
-    requires fact_1 { q0 < size (sides g) }
-    requires fact_2 { T (all_within 100000 group.old) }
+    requires point { q0 < size (sides g) }
+    requires within { T (all_within 100000 group.old) }
     ensures group_after { group.new ≡ laid (stabilizer (sides g) q0 (matrices group.old)) group.old }
     ensures value { result ≡ length (stabilizer (sides g) q0 (matrices group.old)) }
 {
     let address = grgrid::grid_address_from_index(q0, g);
     let mut kept = 0;
     for n in 0..group.len() / 9 {
-        let m = common::matrix_at(group, n);
-        if carried(m, address, g) == q0 {
-            group[kept * 9..kept * 9 + 9].copy_from_slice(&integer_matrix::flat(m));
+        let rotation = Rotation {
+            m: common::matrix_at(group, n),
+        };
+        if carried(rotation, address, g) == q0 {
+            group[kept * 9..kept * 9 + 9].copy_from_slice(&integer_matrix::flat(rotation.m));
             kept += 1;
         }
     }
@@ -56,27 +55,27 @@ fn keep_stabilizer(group: &mut [i64], g: Grid, q0: usize) -> usize
 
 // The classes under those matrices of `group` that keep q0.
 fn number_classes(group: &mut [i64], g: Grid, q0: usize, map_q: &mut [i64])
-    requires fact_1 { q0 < size (sides g) }
-    requires fact_2 { T (all_within 100000 group.old) }
-    requires fact_3 { length map_q.old ≡ size (sides g) }
+    requires point { q0 < size (sides g) }
+    requires within { T (all_within 100000 group.old) }
+    requires places { length map_q.old ≡ size (sides g) }
     ensures { map_q.new ≡ map pos (map_q_of (sides g) q0 (matrices group.old)) }
 {
     let kept = keep_stabilizer(&mut *group, g, q0);
-    grgrid::number_points(&group[..kept * 9], g, [0, 0, 0], map_q);
+    let rotations = Rotations {
+        list: &group[..kept * 9],
+    };
+    grgrid::number_points(rotations, g, common::shift([0, 0, 0]), map_q);
 }
 
 // The class number of q1, which is its own, or that of its partner if it is lower.
-fn swapped_number(map_q: &[i64], address0: [i64; 3], q1: usize, g: Grid) -> i64
-    requires fact_1 { Sized 10000000000000 address0 }
-    requires fact_2 { q1 < size (sides g) }
-    requires fact_3 { Numbered (size (sides g)) map_q.now }
-    requires fact_4 { length map_q.now ≡ size (sides g) }
-    ensures { result ≡ pos (lower_of (get_or (map nat_abs map_q.now) (index (sides g) (third (vector_of address0) (address (sides g) q1))) 0) q1) }
+fn swapped_number(map_q: &[i64], address0: Address, q1: usize, g: Grid) -> i64
+    requires point { q1 < size (sides g) }
+    requires numbered { Numbered (size (sides g)) map_q.now }
+    requires places { length map_q.now ≡ size (sides g) }
+    ensures { result ≡ pos (lower_of (get_or (map nat_abs map_q.now) (index (sides g) (third (vector_of address0.v) (address (sides g) q1))) 0) q1) }
 {
-    let q2 = grgrid::grid_index_from_address(
-        third(address0, grgrid::grid_address_from_index(q1, g)),
-        g,
-    );
+    let address1 = grgrid::grid_address_from_index(q1, g);
+    let q2 = grgrid::grid_index_from_address(third(address0, address1), g);
     map_q[q2].min(q1 as i64)
 }
 

@@ -11,7 +11,6 @@ use Rattle.common.specs.Array.{vector_of, sides_of, matrices}
 use Rattle.grgrid.specs.Grid.{size}
 use Rattle.grgrid.specs.Sides.{sides}
 use Rattle.grgrid.specs.ClassMap.{class_map_of, classes}
-use Rattle.grgrid.proofs.Accepted.{shift-sized}
 use Rattle.grgrid.proofs.Sizes.{grid-few}
 use Rattle.class_weights.specs.Members.{weights as weights_of, members as members_of, keepers_of, padded}
 use Rattle.class_weights.specs.ClassWeights.{rooms_of, weight_tests}
@@ -28,12 +27,18 @@ pub weigh_classes-classes-requires : goal.weigh_classes-classes-requires
 weigh_classes-classes-requires c =
     let a = (call-accepted c.weight_tests.ensures (to_z-of_z c.ranges.point) c.in-Ok.is).1 in
     let e = ap size (sym c.grid_of-g.ensures) in
-    record { fact_1 = a.entries; fact_2 = shift-sized c.args.ps (search rules) a.shift; fact_3 = (a.weights ∙ e, a.members ∙ e) }
+    (a.weights ∙ e, a.members ∙ e)
+
+pub shift-half-requires : goal.shift-half-requires
+shift-half-requires c = (call-accepted c.weight_tests.ensures (to_z-of_z c.ranges.point) c.in-Ok.is).1.shift
+
+pub invariant_of-list : goal.invariant_of-list
+invariant_of-list c = record { within = (call-accepted c.weight_tests.ensures (to_z-of_z c.ranges.point) c.in-Ok.is).1.entries }
 
 pub overflow_cast-classes : goal.overflow_cast-classes
 overflow_cast-classes c =
     let g = c.grid_of-g.result in
-    record { sfits = omega (arith, c.weigh_classes-classes.ensures.many, classes-few (sides g) (vector_of c.args.ps) (matrices c.args.rotations.now), grid-few g) }
+    record { sfits = omega (arith, c.weigh_classes-classes.ensures.many, classes-few (sides g) (vector_of c.shift-half.result.v) (matrices c.args.rotations.now), grid-few g) }
 
 pub overflow_cast-point : goal.overflow_cast-point
 overflow_cast-point c =
@@ -46,10 +51,8 @@ pub list_keepers-count-requires : goal.list_keepers-count-requires
 list_keepers-count-requires c =
     let a = (call-accepted c.weight_tests.ensures (to_z-of_z c.ranges.point) c.in-Ok.is).1 in
     record {
-      fact_1 = rw (to_z-of_z c.ranges.point) (subst (λ v. nat_abs c.args.point < size v) (sym c.grid_of-g.ensures) a.inside);
-      fact_2 = a.entries;
-      fact_3 = let t = a.shift in search (rules, shift-sized);
-      fact_4 = a.keepers;
+      inside = rw (to_z-of_z c.ranges.point) (subst (λ v. nat_abs c.args.point < size v) (sym c.grid_of-g.ensures) a.inside);
+      places = a.keepers;
     }
 
 pub overflow_cast-count : goal.overflow_cast-count
@@ -63,18 +66,19 @@ returns-in-Ok c =
     let ms = matrices s.rotations.now in
     let n = size (sides_of s.d) in
     let e = c.grid_of-g.ensures in
+    let f = ap vector_of c.shift-half.ensures in
     let q = ap nat_abs (to_z-of_z c.ranges.point) in
     let w = c.weigh_classes-classes.ensures in
     let k = c.list_keepers-count.ensures in
-    let few = classes-few (sides c.grid_of-g.result) ps ms in
+    let few = classes-few (sides c.grid_of-g.result) (vector_of c.shift-half.result.v) ms in
     let large = grid-few c.grid_of-g.result in
     let some = counted-few s.rotations.now _ _ _ k.0 in
     counted s.rotations.now s.d s.ps s.point (rooms_of (length s.weights.now) (length s.members.now) (length s.keepers.now)) t.0
-    (to_z_pos w64 {n = c.weigh_classes-classes.result} (omega (arith, w.many)) ∙ ap pos (w.many ∙ ap (λ d. classes d ps ms) e))
-    (to_z_pos w64 {n = c.list_keepers-count.result} (search rules) ∙ ap pos (k.0 ∙ ap₂ (λ d p. length (keepers_of d ps ms p)) e q))
-    (w.weights-are ∙ ap (λ d. padded (size d) (weights_of (class_map_of d ps ms) (size d))) e ∙ ap (λ k. padded k (weights_of (class_map_of (sides_of s.d) ps ms) n)) (sym t.1.weights))
-    (w.members-are ∙ ap (λ d. map pos (members_of (class_map_of d ps ms) (size d))) e)
-    (k.1 ∙ ap₂ (λ d p. padded (length s.keepers.now) (keepers_of d ps ms p)) e q)
+    (to_z_pos w64 {n = c.weigh_classes-classes.result} (omega (arith, w.many)) ∙ ap pos (w.many ∙ ap₂ (λ d ps. classes d ps ms) e f))
+    (to_z_pos w64 {n = c.list_keepers-count.result} (search rules) ∙ ap pos (k.0 ∙ (λ i. length (keepers_of (e i) (f i) ms (q i)))))
+    (w.weights-are ∙ ap₂ (λ d ps. padded (size d) (weights_of (class_map_of d ps ms) (size d))) e f ∙ ap (λ k. padded k (weights_of (class_map_of (sides_of s.d) ps ms) n)) (sym t.1.weights))
+    (w.members-are ∙ ap₂ (λ d ps. map pos (members_of (class_map_of d ps ms) (size d))) e f)
+    (k.1 ∙ (λ i. padded (length s.keepers.now) (keepers_of (e i) (f i) ms (q i))))
 
 pub returns-in-Err : goal.returns-in-Err
 returns-in-Err c =

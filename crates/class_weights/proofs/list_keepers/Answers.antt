@@ -6,30 +6,26 @@ use mir.Facts.{to_z_pos}
 use borrow.Author.Rules.{rules}
 use Rattle.common.specs.Array.{vector_of}
 use Rattle.grgrid.specs.Sides.{sides}
-use Rattle.grgrid.proofs.Sizes.{rotation-sized}
 use Rattle.class_weights.proofs.KeepersWalk.{Keeping, keeping-more, keeping-same, keeping-end}
 use Rattle.class_weights.proofs.list_keepers.Goals as goal
 use Rattle.class_weights.proofs.list_keepers.Goals.{then-rotate_grid_index-point, else-rotate_grid_index-point}
-
-pub rotate_grid_index-requires-clause-fact_2 : goal.rotate_grid_index-requires-clause-fact_2
-rotate_grid_index-requires-clause-fact_2 c = rw c.matrix_at.ensures (rotation-sized 100000 c.args.rotations.now c.requires.fact_2 c.loop-i.i)
 
 pub loop-i-preserved : goal.loop-i-preserved
 loop-i-preserved c =
     let s = c.args in
     let l = c.loop-i in
     let d = sides s.g in
-    let ps = vector_of s.ps in
+    let ps = vector_of s.ps.v in
     let k = l.invariant.1 in
     elim c.if-rotate_grid_index-point.branch [
       | then-rotate_grid_index-point w ↦ (
         search rules,
-        rw w.k-is (keeping-more d ps s.rotations.now s.point k (search rules) c.rotate_grid_index.ensures.value c.matrix_at.ensures (search rules)
+        rw w.k-is (keeping-more d ps s.rotations.list.now s.point k (search rules) c.rotate_grid_index.ensures.value c.at.ensures (search rules)
             w.if-rotate_grid_index-point.true (w.keepers-is ∙ ap (set l.keepers l.k) (to_z_pos w64 {n = l.i} (search rules)))),
       )
       | else-rotate_grid_index-point w ↦ (
         search rules,
-        rw (w.keepers-is, w.k-is) (keeping-same d ps s.rotations.now s.point k (search rules) c.rotate_grid_index.ensures.value c.matrix_at.ensures w.if-rotate_grid_index-point.false),
+        rw (w.keepers-is, w.k-is) (keeping-same d ps s.rotations.list.now s.point k (search rules) c.rotate_grid_index.ensures.value c.at.ensures w.if-rotate_grid_index-point.false),
       )
     ]
 
@@ -38,7 +34,7 @@ returns c =
     let s = c.args in
     let l = c.loop-i in
     let d = sides s.g in
-    let ps = vector_of s.ps in
-    let e = le_antisymm l.auto.i-end c.loop-i-test.false ∙ c.fill.ensures.len ∙ c.requires.fact_4 in
-    let r = keeping-end d ps s.rotations.now s.point (subst (λ i. Keeping d ps s.rotations.now s.point (length c.fill.new.self) i l.k l.keepers) e l.invariant.1) in
+    let ps = vector_of s.ps.v in
+    let e = le_antisymm l.auto.i-end c.loop-i-test.false ∙ c.count-i-end.ensures in
+    let r = keeping-end d ps s.rotations.list.now s.point (subst (λ i. Keeping d ps s.rotations.list.now s.point (length c.fill.new.self) i l.k l.keepers) e l.invariant.1) in
     (r.1, rw c.fill.ensures.len at r.0)

@@ -18,22 +18,22 @@ pub link_points-requires-clause-fact_1 : goal.link_points-requires-clause-fact_1
 link_points-requires-clause-fact_1 c =
     let s = c.args in
     let d = sides s.g in
-    let ps = vector_of s.ps in
-    let ms = matrices s.rotations.now in
+    let ps = vector_of s.ps.v in
+    let ms = matrices s.rotations.list.now in
     let w = c.number_points.ensures in
     full (ap length w ∙ call_length d ps ms) (numbered d ps ms w)
 
 pub list_classes-requires-clause-fact_1 : goal.list_classes-requires-clause-fact_1
 list_classes-requires-clause-fact_1 c =
     let s = c.args in
-    call-chains (sides s.g) (vector_of s.ps) (matrices s.rotations.now) _ (subst (λ l. Linked l c.link_points.new.numbers) c.number_points.ensures c.link_points.ensures)
+    call-chains (sides s.g) (vector_of s.ps.v) (matrices s.rotations.list.now) _ (subst (λ l. Linked l c.link_points.new.numbers) c.number_points.ensures c.link_points.ensures)
 
 pub returns : goal.returns
 returns c =
     let s = c.args in
     let d = sides s.g in
-    let ps = vector_of s.ps in
-    let ms = matrices s.rotations.now in
+    let ps = vector_of s.ps.v in
+    let ms = matrices s.rotations.list.now in
     let f = c.list_classes.ensures in
     let k = subst (λ l. Linked l c.link_points.new.numbers) c.number_points.ensures c.link_points.ensures in
     record {

@@ -35,8 +35,8 @@ slice_bounds-number_classes-end c =
     let t = group-told s.rotations.now s.is_time_reversal c.requires.fact_2 c.requires.fact_3 432 refl e.value c.in_ok-count.was e.out_after in
     search rules
 
-pub number_classes-requires-clause-fact_2 : goal.number_classes-requires-clause-fact_2
-number_classes-requires-clause-fact_2 c =
+pub number_classes-requires-clause-within : goal.number_classes-requires-clause-within
+number_classes-requires-clause-within c =
     let s = c.args in
     let e = c.get_reciprocal_point_group.ensures in
     (group-told s.rotations.now s.is_time_reversal c.requires.fact_2 c.requires.fact_3 432 refl e.value c.in_ok-count.was e.out_after).within

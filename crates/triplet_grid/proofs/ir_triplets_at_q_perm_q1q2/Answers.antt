@@ -11,15 +11,11 @@ use Rattle.integer.proofs.Fits.{held-is}
 use Rattle.grgrid.specs.Grid.{size}
 use Rattle.grgrid.specs.Sides.{sides}
 use Rattle.grgrid.proofs.Built.{written, written-end}
-use Rattle.grgrid.proofs.Sizes.{address-sized}
 use Rattle.grgrid.proofs.Numbers.{numbered-at}
 use Rattle.triplet_grid.specs.IrTriplets.{lower_of, swapped_number, map_triplets_of}
 use Rattle.triplet_grid.proofs.Swapping.{partner-is, own-stored, other-stored}
 use Rattle.triplet_grid.proofs.ir_triplets_at_q_perm_q1q2.Goals as goal
 use Rattle.triplet_grid.proofs.ir_triplets_at_q_perm_q1q2.Goals.{then-own-q1, else-own-q1}
-
-pub swapped_number-requires-clause-fact_1 : goal.swapped_number-requires-clause-fact_1
-swapped_number-requires-clause-fact_1 c = rw c.grid_address_from_index-address0.ensures (address-sized c.args.g c.args.q0 c.requires.fact_1)
 
 pub overflow_cast-map_triplets : goal.overflow_cast-map_triplets
 overflow_cast-map_triplets c =

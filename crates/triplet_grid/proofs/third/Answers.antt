@@ -16,7 +16,7 @@ third-is {a} {b} f g n = plain-is (search (plain, p-sized) depth 12) tt ∙ ap (
 
 pub returns : goal.returns
 returns c =
-    let along = third-is c.requires.fact_1 c.requires.fact_2 in
+    let along = third-is c.args.a.sized c.args.b.sized in
     let x = along 0 in
     let y = along 1 in
     let z = along 2 in

@@ -3,12 +3,12 @@ use lib.Dec.{T}
 use Rattle.common.specs.Array.{matrix_at, matrices}
 use Rattle.rotation_group.specs.Group.{row_inside}
 use Rattle.rotation_group.proofs.Marks.{row-product, known-set}
-use Rattle.rotation_group.proofs.rotations.Rotations.mark.Goals as goal
-use Rattle.rotation_group.proofs.rotations.Rotations.mark.Goals.{then-known-n+in-Some, then-known-n+in_default, else-known-n}
+use Rattle.rotation_group.proofs.products.mark.Goals as goal
+use Rattle.rotation_group.proofs.products.mark.Goals.{then-known-n+in-Some, then-known-n+in_default, else-known-n}
 
 pub loop-n-preserved : goal.loop-n-preserved
 loop-n-preserved c =
-    let l = c.args.self.now.list.now in
+    let l = c.args.rotations.list.now in
     let inv = c.loop-n.invariant in
     let n = c.loop-n.n in
     elim c.if-known-n.branch [

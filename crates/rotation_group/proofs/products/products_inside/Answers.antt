@@ -8,20 +8,20 @@ use Rattle.common.specs.Array.{matrix_at, matrices}
 use Rattle.rotation_group.specs.Group.{row_inside}
 use Rattle.rotation_group.proofs.Marks.{known-none, known-set}
 use Rattle.rotation_group.proofs.Walking.{every-on, every-stop}
-use Rattle.rotation_group.proofs.rotations.Rotations.products_inside.Goals as goal
-use Rattle.rotation_group.proofs.rotations.Rotations.products_inside.Goals.{then-not-known-m+else-not-row_inside, else-not-known-m}
+use Rattle.rotation_group.proofs.products.products_inside.Goals as goal
+use Rattle.rotation_group.proofs.products.products_inside.Goals.{then-not-known-m+else-not-row_inside, else-not-known-m}
 
 pub loop-m-init : goal.loop-m-init
-loop-m-init c = (known-none c.args.self.now.list.now 192, rw sub-zero)
+loop-m-init c = (known-none c.args.rotations.list.now 192, rw sub-zero)
 
 pub returns-then-not-row_inside : goal.returns-then-not-row_inside
 returns-then-not-row_inside c =
-    let l = c.args.self.now.list.now in
+    let l = c.args.rotations.list.now in
     sym (c.loop-m.invariant.1 ∙ every-stop l c.loop-m.m (length l / 9) (row_inside (matrices l)) (search rules) (sym c.row_inside.ensures ∙ c.if-not-row_inside.true))
 
 pub loop-m-preserved : goal.loop-m-preserved
 loop-m-preserved c =
-    let l = c.args.self.now.list.now in
+    let l = c.args.rotations.list.now in
     let m = c.loop-m.m in
     let inv = c.loop-m.invariant in
     let on = every-on l m (length l / 9) (row_inside (matrices l)) (search rules) in

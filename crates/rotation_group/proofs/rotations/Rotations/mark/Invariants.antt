@@ -1,5 +1,0 @@
-use Rattle.rotation_group.specs.Code.Known.{Known}
-use Rattle.rotation_group.proofs.rotations.Rotations.mark.Given as goal
-
-abbrev pub invariant-loop-n : goal.invariant-loop-n
-invariant-loop-n l = Known l.self.list.now l.known

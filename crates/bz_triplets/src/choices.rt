@@ -10,7 +10,8 @@ ghost use Rattle.bz_triplets.specs.TripletsView.{state_of, state_read, places_in
 use crate::places::Places;
 use bztable::reading;
 use bztable::reading::Table;
-use common::Refusal;
+use common::{Bounded, Refusal};
+use grgrid::Address;
 
 // What one step tells of its triplet: the sum closed, or the squared length that is left over, or there was no choice.
 #[derive(Clone, Copy, Debug, PartialEq)]
@@ -29,6 +30,9 @@ pub struct Triplet {
     pub z: usize,
 }
 
+// Of three addresses.
+type Sum = Bounded<30000000000000>;
+
 // How lengths are measured: lattice · Q · diag(1 / d) by rows, and the tolerance.
 #[derive(Clone, Copy)]
 pub struct Measure {
@@ -36,22 +40,23 @@ pub struct Measure {
     pub tolerance: f64,
 }
 
-fn squared_distance(g: [i64; 3], lqd: [f64; 9]) -> f64
-    requires { Sized 30000000000000 g }
-    ensures { result ≡ squared_distance (float_nine lqd) (vector_of g) }
+fn squared_distance(g: Sum, lqd: [f64; 9]) -> f64
+    ensures { result ≡ squared_distance (float_nine lqd) (vector_of g.v) }
 {
-    let v = [g[0] as f64, g[1] as f64, g[2] as f64];
+    let v = [g.v[0] as f64, g.v[1] as f64, g.v[2] as f64];
     bzsearch::length_squared(lqd, v)
 }
 
-fn add3(a: [i64; 3], b: [i64; 3], c: [i64; 3]) -> [i64; 3]
-    requires fact_1 { Sized 10000000000000 a }
-    requires fact_2 { Sized 10000000000000 b }
-    requires fact_3 { Sized 10000000000000 c }
-    ensures value { result ≡ items (sum_of (vector_of a) (vector_of b) (vector_of c)) }
-    ensures sized { Sized 30000000000000 result }
+fn add3(a: Address, b: Address, c: Address) -> Sum
+    ensures { result.v ≡ items (sum_of (vector_of a.v) (vector_of b.v) (vector_of c.v)) }
 {
-    [a[0] + b[0] + c[0], a[1] + b[1] + c[1], a[2] + b[2] + c[2]]
+    Sum {
+        v: [
+            a.v[0] + b.v[0] + c.v[0],
+            a.v[1] + b.v[1] + c.v[1],
+            a.v[2] + b.v[2] + c.v[2],
+        ],
+    }
 }
 
 fn is_zero(g: [i64; 3]) -> bool
@@ -72,15 +77,14 @@ fn is_shorter(found: Step, d2: f64, tolerance: f64) -> bool
 }
 
 // A choice whose sum is g.
-fn with_sum(t: Triplet, g: [i64; 3], x: usize, y: usize, z: usize, m: Measure) -> Triplet
+fn with_sum(t: Triplet, g: Sum, x: usize, y: usize, z: usize, m: Measure) -> Triplet
     requires fact_1 { is_closed t.step ≡ false }
-    requires fact_2 { Sized 30000000000000 g }
-    requires fact_3 { TripletFits t }
-    requires fact_4 { (x < 9223372036854775808) × (y < 9223372036854775808) × (z < 9223372036854775808) }
-    ensures value { state_of result ≡ tried_sum (walk_by m []) (state_of t) (record { x = x; y = y; z = z }) (vector_of g) }
+    requires fact_2 { TripletFits t }
+    requires fact_3 { (x < 9223372036854775808) × (y < 9223372036854775808) × (z < 9223372036854775808) }
+    ensures value { state_of result ≡ tried_sum (walk_by m []) (state_of t) (record { x = x; y = y; z = z }) (vector_of g.v) }
     ensures triplet_fits { TripletFits result }
 {
-    if is_zero(g) {
+    if is_zero(g.v) {
         return Triplet {
             step: Step::Closed,
             x,

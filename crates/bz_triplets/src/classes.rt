@@ -17,6 +17,7 @@ use bzgrid::GridType;
 use bztable::reading;
 use bztable::reading::Table;
 use common::Refusal;
+use grgrid::Address;
 
 // ---- the images of a point
 
@@ -73,9 +74,8 @@ fn chosen(table: &Table, q0: usize, q1: usize, q2: usize, m: Measure) -> Result<
 }
 
 // The address of the first image of q1.
-fn first_of(table: &Table, q1: usize) -> Result<[i64; 3], Refusal>
-    ensures value { vector_read result ≡ first_of table.now.map.now table.now.addresses.now table.now.t q1 }
-    ensures sized { IfOk result (λ a. Sized 10000000000000 a) }
+fn first_of(table: &Table, q1: usize) -> Result<Address, Refusal>
+    ensures { vector_read result ≡ first_of table.now.map.now table.now.addresses.now table.now.t q1 }
 {
     match table.t {
         GridType::Sparse => reading::address_at(table.addresses, q1),
@@ -87,14 +87,13 @@ fn first_of(table: &Table, q1: usize) -> Result<[i64; 3], Refusal>
 #[tactic(auto, unfolding(crate::specs::BzTriplets::triplet_of))]
 fn triplet_of(
     table: &Table,
-    a0: [i64; 3],
+    a0: Address,
     q0: usize,
     q1: usize,
     m: Measure,
 ) -> Result<Triplet, Refusal>
-    requires fact_1 { Sized 10000000000000 a0 }
-    requires fact_2 { (q0 < 9223372036854775808) × (q1 < 9223372036854775808) }
-    ensures value { state_read result ≡ triplet_of table.now.t (sides table.now.g) table.now.map.now (walk_by m table.now.addresses.now) (vector_of a0) q0 q1 }
+    requires { (q0 < 9223372036854775808) × (q1 < 9223372036854775808) }
+    ensures value { state_read result ≡ triplet_of table.now.t (sides table.now.g) table.now.map.now (walk_by m table.now.addresses.now) (vector_of a0.v) q0 q1 }
     ensures triplet_fits { IfOk result TripletFits }
 {
     let a1 = first_of(table, q1)?;
@@ -151,7 +150,7 @@ fn store_places(out: &mut [i64], at: usize, t: Triplet)
 // A triplet for each entry of the class map that equals its own place, from the lowest up.
 pub fn fill_triplets(
     table: &Table,
-    a0: [i64; 3],
+    a0: Address,
     q0: usize,
     m: Measure,
     class_map: &[i64],
@@ -159,12 +158,11 @@ pub fn fill_triplets(
     left: &mut [i64],
     left_length: &mut [f64],
 ) -> Result<(), Refusal>
-    requires fact_1 { Sized 10000000000000 a0 }
-    requires fact_2 { q0 < 9223372036854775808 }
-    requires fact_3 { Room class_map.now (length out.old) (length left.old) (length left_length.old) }
-    ensures out_after { giving result out.new ≡ (read_each (triplet_of table.now.t (sides table.now.g) table.now.map.now (walk_by m table.now.addresses.now) (vector_of a0) q0) (own_points class_map.now (length class_map.now)) then λ l. got (triplet_list l)) }
-    ensures left_after { giving result left.new ≡ (read_each (triplet_of table.now.t (sides table.now.g) table.now.map.now (walk_by m table.now.addresses.now) (vector_of a0) q0) (own_points class_map.now (length class_map.now)) then λ l. got (marks l)) }
-    ensures left_length_after { giving result left_length.new ≡ (read_each (triplet_of table.now.t (sides table.now.g) table.now.map.now (walk_by m table.now.addresses.now) (vector_of a0) q0) (own_points class_map.now (length class_map.now)) then λ l. got (lengths l)) }
+    requires fact_1 { q0 < 9223372036854775808 }
+    requires fact_2 { Room class_map.now (length out.old) (length left.old) (length left_length.old) }
+    ensures out_after { giving result out.new ≡ (read_each (triplet_of table.now.t (sides table.now.g) table.now.map.now (walk_by m table.now.addresses.now) (vector_of a0.v) q0) (own_points class_map.now (length class_map.now)) then λ l. got (triplet_list l)) }
+    ensures left_after { giving result left.new ≡ (read_each (triplet_of table.now.t (sides table.now.g) table.now.map.now (walk_by m table.now.addresses.now) (vector_of a0.v) q0) (own_points class_map.now (length class_map.now)) then λ l. got (marks l)) }
+    ensures left_length_after { giving result left_length.new ≡ (read_each (triplet_of table.now.t (sides table.now.g) table.now.map.now (walk_by m table.now.addresses.now) (vector_of a0.v) q0) (own_points class_map.now (length class_map.now)) then λ l. got (lengths l)) }
 {
     let mut at = 0;
     for q1 in 0..class_map.len() {

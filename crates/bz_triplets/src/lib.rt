@@ -171,7 +171,7 @@ fn triplet_tests(
     classes::fill_triplets(
         &table,
         a0,
-        point_of(t, g, q0, a0),
+        point_of(t, g, q0, a0.v),
         measure_of(lattice, q, d),
         class_map,
         out,

@@ -44,18 +44,18 @@ returns-in_err-a0-clause-value c =
     let s = c.args in
     let i : Input = record { q0 = s.q0; addresses = s.addresses.now; map = s.map.now; classes = s.class_map.now; d = s.d; q = s.q; lattice = s.lattice; t = s.bz_grid_type; n = length s.out.now; m = length s.left.now; l = length s.left_length.now } in
     let p = err_from_is_err_and c.from_residual-in_err-a0.result c.from_residual-in_err-a0.ensures.1 in
-    rw (p.1, p.2) (ap (λ x. x then λ _. Accepted) (read-from i c.in_ok-t.t (to_z-of_z c.ranges.q0) c.in_err-a0.ensures.value) ∙ tests-read i (to_z-of_z c.ranges.q0) (to_z-of_z c.ranges.bz_grid_type) c.in_ok-t.ensures)
+    rw (p.1, p.2) (ap (λ x. x then λ _. Accepted) (read-from i c.in_ok-t.t (to_z-of_z c.ranges.q0) c.in_err-a0.ensures) ∙ tests-read i (to_z-of_z c.ranges.q0) (to_z-of_z c.ranges.bz_grid_type) c.in_ok-t.ensures)
 
-pub fill_triplets-requires-clause-fact_2 : goal.fill_triplets-requires-clause-fact_2
-fill_triplets-requires-clause-fact_2 c =
+pub fill_triplets-requires-clause-fact_1 : goal.fill_triplets-requires-clause-fact_1
+fill_triplets-requires-clause-fact_1 c =
     let s = c.args in
     let i : Input = record { q0 = s.q0; addresses = s.addresses.now; map = s.map.now; classes = s.class_map.now; d = s.d; q = s.q; lattice = s.lattice; t = s.bz_grid_type; n = length s.out.now; m = length s.left.now; l = length s.left_length.now } in
     let a = input-accepted i (to_z-of_z c.ranges.q0) (to_z-of_z c.ranges.bz_grid_type) c.in_ok-t.ensures in
     rw c.point_of.ensures
-    (point-below (sides c.grid_of-g.result) (mesh-fits s.d a.grid c.grid_of-g.ensures).grid c.in_ok-t.t (whole_below c.ranges.q0 (asked-for s.addresses.now _ c.in_ok-a0.ensures.value)) (vector_of c.in_ok-a0.a0))
+    (point-below (sides c.grid_of-g.result) (mesh-fits s.d a.grid c.grid_of-g.ensures).grid c.in_ok-t.t (whole_below c.ranges.q0 (asked-for s.addresses.now _ c.in_ok-a0.ensures)) (vector_of c.in_ok-a0.a0.v))
 
-pub fill_triplets-requires-clause-fact_3 : goal.fill_triplets-requires-clause-fact_3
-fill_triplets-requires-clause-fact_3 c =
+pub fill_triplets-requires-clause-fact_2 : goal.fill_triplets-requires-clause-fact_2
+fill_triplets-requires-clause-fact_2 c =
     let s = c.args in
     let i : Input = record { q0 = s.q0; addresses = s.addresses.now; map = s.map.now; classes = s.class_map.now; d = s.d; q = s.q; lattice = s.lattice; t = s.bz_grid_type; n = length s.out.now; m = length s.left.now; l = length s.left_length.now } in
     let a = input-accepted i (to_z-of_z c.ranges.q0) (to_z-of_z c.ranges.bz_grid_type) c.in_ok-t.ensures in
@@ -65,7 +65,7 @@ pub returns-clause-value : goal.returns-clause-value
 returns-clause-value c =
     let s = c.args in
     let i : Input = record { q0 = s.q0; addresses = s.addresses.now; map = s.map.now; classes = s.class_map.now; d = s.d; q = s.q; lattice = s.lattice; t = s.bz_grid_type; n = length s.out.now; m = length s.left.now; l = length s.left_length.now } in
-    let w = walked i c.in_ok-t.t (to_z-of_z c.ranges.q0) c.in_ok-a0.ensures.value c.grid_of-g.ensures (measured s.addresses.now s.d s.q s.lattice c.measure_of.result c.measure_of.ensures.lqd_value c.measure_of.ensures.tolerance_value) c.point_of.ensures in
+    let w = walked i c.in_ok-t.t (to_z-of_z c.ranges.q0) c.in_ok-a0.ensures c.grid_of-g.ensures (measured s.addresses.now s.d s.q s.lattice c.measure_of.result c.measure_of.ensures.lqd_value c.measure_of.ensures.tolerance_value) c.point_of.ensures in
     walk-answer i c.in_ok-t.t triplet_list c.fill_triplets.result c.fill_triplets.new.out (c.fill_triplets.ensures.out_after ∙ ap (λ x. x then λ l. got (triplet_list l)) w)
     ∙ tests-read i (to_z-of_z c.ranges.q0) (to_z-of_z c.ranges.bz_grid_type) c.in_ok-t.ensures
 
@@ -73,7 +73,7 @@ pub returns-clause-out_after : goal.returns-clause-out_after
 returns-clause-out_after c =
     let s = c.args in
     let i : Input = record { q0 = s.q0; addresses = s.addresses.now; map = s.map.now; classes = s.class_map.now; d = s.d; q = s.q; lattice = s.lattice; t = s.bz_grid_type; n = length s.out.now; m = length s.left.now; l = length s.left_length.now } in
-    let w = walked i c.in_ok-t.t (to_z-of_z c.ranges.q0) c.in_ok-a0.ensures.value c.grid_of-g.ensures (measured s.addresses.now s.d s.q s.lattice c.measure_of.result c.measure_of.ensures.lqd_value c.measure_of.ensures.tolerance_value) c.point_of.ensures in
+    let w = walked i c.in_ok-t.t (to_z-of_z c.ranges.q0) c.in_ok-a0.ensures c.grid_of-g.ensures (measured s.addresses.now s.d s.q s.lattice c.measure_of.result c.measure_of.ensures.lqd_value c.measure_of.ensures.tolerance_value) c.point_of.ensures in
     walk-output i c.in_ok-t.t triplet_list c.fill_triplets.result c.fill_triplets.new.out (c.fill_triplets.ensures.out_after ∙ ap (λ x. x then λ l. got (triplet_list l)) w)
     (input-accepted i (to_z-of_z c.ranges.q0) (to_z-of_z c.ranges.bz_grid_type) c.in_ok-t.ensures)
 
@@ -81,7 +81,7 @@ pub returns-clause-left_after : goal.returns-clause-left_after
 returns-clause-left_after c =
     let s = c.args in
     let i : Input = record { q0 = s.q0; addresses = s.addresses.now; map = s.map.now; classes = s.class_map.now; d = s.d; q = s.q; lattice = s.lattice; t = s.bz_grid_type; n = length s.out.now; m = length s.left.now; l = length s.left_length.now } in
-    let w = walked i c.in_ok-t.t (to_z-of_z c.ranges.q0) c.in_ok-a0.ensures.value c.grid_of-g.ensures (measured s.addresses.now s.d s.q s.lattice c.measure_of.result c.measure_of.ensures.lqd_value c.measure_of.ensures.tolerance_value) c.point_of.ensures in
+    let w = walked i c.in_ok-t.t (to_z-of_z c.ranges.q0) c.in_ok-a0.ensures c.grid_of-g.ensures (measured s.addresses.now s.d s.q s.lattice c.measure_of.result c.measure_of.ensures.lqd_value c.measure_of.ensures.tolerance_value) c.point_of.ensures in
     walk-output i c.in_ok-t.t marks c.fill_triplets.result c.fill_triplets.new.left (c.fill_triplets.ensures.left_after ∙ ap (λ x. x then λ l. got (marks l)) w)
     (input-accepted i (to_z-of_z c.ranges.q0) (to_z-of_z c.ranges.bz_grid_type) c.in_ok-t.ensures)
 
@@ -89,6 +89,6 @@ pub returns-clause-left_length_after : goal.returns-clause-left_length_after
 returns-clause-left_length_after c =
     let s = c.args in
     let i : Input = record { q0 = s.q0; addresses = s.addresses.now; map = s.map.now; classes = s.class_map.now; d = s.d; q = s.q; lattice = s.lattice; t = s.bz_grid_type; n = length s.out.now; m = length s.left.now; l = length s.left_length.now } in
-    let w = walked i c.in_ok-t.t (to_z-of_z c.ranges.q0) c.in_ok-a0.ensures.value c.grid_of-g.ensures (measured s.addresses.now s.d s.q s.lattice c.measure_of.result c.measure_of.ensures.lqd_value c.measure_of.ensures.tolerance_value) c.point_of.ensures in
+    let w = walked i c.in_ok-t.t (to_z-of_z c.ranges.q0) c.in_ok-a0.ensures c.grid_of-g.ensures (measured s.addresses.now s.d s.q s.lattice c.measure_of.result c.measure_of.ensures.lqd_value c.measure_of.ensures.tolerance_value) c.point_of.ensures in
     walk-output i c.in_ok-t.t lengths c.fill_triplets.result c.fill_triplets.new.left_length (c.fill_triplets.ensures.left_length_after ∙ ap (λ x. x then λ l. got (lengths l)) w)
     (input-accepted i (to_z-of_z c.ranges.q0) (to_z-of_z c.ranges.bz_grid_type) c.in_ok-t.ensures)

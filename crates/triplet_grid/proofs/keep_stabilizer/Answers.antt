@@ -6,7 +6,7 @@ use mathlib.Core.List.{[]}
 use Rattle.common.specs.Matrix.{entries}
 use Rattle.common.specs.Array.{rows, matrix_of}
 use Rattle.grgrid.specs.Sides.{sides}
-use Rattle.common.proofs.Sized.{rotation-within}
+use Rattle.common.proofs.Sized.{rotation_within}
 use Rattle.triplet_grid.proofs.Keeping.{carry-is, front-start, front_read, front-more, front_same}
 use Rattle.triplet_grid.proofs.keep_stabilizer.Goals as goal
 use Rattle.triplet_grid.proofs.keep_stabilizer.Goals.{then-carried-q0, else-carried-q0}
@@ -18,7 +18,7 @@ pub invariant_of-rotation : goal.invariant_of-rotation
 invariant_of-rotation c =
     let s = c.args in
     let l = c.loop-n in
-    record { within = rw (c.matrix_at.ensures ∙ ap rows (front_read (sides s.g) s.q0 s.group.now l.invariant)) (rotation-within 100000 s.group.now c.requires.within l.n) }
+    record { within = rw (c.matrix_at.ensures ∙ ap rows (front_read (sides s.g) s.q0 s.group.now l.invariant)) (rotation_within 100000 s.group.now c.requires.within l.n) }
 
 pub loop-n-preserved : goal.loop-n-preserved
 loop-n-preserved c =

@@ -88,6 +88,7 @@ fn turn(out: &mut [i64; 432], count: usize, is_transpose: bool)
     ensures { out.new ≡ laid (turned is_transpose (matrices_from out.old 0 count)) out.old }
 {
     if is_transpose {
+        // By index: of places that an iterator lends, a proof knows no element afterwards.
         for k in 0..count {
             transpose_at(out, k * 9);
         }

@@ -62,6 +62,7 @@ fn mark(rotations: Rotations<'_>, m: usize, known: &mut [bool; 192])
     requires known { Known rotations.list.now known.old }
     ensures { Known rotations.entry.list.now known.new }
 {
+    // By index: a turn may mark another one.
     for n in 0..rotations.count() {
         if known[n] {
             if let Some(k) = place(rotations, m, n) {
@@ -76,6 +77,7 @@ pub fn products_inside(rotations: Rotations<'_>) -> bool
     ensures { result ≡ every (row_inside (matrices rotations.entry.list.now)) (matrices rotations.entry.list.now) }
 {
     let mut known = [false; 192];
+    // By index: `mark` may mark any.
     for m in 0..rotations.count() {
         if !known[m] {
             if !row_inside(rotations, m) {

@@ -17,6 +17,23 @@ ghost use Rattle.triplet_grid.specs.IrTriplets.{map_q_of, lower_of, map_triplets
 use common::Refusal;
 use grgrid::{Address, Grid, Rotation, Rotations};
 
+// A point of a grid.
+#[derive(Clone, Copy)]
+struct Point {
+    p: usize,
+    g: Grid,
+    ghost inside: { p < size (sides g) },
+}
+
+// The classes under the operations that keep q0. A number in `map_q` is the lowest point that bears it, which comes first.
+#[derive(Clone, Copy)]
+struct Classes<'a> {
+    map_q: &'a [i64],
+    q0: Point,
+    ghost places: { length map_q.now ≡ size (sides q0.g) },
+    ghost numbered: { Numbered (size (sides q0.g)) map_q.now },
+}
+
 // `-a - b`.
 pub fn third(a: Address, b: Address) -> [i64; 3]
     ensures { result ≡ items (third (vector_of a.v) (vector_of b.v)) }
@@ -32,20 +49,20 @@ fn carried(rotation: Rotation, address: Address, g: Grid) -> usize
 }
 
 // Moves the matrices that keep q0 to the front, and answers how many there are.
-// `within` is a clause, and no type: only this and its caller have a list of rotations that is written.
-fn keep_stabilizer(group: &mut [i64], g: Grid, q0: usize) -> usize
-    requires point { q0 < size (sides g) }
-    requires within { T (all_within 100000 group.old) }
-    ensures group_after { group.new ≡ laid (stabilizer (sides g) q0 (matrices group.old)) group.old }
-    ensures value { result ≡ length (stabilizer (sides g) q0 (matrices group.old)) }
+// The limits of `group` are a clause, and no type: only this and its caller ask for them.
+fn keep_stabilizer(group: &mut [i64], q0: Point) -> usize
+    requires { T (all_within 100000 group.old) }
+    ensures group_after { group.new ≡ laid (stabilizer (sides q0.g) q0.p (matrices group.old)) group.old }
+    ensures value { result ≡ length (stabilizer (sides q0.g) q0.p (matrices group.old)) }
 {
-    let address = grgrid::grid_address_from_index(q0, g);
+    let address = grgrid::grid_address_from_index(q0.p, q0.g);
     let mut kept = 0;
+    // By index: the matrices move within the list.
     for n in 0..group.len() / 9 {
         let rotation = Rotation {
             m: common::matrix_at(group, n),
         };
-        if carried(rotation, address, g) == q0 {
+        if carried(rotation, address, q0.g) == q0.p {
             group[kept * 9..kept * 9 + 9].copy_from_slice(&integer_matrix::flat(rotation.m));
             kept += 1;
         }
@@ -54,43 +71,42 @@ fn keep_stabilizer(group: &mut [i64], g: Grid, q0: usize) -> usize
 }
 
 // The classes under those matrices of `group` that keep q0.
-fn number_classes(group: &mut [i64], g: Grid, q0: usize, map_q: &mut [i64])
-    requires point { q0 < size (sides g) }
+fn number_classes(group: &mut [i64], q0: Point, map_q: &mut [i64])
     requires within { T (all_within 100000 group.old) }
-    requires places { length map_q.old ≡ size (sides g) }
-    ensures { map_q.new ≡ map pos (map_q_of (sides g) q0 (matrices group.old)) }
+    requires places { length map_q.old ≡ size (sides q0.g) }
+    ensures { map_q.new ≡ map pos (map_q_of (sides q0.g) q0.p (matrices group.old)) }
 {
-    let kept = keep_stabilizer(&mut *group, g, q0);
+    let kept = keep_stabilizer(&mut *group, q0);
     let rotations = Rotations {
         list: &group[..kept * 9],
     };
-    grgrid::number_points(rotations, g, common::shift([0, 0, 0]), map_q);
+    grgrid::number_points(rotations, q0.g, common::shift([0, 0, 0]), map_q);
 }
 
 // The class number of q1, which is its own, or that of its partner if it is lower.
-fn swapped_number(map_q: &[i64], address0: Address, q1: usize, g: Grid) -> i64
-    requires point { q1 < size (sides g) }
-    requires numbered { Numbered (size (sides g)) map_q.now }
-    requires places { length map_q.now ≡ size (sides g) }
-    ensures { result ≡ pos (lower_of (get_or (map nat_abs map_q.now) (index (sides g) (third (vector_of address0.v) (address (sides g) q1))) 0) q1) }
+fn swapped_number(classes: &Classes<'_>, address0: Address, q1: usize) -> i64
+    requires { q1 < size (sides classes.now.q0.g) }
+    ensures { let d = sides classes.now.q0.g in
+        result ≡ pos (lower_of (get_or (map nat_abs classes.now.map_q.now) (index d (third (vector_of address0.v) (address d q1))) 0) q1) }
 {
+    let g = classes.q0.g;
     let address1 = grgrid::grid_address_from_index(q1, g);
     let q2 = grgrid::grid_index_from_address(third(address0, address1), g);
-    map_q[q2].min(q1 as i64)
+    classes.map_q[q2].min(q1 as i64)
 }
 
-// Swappable case: q1 and q2 can be exchanged. A number in `map_q` is the lowest point that bears it, which comes first.
-fn ir_triplets_at_q_perm_q1q2(map_q: &[i64], q0: usize, g: Grid, map_triplets: &mut [i64])
-    requires fact_1 { q0 < size (sides g) }
-    requires fact_2 { Numbered (size (sides g)) map_q.now }
-    requires fact_3 { (length map_q.now ≡ size (sides g)) × (length map_triplets.old ≡ size (sides g)) }
-    ensures { map_triplets.new ≡ map pos (map_triplets_of true (sides g) q0 (map nat_abs map_q.now)) }
+// Swappable case: q1 and q2 can be exchanged.
+fn ir_triplets_at_q_perm_q1q2(classes: &Classes<'_>, map_triplets: &mut [i64])
+    requires { length map_triplets.old ≡ size (sides classes.now.q0.g) }
+    ensures { map_triplets.new ≡ map pos (map_triplets_of true (sides classes.now.q0.g) classes.now.q0.p (map nat_abs classes.now.map_q.now)) }
 {
-    let address0 = grgrid::grid_address_from_index(q0, g);
+    let q0 = classes.q0;
+    let address0 = grgrid::grid_address_from_index(q0.p, q0.g);
+    // By index: a place may take what another one has.
     for q1 in 0..map_triplets.len() {
-        let own = map_q[q1];
+        let own = classes.map_q[q1];
         map_triplets[q1] = if own == q1 as i64 {
-            swapped_number(map_q, address0, q1, g)
+            swapped_number(classes, address0, q1)
         } else {
             map_triplets[own as usize]
         };
@@ -128,18 +144,16 @@ fn triplet_tests(
 
 // The classes under the operations that keep q0, or why there is no such group.
 fn classes_at(
-    q0: usize,
-    g: Grid,
+    q0: Point,
     rotations: &[i64],
     is_time_reversal: bool,
     map_q: &mut [i64],
 ) -> Result<(), Refusal>
-    requires fact_1 { q0 < size (sides g) }
-    requires fact_2 { T (whole_matrices rotations.now) }
-    requires fact_3 { T (rotations_fit 100000 rotations.now) }
-    requires fact_4 { length map_q.old ≡ size (sides g) }
+    requires whole { T (whole_matrices rotations.now) }
+    requires limits { T (rotations_fit 100000 rotations.now) }
+    requires places { length map_q.old ≡ size (sides q0.g) }
     ensures value { result ≡ room_tests (matrices rotations.now) is_time_reversal false }
-    ensures map_q_after { result ≡ Accepted → map_q.new ≡ map pos (classes_at q0 (sides g) (matrices rotations.now) is_time_reversal) }
+    ensures map_q_after { result ≡ Accepted → map_q.new ≡ map pos (classes_at q0.p (sides q0.g) (matrices rotations.now) is_time_reversal) }
 {
     let mut group = [0; 432];
     let count = recip_rotations::get_reciprocal_point_group(
@@ -148,28 +162,22 @@ fn classes_at(
         false,
         &mut group,
     )?;
-    number_classes(&mut group[..count * 9], g, q0, map_q);
+    number_classes(&mut group[..count * 9], q0, map_q);
     Ok(())
 }
 
-fn number_triplets(
-    swappable: bool,
-    map_q: &[i64],
-    q0: usize,
-    g: Grid,
-    map_triplets: &mut [i64],
-) -> i64
-    requires fact_1 { q0 < size (sides g) }
-    requires fact_2 { Numbered (size (sides g)) map_q.now }
-    requires fact_3 { (length map_q.now ≡ size (sides g)) × (length map_triplets.old ≡ size (sides g)) }
-    ensures map_triplets_after { map_triplets.new ≡ map pos (map_triplets_of swappable (sides g) q0 (map nat_abs map_q.now)) }
-    ensures value { result ≡ pos (kept (map_triplets_of swappable (sides g) q0 (map nat_abs map_q.now)) (size (sides g))) }
+fn number_triplets(swappable: bool, classes: &Classes<'_>, map_triplets: &mut [i64]) -> i64
+    requires { length map_triplets.old ≡ size (sides classes.now.q0.g) }
+    ensures map_triplets_after { let triplets = map_triplets_of swappable (sides classes.now.q0.g) classes.now.q0.p (map nat_abs classes.now.map_q.now) in
+        map_triplets.new ≡ map pos triplets }
+    ensures value { let d = sides classes.now.q0.g in
+        result ≡ pos (kept (map_triplets_of swappable d classes.now.q0.p (map nat_abs classes.now.map_q.now)) (size d)) }
 {
     if swappable {
-        ir_triplets_at_q_perm_q1q2(map_q, q0, g, &mut *map_triplets);
+        ir_triplets_at_q_perm_q1q2(classes, &mut *map_triplets);
     } else {
         // The Rust's `ir_triplets_at_q_noperm`: the classes as they are.
-        map_triplets.copy_from_slice(map_q);
+        map_triplets.copy_from_slice(classes.map_q);
     }
     grgrid::own_places(map_triplets) as i64
 }
@@ -190,9 +198,16 @@ fn fill_maps(
 {
     triplet_tests(q0, d, rotations, map_triplets.len(), map_q.len())?;
     let g = grgrid::grid_of(d);
-    let point = q0 as usize;
-    classes_at(point, g, rotations, is_time_reversal, &mut *map_q)?;
-    Ok(number_triplets(swappable, map_q, point, g, map_triplets))
+    let point = Point {
+        p: q0 as usize,
+        g: g,
+    };
+    classes_at(point, rotations, is_time_reversal, &mut *map_q)?;
+    let classes = Classes {
+        map_q: map_q,
+        q0: point,
+    };
+    Ok(number_triplets(swappable, &classes, map_triplets))
 }
 
 // Search symmetry-reduced triplets at a fixed q-point: `map_q` has the classes under the operations that keep q0, `map_triplets` those of the triplets.

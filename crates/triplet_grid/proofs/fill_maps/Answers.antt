@@ -38,16 +38,15 @@ overflow_cast-point c =
     let g = c.grid_of-g.result in
     rw (to_z-of_z c.ranges.q0) (a.sign, record { fits = omega (arith, a.point, ap size e, grid-few g) })
 
+pub invariant_of-point : goal.invariant_of-point
+invariant_of-point c =
+    let a = (call-accepted c.triplet_tests.ensures (to_z-of_z c.ranges.q0) c.in_ok-triplet_tests.was).1 in
+    record { inside = rw (to_z-of_z c.ranges.q0) (subst (λ d. nat_abs c.args.q0 < size d) (sym c.grid_of-g.ensures) a.point) }
+
 pub classes_at-requires : goal.classes_at-requires
 classes_at-requires c =
     let a = (call-accepted c.triplet_tests.ensures (to_z-of_z c.ranges.q0) c.in_ok-triplet_tests.was).1 in
-    let e = sym c.grid_of-g.ensures in
-    record {
-      fact_1 = rw (to_z-of_z c.ranges.q0) (subst (λ d. nat_abs c.args.q0 < size d) e a.point);
-      fact_2 = a.whole;
-      fact_3 = a.fit;
-      fact_4 = a.classes ∙ ap size e;
-    }
+    record { whole = a.whole; limits = a.fit; places = a.classes ∙ ap size (sym c.grid_of-g.ensures) }
 
 pub returns-in_err-classes_at-clause-value : goal.returns-in_err-classes_at-clause-value
 returns-in_err-classes_at-clause-value c =
@@ -59,17 +58,18 @@ returns-in_err-classes_at-clause-value c =
     let e = sym c.in_err-classes_at.was ∙ c.classes_at.ensures.value ∙ then-room s.q0 s.d s.rotations.now s.is_time_reversal n m a.0 in
     h ∙ answer-is s.q0 s.d s.rotations.now s.is_time_reversal n m s.swappable e
 
-pub number_triplets-requires : goal.number_triplets-requires
-number_triplets-requires c =
+pub invariant_of-classes : goal.invariant_of-classes
+invariant_of-classes c =
     let s = c.args in
     let a = (call-accepted c.triplet_tests.ensures (to_z-of_z c.ranges.q0) c.in_ok-triplet_tests.was).1 in
-    let e = sym c.grid_of-g.ensures in
+    let n : length s.map_q.now ≡ size (sides c.grid_of-g.result) = a.classes ∙ ap size (sym c.grid_of-g.ensures) in
     let q = c.classes_at.ensures.map_q_after c.in_ok-classes_at.was in
-    record {
-      fact_1 = rw (to_z-of_z c.ranges.q0) (subst (λ d. nat_abs s.q0 < size d) e a.point);
-      fact_2 = classes-numbered _ (sides c.grid_of-g.result) (matrices s.rotations.now) s.is_time_reversal q;
-      fact_3 = (search rules, a.triplets ∙ ap size e);
-    }
+    record { places = search rules; numbered = classes-numbered _ (sides c.grid_of-g.result) (matrices s.rotations.now) s.is_time_reversal q }
+
+pub number_triplets-requires : goal.number_triplets-requires
+number_triplets-requires c =
+    let a = (call-accepted c.triplet_tests.ensures (to_z-of_z c.ranges.q0) c.in_ok-triplet_tests.was).1 in
+    a.triplets ∙ ap size (sym c.grid_of-g.ensures)
 
 pub returns : goal.returns
 returns c =

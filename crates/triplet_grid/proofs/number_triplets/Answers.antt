@@ -15,17 +15,16 @@ use Rattle.triplet_grid.proofs.number_triplets.Goals.{then-swappable, else-swapp
 pub returns : goal.returns
 returns c =
     let s = c.args in
-    let p = c.requires in
-    let d = sides s.g in
-    let l = map nat_abs s.map_q.now in
-    let w : c.if-swappable.map_triplets ≡ map pos (map_triplets_of s.swappable d s.q0 l) =
+    let d = sides s.classes.now.q0.g in
+    let l = map nat_abs s.classes.now.map_q.now in
+    let w : c.if-swappable.map_triplets ≡ map pos (map_triplets_of s.swappable d s.classes.now.q0.p l) =
     elim c.if-swappable.branch [
-      | then-swappable w ↦ w.map_triplets-is ∙ w.ir_triplets_at_q_perm_q1q2.ensures ∙ ap (λ t. map pos (map_triplets_of t d s.q0 l)) (sym w.if-swappable.true)
+      | then-swappable w ↦ w.map_triplets-is ∙ w.ir_triplets_at_q_perm_q1q2.ensures ∙ ap (λ t. map pos (map_triplets_of t d s.classes.now.q0.p l)) (sym w.if-swappable.true)
       | else-swappable w ↦
-          w.map_triplets-is ∙ w.copy_from_slice.ensures.after ∙ p.fact_2.natural ∙ ap (map pos) (sym (plain d s.q0 l (length-map s.map_q.now nat_abs ∙ p.fact_3.0)))
-          ∙ ap (λ t. map pos (map_triplets_of t d s.q0 l)) (sym w.if-swappable.false)
+          w.map_triplets-is ∙ w.copy_from_slice.ensures.after ∙ s.classes.now.numbered.natural ∙ ap (map pos) (sym (plain d s.classes.now.q0.p l (length-map s.classes.now.map_q.now nat_abs ∙ s.classes.now.places)))
+          ∙ ap (λ t. map pos (map_triplets_of t d s.classes.now.q0.p l)) (sym w.if-swappable.false)
     ] in
-    let few = grid-few s.g in
-    let n = length-triplets s.swappable d s.q0 l w in
+    let few = grid-few s.classes.now.q0.g in
+    let n = length-triplets s.swappable d s.classes.now.q0.p l w in
     let k = c.own_places.ensures in
-    record { map_triplets_after = w; value = to_z_pos w64 (omega (arith, k.upper_bound)) ∙ ap pos (k.value ∙ kept-triplets s.swappable d s.q0 l w) }
+    record { map_triplets_after = w; value = to_z_pos w64 (omega (arith, k.upper_bound)) ∙ ap pos (k.value ∙ kept-triplets s.swappable d s.classes.now.q0.p l w) }

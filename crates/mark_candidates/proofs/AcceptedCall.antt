@@ -15,6 +15,7 @@ use Rattle.common.specs.declared.Refusal.{Refusal}
 use Rattle.common.specs.declared.Refusal.TheVariants.{OutsideLimits, NotUnimodularQ, WrongLength, InvertedRange}
 use Rattle.common.proofs.Tests.{passed}
 use Rattle.bzsearch.specs.Search.{unimodular}
+pub use Rattle.grgrid.proofs.Refusing.{refused, onward}
 use Rattle.mark_candidates.specs.InnerProducts.{Ranges, ordered}
 use Rattle.mark_candidates.specs.ScaledCoordinates.{candidates125}
 use Rattle.mark_candidates.specs.MarkCandidates.{mark, ranges_of, within_limits, mark_tests, placed, marks, mark_candidates}

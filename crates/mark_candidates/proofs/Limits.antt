@@ -1,14 +1,12 @@
 -- What the limits of a call say of each input.
 use mathlib.Core.Bool.{◌&&◌}
 use mathlib.Core.List.{List}
-use Prim.Native.Nat.{ℕ, ◌<◌}
-use lib.Dec.{T, ltb→lt}
-use lib.IntN.{ℤ, pos, negsuc, nat_abs}
-use lib.Signed.{le_z, lt_z, non_neg}
+use lib.Dec.{T}
+use lib.IntN.{ℤ, pos}
 use Rattle.integer.proofs.Test.{and_l, and_r}
 use Rattle.common.specs.Array.{sides_of, matrix_of}
 use Rattle.common.specs.Limits.{all_within, matrix_within, diagonal_fits, shift_fits, point_fits}
-use Rattle.common.proofs.Bounds.{entry-within}
+use Rattle.common.proofs.Sized.{within-sized}
 use Rattle.grgrid.specs.Grid.{size}
 use Rattle.mark_candidates.specs.declared.table.Ranges.{Ranges}
 use Rattle.mark_candidates.specs.MarkCandidates.{grid_fits, within_limits}
@@ -39,10 +37,5 @@ limits-within d q ps lowest highest point t =
       inside = and_r h p (and_r l (h && p) r);
     }
 
--- a point of the grid
-pub point-inside : (z : ℤ) (n : ℕ) → T (point_fits z (pos n)) → T (non_neg z) × (nat_abs z < n)
-point-inside (pos m) n t = (tt, ltb→lt m n (and_r (le_z (pos 0) (pos m)) (lt_z (pos m) (pos n)) t))
-point-inside (negsuc m) n t = absurd t
-
 pub ranges-fit : (r : Ranges) → T (all_within 1000000 r.lowest) → T (all_within 1000000 r.highest) → RangesFit r
-ranges-fit r s t = record { lowest = record { each = entry-within 1000000 r.lowest s }; highest = record { each = entry-within 1000000 r.highest t } }
+ranges-fit r s t = record { lowest = within-sized 1000000 r.lowest s; highest = within-sized 1000000 r.highest t }

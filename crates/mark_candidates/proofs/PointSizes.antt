@@ -8,15 +8,12 @@ use lib.IntN.{ℤ, pos, nat_abs, ◌+ℤ◌, ◌*ℤ◌}
 use lib.ListN.{get_or}
 use Rattle.integer.proofs.Size.{abs-mul}
 use Rattle.integer.proofs.Plain.{plain, p_atom, plain-within}
-use Rattle.common.specs.Matrix.{Axis, X, Y, Z, Vec, Mat, side, entry, dot, integers, ◌▹◌}
-use Rattle.common.specs.Array.{number, along, vector_of, items, Sized}
-use Rattle.common.specs.IntegerMatrix.{dot_fits, apply_fits}
+use Rattle.common.specs.Matrix.{Axis, X, Y, Z, Vec, Mat, side}
+use Rattle.common.specs.Array.{vector_of, items, Sized}
 use Rattle.common.specs.Limits.{matrix_within}
-use Rattle.common.proofs.Matrix.{all-axes, side-vector}
-use Rattle.common.proofs.Whole.{sized-dot}
-use Rattle.common.proofs.Bounds.{p-sized, matrix-sizes}
+use Rattle.common.proofs.Bounds.{p-sized}
+use Rattle.common.proofs.Sized.{sized-items, apply-sized}
 use Rattle.grgrid.specs.Grid.{size, address, double}
-use Rattle.grgrid.proofs.Sizes.{sized-items}
 use Rattle.mark_candidates.specs.ScaledCoordinates.{shares, scaled_by, scaled, rest, rests}
 use Rattle.mark_candidates.specs.Code.Table.{weights}
 use Rattle.mark_candidates.proofs.Rounding.{rest-size}
@@ -52,32 +49,12 @@ module _ (d : Vec ℕ) (f : (k : Axis) → side d k ≤ 512) {a : List ℤ} (g :
       (share d.x d.y (get_or a 2 (pos 0)) (f X) (f Y) (g.each 2))
 
 -- ---- by Q
-dot-small : (a b c x y z : ℤ) → nat_abs a ≤ 1000 → nat_abs b ≤ 1000 → nat_abs c ≤ 1000 → nat_abs x ≤ 34360000512 → nat_abs y ≤ 34360000512 → nat_abs z ≤ 34360000512
-    → nat_abs (a *ℤ x +ℤ b *ℤ y +ℤ c *ℤ z) ≤ 110000000000000
-dot-small a b c x y z f g h i j k = le_trans (plain-within {v = a *ℤ x +ℤ b *ℤ y +ℤ c *ℤ z} (search (plain, p_atom) depth 14) tt) (lit≤ tt)
-
-applied-small : (m : Mat ℤ) {v : List ℤ} → T (matrix_within 1000 m) → Sized 34360000512 v → Sized 110000000000000 (items (m ▹ vector_of v))
-applied-small m {v} t g = sized-items (m ▹ vector_of v) (at X) (at Y) (at Z)
-  where
-    f : (j k : Axis) → nat_abs (entry m j k) ≤ 1000
-    f = matrix-sizes 1000 m t
-
-    at : (j : Axis) → nat_abs (dot integers (entry m j) (side (vector_of v))) ≤ 110000000000000
-    at j = dot-small (entry m j X) (entry m j Y) (entry m j Z) (get_or v 0 (pos 0)) (get_or v 1 (pos 0)) (get_or v 2 (pos 0)) (f j X) (f j Y) (f j Z) (g.each 0) (g.each 1) (g.each 2)
-
-pub applied-fits : (m : Mat ℤ) {v : List ℤ} → T (matrix_within 1000 m) → Sized 34360000512 v → T (apply_fits m (vector_of v))
-applied-fits m {v} t g =
-    all-axes (λ j. dot_fits (entry m j) (side (vector_of v))) (λ j. sized-dot (entry m j) (side (vector_of v)) 1000 34360000512 (matrix-sizes 1000 m t j) column (lit≤ tt))
-  where
-    column : (k : Axis) → nat_abs (side (vector_of v) k) ≤ 34360000512
-    column k = rw (side-vector (along v) k) (g.each (number k))
-
 pub scaled_small : (d : Vec ℕ) → ((k : Axis) → side d k ≤ 512) → size d ≤ 65536 → (p : ℕ) → p < size d → {s : List ℤ} → Sized 1 s → (m : Mat ℤ) → T (matrix_within 1000 m)
     → Sized 110000000000000 (items (scaled d (vector_of s) m p))
 unfolding scaled
 scaled_small d f few p h {s} g m k =
-    applied-small m {v = items (scaled_by (shares d) (double (address d p) (vector_of s)))} k
-    (shared-small d f {a = items (double (address d p) (vector_of s))} (doubled-small d few p h g))
+    apply-sized 1000 34360000512 m {v = items (scaled_by (shares d) (double (address d p) (vector_of s)))} k
+    (shared-small d f {a = items (double (address d p) (vector_of s))} (doubled-small d few p h g)) (lit≤ tt)
 
 -- ---- what is left
 pub rests-small : (d : Vec ℕ) → 0 < size d → size d ≤ 65536 → (ps : Vec ℤ) (q : Mat ℤ) (p : ℕ) → Sized 65536 (items (rests d ps q p))

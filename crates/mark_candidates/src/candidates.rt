@@ -5,6 +5,16 @@ ghost use Rattle.mark_candidates.specs.ScaledCoordinates.{position};
 ghost use Rattle.mark_candidates.specs.Code.Numbered.{translation, candidate_at};
 ghost use Rattle.mark_candidates.specs.Code.Table.{weights};
 
+use crate::coordinates::{Count, Rests};
+use common::Bounded;
+
+// How often the six inner products stand in the squared length of a vector.
+#[derive(Clone, Copy)]
+pub struct Weights {
+    pub w: [i64; 6],
+    ghost sized: { Sized 214748364800 w },
+}
+
 // 0, 1, 2, -2, -1.
 fn translation(i: usize) -> i64
     requires { i < 5 }
@@ -17,75 +27,62 @@ fn translation(i: usize) -> i64
     i as i64 - 5
 }
 
-fn moved(s: i64, n: usize, m: i64) -> i64
-    requires { (nat_abs s ≤ 65536) × (n ≤ 65536) × (nat_abs m ≤ 2) }
-    ensures value { result ≡ s +ℤ pos (2 * n) *ℤ m }
+fn moved_by(s: i64, points: Count, i: usize) -> i64
+    requires { (nat_abs s ≤ 65536) × (i < 5) }
+    ensures value { result ≡ s +ℤ pos (2 * points.n) *ℤ translation i }
     ensures result_bound { nat_abs result ≤ 327680 }
 {
-    let k = 2 * n;
-    s + k as i64 * m
-}
-
-fn moved_by(s: i64, n: usize, i: usize) -> i64
-    requires { (nat_abs s ≤ 65536) × (n ≤ 65536) × (i < 5) }
-    ensures value { result ≡ s +ℤ pos (2 * n) *ℤ translation i }
-    ensures result_bound { nat_abs result ≤ 327680 }
-{
-    moved(s, n, translation(i))
+    s + points.twice() * translation(i)
 }
 
 // 2N times the coordinates of candidate i.
-fn position(s: [i64; 3], n: usize, i: usize) -> [i64; 3]
-    requires fact_1 { Sized 65536 s }
-    requires fact_2 { n ≤ 65536 }
-    requires fact_3 { i < 125 }
-    ensures value { result ≡ items (position n (vector_of s) (candidate_at i)) }
-    ensures sized { Sized 327680 result }
+fn position(r: Rests, i: usize) -> Bounded<327680>
+    requires { i < 125 }
+    ensures { result.v ≡ items (position r.points.n (vector_of r.s.v) (candidate_at i)) }
 {
-    [
-        moved_by(s[0], n, i / 25),
-        moved_by(s[1], n, i / 5 % 5),
-        moved_by(s[2], n, i % 5),
-    ]
+    let s = r.s.v;
+    Bounded {
+        v: [
+            moved_by(s[0], r.points, i / 25),
+            moved_by(s[1], r.points, i / 5 % 5),
+            moved_by(s[2], r.points, i % 5),
+        ],
+    }
 }
 
-fn square_at(v: [i64; 3], k: usize) -> i64
-    requires fact_1 { Sized 327680 v }
-    requires fact_2 { k < 3 }
-    ensures { result ≡ get_or v k (pos 0) *ℤ get_or v k (pos 0) }
+fn square_at(p: Bounded<327680>, k: usize) -> i64
+    requires { k < 3 }
+    ensures { result ≡ get_or p.v k (pos 0) *ℤ get_or p.v k (pos 0) }
 {
-    v[k] * v[k]
+    p.v[k] * p.v[k]
 }
 
 // An inner product of two basis vectors counts twice.
-fn double_at(v: [i64; 3], j: usize, k: usize) -> i64
-    requires fact_1 { Sized 327680 v }
-    requires fact_2 { (j < 3) × (k < 3) }
-    ensures { result ≡ pos 2 *ℤ (get_or v j (pos 0) *ℤ get_or v k (pos 0)) }
+fn double_at(p: Bounded<327680>, j: usize, k: usize) -> i64
+    requires { (j < 3) × (k < 3) }
+    ensures { result ≡ pos 2 *ℤ (get_or p.v j (pos 0) *ℤ get_or p.v k (pos 0)) }
 {
-    2 * (v[j] * v[k])
+    2 * (p.v[j] * p.v[k])
 }
 
-fn weights(v: [i64; 3]) -> [i64; 6]
-    requires { Sized 327680 v }
-    ensures { result ≡ weights (vector_of v) }
+fn weights_of(p: Bounded<327680>) -> Weights
+    ensures { result.w ≡ weights (vector_of p.v) }
 {
-    [
-        square_at(v, 0),
-        double_at(v, 0, 1),
-        double_at(v, 0, 2),
-        square_at(v, 1),
-        double_at(v, 1, 2),
-        square_at(v, 2),
-    ]
+    Weights {
+        w: [
+            square_at(p, 0),
+            double_at(p, 0, 1),
+            double_at(p, 0, 2),
+            square_at(p, 1),
+            double_at(p, 1, 2),
+            square_at(p, 2),
+        ],
+    }
 }
 
-pub fn weights_at(s: [i64; 3], n: usize, i: usize) -> [i64; 6]
-    requires fact_1 { Sized 65536 s }
-    requires fact_2 { n ≤ 65536 }
-    requires fact_3 { i < 125 }
-    ensures value { result ≡ weights (position n (vector_of s) (candidate_at i)) }
-    ensures sized { Sized 214748364800 result }
+pub fn weights_at(r: Rests, i: usize) -> Weights
+    requires { i < 125 }
+    ensures { result.w ≡ weights (position r.points.n (vector_of r.s.v) (candidate_at i)) }
 {
-    weights(position(s, n, i))
+    weights_of(position(r, i))
 }

@@ -1,43 +1,76 @@
 // The exact reduced coordinates of a grid point, times 2N, less the nearest whole numbers.
-ghost use Rattle.std.specs.Prelude.{◌≡◌, ◌*◌, ◌≤◌, ◌<◌, T, pos, nat_abs, ◌*ℤ◌};
-ghost use Rattle.std.specs.Int.Signed.{quot_z};
+ghost use Rattle.std.specs.Prelude.{◌≡◌, ◌*◌, ◌≤◌, ◌<◌, pos, nat_abs, ◌*ℤ◌};
 ghost use Rattle.common.specs.Matrix.{vector};
 ghost use Rattle.common.specs.Array.{along, vector_of, matrix_of, items, Sized};
-ghost use Rattle.common.specs.Limits.{matrix_within};
 ghost use Rattle.grgrid.specs.Grid.{size};
 ghost use Rattle.grgrid.specs.Sides.{sides};
 ghost use Rattle.mark_candidates.specs.ScaledCoordinates.{shares, scaled_by, scaled, outwards, rest, rests};
 
+use bzsearch::Basis;
+use common::{Bounded, Shift};
 use grgrid::Grid;
 
-fn outwards(z: i64, n: usize) -> i64
-    requires { (nat_abs z ≤ 110000000000000) × (n ≤ 65536) }
-    ensures { result ≡ outwards n z }
-{
-    let k = n as i64;
-    if z < 0 {
-        return z - k;
+// N, the number of points of a grid.
+#[derive(Clone, Copy)]
+pub struct Count {
+    pub n: usize,
+    ghost some: { 0 < n },
+    ghost few: { n ≤ 65536 },
+}
+
+// A grid with its shift and its basis.
+#[derive(Clone, Copy)]
+pub struct Mesh {
+    pub g: Grid,
+    pub ps: Shift,
+    pub q: Basis,
+    pub ghost few: { size (sides g) ≤ 65536 },
+}
+
+// What is left of a point's coordinates, times 2N, and N.
+#[derive(Clone, Copy)]
+pub struct Rests {
+    pub s: Bounded<65536>,
+    pub points: Count,
+}
+
+impl Count {
+    pub fn twice(self) -> i64
+        ensures { result ≡ pos (2 * self.n) }
+    {
+        let k = 2 * self.n;
+        k as i64
     }
-    z + k
-}
 
-fn over_double(z: i64, n: usize) -> i64
-    requires { (0 < n) × (n ≤ 65536) }
-    ensures { result ≡ quot_z z (pos (2 * n)) }
-{
-    let k = 2 * n;
-    z / k as i64
-}
+    fn outwards(self, z: i64) -> i64
+        requires { nat_abs z ≤ 110000000000000 }
+        ensures { result ≡ outwards self.n z }
+    {
+        let k = self.n as i64;
+        if z < 0 {
+            return z - k;
+        }
+        z + k
+    }
 
-// What is left of z beside the multiple of 2n that is nearest.
-fn rest(z: i64, n: usize) -> i64
-    requires { (nat_abs z ≤ 110000000000000) × (0 < n) × (n ≤ 65536) }
-    ensures value { result ≡ rest n z }
-    ensures result_bound { nat_abs result ≤ 65536 }
-{
-    let r = over_double(outwards(z, n), n);
-    let k = 2 * n;
-    z - k as i64 * r
+    // What is left of z beside the multiple of 2N that is nearest.
+    fn rest(self, z: i64) -> i64
+        requires { nat_abs z ≤ 110000000000000 }
+        ensures value { result ≡ rest self.n z }
+        ensures result_bound { nat_abs result ≤ 65536 }
+    {
+        let k = self.twice();
+        z - k * (self.outwards(z) / k)
+    }
+
+    fn rests(self, v: [i64; 3]) -> Bounded<65536>
+        requires { Sized 110000000000000 v }
+        ensures { result.v ≡ items (vector (λ k. rest self.n (along v k))) }
+    {
+        Bounded {
+            v: [self.rest(v[0]), self.rest(v[1]), self.rest(v[2])],
+        }
+    }
 }
 
 fn times(u: i64, a: usize, b: usize) -> i64
@@ -60,32 +93,27 @@ fn scaled_grid(a: [i64; 3], g: Grid) -> [i64; 3]
     ]
 }
 
-fn rests(v: [i64; 3], n: usize) -> [i64; 3]
-    requires fact_1 { Sized 110000000000000 v }
-    requires fact_2 { (0 < n) × (n ≤ 65536) }
-    ensures { result ≡ items (vector (λ k. rest n (along v k))) }
-{
-    [rest(v[0], n), rest(v[1], n), rest(v[2], n)]
-}
+impl Mesh {
+    fn scaled(self, p: usize) -> [i64; 3]
+        requires { p < size (sides self.g) }
+        ensures { result ≡ items (scaled (sides self.g) (vector_of self.ps.v) (matrix_of self.q.m) p) }
+    {
+        let address = grgrid::grid_address_from_index(p, self.g);
+        let a = grgrid::double_grid_address(address, self.ps);
+        common::matvec_ii(self.q.m, scaled_grid(a.v, self.g))
+    }
 
-fn scaled(p: usize, g: Grid, ps: [i64; 3], q: [[i64; 3]; 3]) -> [i64; 3]
-    requires fact_1 { p < size (sides g) }
-    requires fact_2 { Sized 1 ps }
-    requires fact_3 { T (matrix_within 1000 (matrix_of q)) }
-    requires fact_4 { size (sides g) ≤ 65536 }
-    ensures { result ≡ items (scaled (sides g) (vector_of ps) (matrix_of q) p) }
-{
-    let a = grgrid::double_grid_address(grgrid::grid_address_from_index(p, g), ps);
-    common::matvec_ii(q, scaled_grid(a, g))
-}
-
-// What is left of a point's coordinates beside the nearest whole numbers, times 2N.
-pub fn rests_of(p: usize, g: Grid, ps: [i64; 3], q: [[i64; 3]; 3]) -> [i64; 3]
-    requires fact_1 { p < size (sides g) }
-    requires fact_2 { Sized 1 ps }
-    requires fact_3 { T (matrix_within 1000 (matrix_of q)) }
-    requires fact_4 { size (sides g) ≤ 65536 }
-    ensures { result ≡ items (rests (sides g) (vector_of ps) (matrix_of q) p) }
-{
-    rests(scaled(p, g, ps, q), grgrid::points(g))
+    pub fn rests_of(self, p: usize) -> Rests
+        requires { p < size (sides self.g) }
+        ensures s { result.s.v ≡ items (rests (sides self.g) (vector_of self.ps.v) (matrix_of self.q.m) p) }
+        ensures points { result.points.n ≡ size (sides self.g) }
+    {
+        let points = Count {
+            n: grgrid::points(self.g),
+        };
+        Rests {
+            s: points.rests(self.scaled(p)),
+            points,
+        }
+    }
 }

@@ -7,14 +7,17 @@ mod entry;
 mod marks;
 mod table;
 
-ghost use Rattle.std.specs.Prelude.{◌≡◌, ◌<◌, pos, length, get_or};
+ghost use Rattle.std.specs.Prelude.{T, ◌≡◌, ◌<◌, pos, length, get_or};
 ghost use Rattle.std.specs.Int.Signed.{le_z};
+ghost use Rattle.integer.specs.Checked.{fits64};
 ghost use Rattle.common.specs.Tested.{Accepted};
 ghost use Rattle.mark_candidates.specs.InnerProducts.{ordered};
 ghost use Rattle.mark_candidates.specs.CertainMarks.{MarksSay};
 ghost use Rattle.mark_candidates.specs.MarkCandidates.{ranges_of, grid_fits, within_limits, mark_tests, marks, marked, mark_candidates};
 
+use bzsearch::Basis;
 use common::Refusal;
+use coordinates::Mesh;
 pub use table::Ranges;
 
 fn ordered_at(r: Ranges, k: usize) -> bool
@@ -38,52 +41,65 @@ fn grid_fits(d: [i64; 3], q: [[i64; 3]; 3], ps: [i64; 3]) -> bool
     common::diagonal_fits(d) && common::matrix_within(q, 1000) && common::shift_fits(ps)
 }
 
-fn within_limits(d: [i64; 3], q: [[i64; 3]; 3], ps: [i64; 3], r: Ranges, point: i64) -> bool
-    ensures { result ≡ within_limits d q ps r.lowest r.highest point }
-{
-    if !grid_fits(d, q, ps) {
-        return false;
-    }
-    let n = grgrid::points(grgrid::grid_of(d));
-    let lowest = r.lowest;
-    let highest = r.highest;
-    common::all_within(&lowest, 1000000)
-        && (common::all_within(&highest, 1000000) && common::point_fits(point, n as i64))
-}
-
-fn mark_tests(
+// What a call is given.
+#[derive(Clone, Copy)]
+struct Call {
     d: [i64; 3],
     q: [[i64; 3]; 3],
     ps: [i64; 3],
     r: Ranges,
     point: i64,
-    places: usize,
-) -> Result<(), Refusal>
-    ensures { result ≡ mark_tests d q ps r.lowest r.highest point places }
-{
-    if places != 125 {
-        return Err(Refusal::WrongLength);
-    }
-    if !within_limits(d, q, ps, r, point) {
-        return Err(Refusal::OutsideLimits);
-    }
-    if !is_ordered(r) {
-        return Err(Refusal::InvertedRange);
-    }
-    if !bzsearch::is_unimodular(q) {
-        return Err(Refusal::NotUnimodularQ);
-    }
-    Ok(())
+    // So is any i64, which a proof knows of a parameter only.
+    ghost in_range: { T (fits64 point) },
 }
 
-fn mark_point(d: [i64; 3], q: [[i64; 3]; 3], ps: [i64; 3], r: Ranges, point: i64, out: &mut [i64])
-    requires { mark_tests d q ps r.lowest r.highest point (length out.old) ≡ Accepted }
-    ensures { out.new ≡ marks d q ps r.lowest r.highest point }
-{
-    let g = grgrid::grid_of(d);
-    let s = coordinates::rests_of(point as usize, g, ps, q);
-    let table = table::table(s, grgrid::points(g), r);
-    marks::mark_all(&table, out);
+impl Call {
+    fn within_limits(self) -> bool
+        ensures { result ≡ within_limits self.d self.q self.ps self.r.lowest self.r.highest self.point }
+    {
+        if !grid_fits(self.d, self.q, self.ps) {
+            return false;
+        }
+        let n = grgrid::points(grgrid::grid_of(self.d));
+        let lowest = self.r.lowest;
+        let highest = self.r.highest;
+        common::all_within(&lowest, 1000000)
+            && (common::all_within(&highest, 1000000) && common::point_fits(self.point, n as i64))
+    }
+
+    #[tactic(auto, using(crate::proofs::AcceptedCall::refused, crate::proofs::AcceptedCall::onward), unfolding(crate::specs::MarkCandidates::mark_tests))]
+    fn tests(self, places: usize) -> Result<(), Refusal>
+        ensures { result ≡ mark_tests self.d self.q self.ps self.r.lowest self.r.highest self.point places }
+    {
+        if places != 125 {
+            return Err(Refusal::WrongLength);
+        }
+        if !self.within_limits() {
+            return Err(Refusal::OutsideLimits);
+        }
+        if !is_ordered(self.r) {
+            return Err(Refusal::InvertedRange);
+        }
+        let q = self.q;
+        if !bzsearch::is_unimodular(Basis { m: q }) {
+            return Err(Refusal::NotUnimodularQ);
+        }
+        Ok(())
+    }
+
+    fn mark(self, out: &mut [i64])
+        requires { mark_tests self.d self.q self.ps self.r.lowest self.r.highest self.point (length out.old) ≡ Accepted }
+        ensures { out.new ≡ marks self.d self.q self.ps self.r.lowest self.r.highest self.point }
+    {
+        let q = self.q;
+        let mesh = Mesh {
+            g: grgrid::grid_of(self.d),
+            ps: common::shift(self.ps),
+            q: Basis { m: q },
+        };
+        let table = table::table(mesh.rests_of(self.point as usize), self.r);
+        marks::mark_all(&table, out);
+    }
 }
 
 // For each candidate 1 if it is nearest for certain, 2 if it is beaten for certain, 0 if neither.
@@ -98,14 +114,11 @@ pub fn mark_candidates(
     ensures marks_after { marked result marks.new ≡ mark_candidates d q ps r.lowest r.highest point (length marks.old) }
     ensures marks_say { result ≡ Accepted → MarksSay d q ps r.lowest r.highest point marks.new }
 {
-    match mark_tests(d, q, ps, r, point, marks.len()) {
-        Ok(()) => {
-            mark_point(d, q, ps, r, point, marks);
-            Ok(())
-        }
-        Err(e) => {
-            marks.fill(-1);
-            Err(e)
-        }
+    let call = Call { d, q, ps, r, point };
+    let tested = call.tests(marks.len());
+    match tested {
+        Ok(()) => call.mark(marks),
+        Err(_) => marks.fill(-1),
     }
+    tested
 }

@@ -20,8 +20,7 @@ fn rise(a: i64, b: i64) -> i64
     ensures value { result ≡ max_z (pos 0) (a -ℤ b) }
     ensures small { nat_abs result ≤ 858993459200000000 }
 {
-    let d = a - b;
-    if 0 < d { d } else { 0 }
+    (a - b).max(0)
 }
 
 fn rises(a: Entry, o: Entry) -> i64

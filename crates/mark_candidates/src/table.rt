@@ -1,10 +1,11 @@
 // The table of a point: of each candidate what is compared.
-ghost use Rattle.std.specs.Prelude.{◌≡◌, ◌≤◌, ◌<◌, nat_abs, map};
+ghost use Rattle.std.specs.Prelude.{◌≡◌, ◌≤◌, nat_abs, map};
 ghost use Rattle.common.specs.Array.{vector_of, Sized};
 ghost use Rattle.mark_candidates.specs.ScaledCoordinates.{candidates125};
 ghost use Rattle.mark_candidates.specs.Code.Table.{length_by, compared, entry_view, compared_at, RangesFit};
 
-use crate::candidates::weights_at;
+use crate::candidates::{Weights, weights_at};
+use crate::coordinates::Rests;
 use crate::entry::Entry;
 
 // The lowest and highest of the six inner products 00, 01, 02, 11, 12, 22.
@@ -14,13 +15,13 @@ pub struct Ranges {
     pub highest: [i64; 6],
 }
 
-// The squared length with the weights w.
-fn length_by(w: [i64; 6], g: [i64; 6]) -> i64
-    requires fact_1 { Sized 214748364800 w }
-    requires fact_2 { Sized 1000000 g }
-    ensures value { result ≡ length_by w g }
+// The squared length.
+fn length_by(weights: Weights, g: [i64; 6]) -> i64
+    requires { Sized 1000000 g }
+    ensures value { result ≡ length_by weights.w g }
     ensures small { nat_abs result ≤ 1288490188800000000 }
 {
+    let w = weights.w;
     let mut sum = 0;
     for k in 0..6 {
         sum += w[k] * g[k];
@@ -28,32 +29,30 @@ fn length_by(w: [i64; 6], g: [i64; 6]) -> i64
     sum
 }
 
-fn entry(w: [i64; 6], r: Ranges) -> Entry
-    requires fact_1 { Sized 214748364800 w }
-    requires fact_2 { RangesFit r }
-    ensures { entry_view result ≡ compared w r.lowest r.highest }
+fn entry(weights: Weights, r: Ranges) -> Entry
+    requires { RangesFit r }
+    ensures { entry_view result ≡ compared weights.w r.lowest r.highest }
 {
+    let w = weights.w;
     let mut widths = [0; 6];
     for k in 0..6 {
         widths[k] = w[k] * (r.highest[k] - r.lowest[k]);
     }
     Entry {
-        widths: widths,
-        lowest: length_by(w, r.lowest),
-        highest: length_by(w, r.highest),
+        widths,
+        lowest: length_by(weights, r.lowest),
+        highest: length_by(weights, r.highest),
     }
 }
 
 // The weights of a candidate are worked out once, not for each of the 125 by 125 pairs.
-pub fn table(s: [i64; 3], n: usize, r: Ranges) -> [Entry; 125]
-    requires fact_1 { Sized 65536 s }
-    requires fact_2 { n ≤ 65536 }
-    requires fact_3 { RangesFit r }
-    ensures { map entry_view result ≡ map (compared_at s n r) candidates125 }
+pub fn table(s: Rests, r: Ranges) -> [Entry; 125]
+    requires { RangesFit r }
+    ensures { map entry_view result ≡ map (compared_at s.s.v s.points.n r) candidates125 }
 {
-    let mut t = [entry(weights_at(s, n, 0), r); 125];
+    let mut t = [entry(weights_at(s, 0), r); 125];
     for i in 0..125 {
-        t[i] = entry(weights_at(s, n, i), r);
+        t[i] = entry(weights_at(s, i), r);
     }
     t
 }

@@ -5,13 +5,6 @@ use Rattle.mark_candidates.specs.MarkCandidates.{mark_tests, marks, marked, mark
 use Rattle.mark_candidates.specs.CertainMarks.{MarksSay}
 use Rattle.mark_candidates.proofs.AcceptedCall.{marks-say}
 use Rattle.mark_candidates.proofs.mark_candidates.Goals as goal
-use Rattle.mark_candidates.proofs.mark_candidates.Goals.{After-mark_tests}
-
--- what the tests answered
-tested : (c : After-mark_tests) → let a = c.args in c.mark_tests.result ≡ mark_tests a.d a.q a.ps a.r.lowest a.r.highest a.point (length a.marks.now)
-tested c =
-    let a = c.args in
-    c.mark_tests.ensures ∙ ap (λ p. mark_tests a.d a.q a.ps a.r.lowest a.r.highest p (length a.marks.now)) (to_z-of_z c.ranges.point)
 
 -- and what the call leaves
 abbrev Told : List ℤ → List (List ℤ) → List ℤ → List ℤ → List ℤ → ℤ → ℕ → Tested → List ℤ → Type 0
@@ -31,12 +24,16 @@ leaves d q ps lowest highest point n {t} {l} e w = (same, says)
 pub returns-in-Ok : goal.returns-in-Ok
 returns-in-Ok c =
     let a = c.args in
-    let h = leaves a.d a.q a.ps a.r.lowest a.r.highest a.point (length a.marks.now) (sym c.in-Ok.is ∙ tested (goal.at.returns-in-Ok c).After-mark_tests)
-    (c.mark_point.ensures ∙ ap (marks a.d a.q a.ps a.r.lowest a.r.highest) (to_z-of_z c.ranges.point)) in
+    let e = to_z-of_z c.ranges.point in
+    let t = c.tests-tested.ensures ∙ ap (λ p. mark_tests a.d a.q a.ps a.r.lowest a.r.highest p (length a.marks.now)) e in
+    let w = c.mark.ensures ∙ ap (marks a.d a.q a.ps a.r.lowest a.r.highest) e ∙ sym (ap (λ t. output_of t (length a.marks.now) (marks a.d a.q a.ps a.r.lowest a.r.highest a.point)) c.in-Ok.is) in
+    let h = leaves a.d a.q a.ps a.r.lowest a.r.highest a.point (length a.marks.now) t w in
     record { marks_after = h.0; marks_say = h.1 }
 
 pub returns-in-Err : goal.returns-in-Err
 returns-in-Err c =
     let a = c.args in
-    let h = leaves a.d a.q a.ps a.r.lowest a.r.highest a.point (length a.marks.now) (sym c.in-Err.is ∙ tested (goal.at.returns-in-Err c).After-mark_tests) (c.fill.ensures.after (λ y e. e)) in
+    let t = c.tests-tested.ensures ∙ ap (λ p. mark_tests a.d a.q a.ps a.r.lowest a.r.highest p (length a.marks.now)) (to_z-of_z c.ranges.point) in
+    let w = c.fill.ensures.after (λ y e. e) ∙ sym (ap (λ t. output_of t (length a.marks.now) (marks a.d a.q a.ps a.r.lowest a.r.highest a.point)) c.in-Err.is) in
+    let h = leaves a.d a.q a.ps a.r.lowest a.r.highest a.point (length a.marks.now) t w in
     record { marks_after = h.0; marks_say = h.1 }

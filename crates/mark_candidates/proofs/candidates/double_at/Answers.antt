@@ -10,7 +10,7 @@ use Rattle.common.proofs.Bounds.{p-sized}
 use Rattle.mark_candidates.proofs.candidates.double_at.Goals as goal
 
 pub overflow_mul-result-2 : goal.overflow_mul-result-2
-overflow_mul-result-2 c = let h = c.requires.fact_1 in fits-plain (search (plain, p-sized) depth 12) tt
+overflow_mul-result-2 c = let h = c.args.p.sized in fits-plain (search (plain, p-sized) depth 12) tt
 
 abbrev entry : {k : ℕ} {v : List ℤ} → Sized k v → ℕ → ℤ
 entry {v} h n = get_or v n (pos 0)
@@ -19,5 +19,5 @@ entry {v} h n = get_or v n (pos 0)
 pub returns : goal.returns
 returns c =
     let a = c.args in
-    let h = c.requires.fact_1 in
+    let h = a.p.sized in
     plain-is (search (plain, p-sized) depth 12) tt ∙ ring (entry h a.j ∷ entry h a.k ∷ []) (search reify depth 40) tt

@@ -5,5 +5,5 @@ use Rattle.mark_candidates.proofs.table.entry.Given as goal
 abbrev pub invariant-loop-k : goal.invariant-loop-k
 invariant-loop-k l = record {
   places : length l.widths ≡ 6;
-  each : (i : ℕ) → i < l.k → get_or l.widths i (pos 0) ≡ width_at l.w l.r.lowest l.r.highest i;
+  each : (i : ℕ) → i < l.k → get_or l.widths i (pos 0) ≡ width_at l.fn.weights.w l.r.lowest l.r.highest i;
 }

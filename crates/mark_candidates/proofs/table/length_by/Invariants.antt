@@ -5,6 +5,6 @@ use Rattle.mark_candidates.proofs.table.length_by.Given as goal
 
 abbrev pub invariant-loop-k : goal.invariant-loop-k
 invariant-loop-k l = record {
-  value : l.sum ≡ sum_to (term_at l.w l.g) l.k;
+  value : l.sum ≡ sum_to (term_at l.fn.weights.w l.g) l.k;
   small : nat_abs l.sum ≤ 214748364800000000 * l.k;
 }

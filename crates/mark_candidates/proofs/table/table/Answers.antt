@@ -15,8 +15,8 @@ pub loop-i-preserved : goal.loop-i-preserved
 loop-i-preserved c =
     let a = c.args in
     let l = c.loop-i in
-    let f = λ (k : ℕ). compared_at a.s a.n a.r (candidate_at k) in
-    let e = c.entry.ensures ∙ ap (λ w. compared w a.r.lowest a.r.highest) c.weights_at-in-loop-i.ensures.value in
+    let f = λ (k : ℕ). compared_at a.s.s.v a.s.points.n a.r (candidate_at k) in
+    let e = c.entry.ensures ∙ ap (λ w. compared w a.r.lowest a.r.highest) c.weights_at-in-loop-i.ensures in
     let within = length-map l.t entry_view ∙ l.invariant.places in
     record {
       places = (simp length-set) ∙ l.invariant.places;
@@ -27,7 +27,7 @@ pub returns : goal.returns
 returns c =
     let a = c.args in
     let l = c.loop-i in
-    let g = compared_at a.s a.n a.r in
+    let g = compared_at a.s.s.v a.s.points.n a.r in
     let f = λ (k : ℕ). g (candidate_at k) in
     fill_by_all f (map entry_view l.t) 125 nothing (length-map l.t entry_view ∙ l.invariant.places) (λ k h. l.invariant.each k (omega arith))
     ∙ sym (map-on candidate_at g f (λ k. refl) (range_with_len 0 125)) ∙ ap (map g) candidates-listed

@@ -130,7 +130,7 @@ pub fn finished_list(
         &mut *lengths,
     );
     if f.is_err() {
-        zone_steps::wipe_tables(addresses, map, grg);
+        bzgrid::wipe(addresses, map, grg);
         zone_steps::wipe_lists(classes, points, triplets, left, lengths);
     }
     f

@@ -9,22 +9,19 @@ use lib.Ieee.{Float}
 use lib.ListN.{length, take, drop}
 use lib.Seq.{length-take-le, take_at}
 use Rattle.std.specs.Prelude.{Result, Ok, Err}
-use Rattle.bzgrid.specs.declared.Lengths.{Lengths}
 use Rattle.common.specs.Array.{matrices}
 use Rattle.common.specs.declared.Refusal.{Refusal}
 use Rattle.common.proofs.Reading.{length-flat}
-use Rattle.common.specs.Tested.{after, Tested, Accepted, without_value}
+use Rattle.common.specs.Tested.{after, Tested, without_value}
 use Rattle.grgrid.specs.Own.{own_places}
 use Rattle.recip_rotations.specs.PointGroup.{count_of, point_group, point_group_answer}
 use Rattle.recip_rotations.proofs.Room.{count_small}
 use Rattle.rotation_group.specs.ReciprocalGroup.{reciprocal_answer, reciprocal_written}
 use Rattle.rotation_group.proofs.Outcome.{tests-accepted, tests-refused, same_answer, same-written}
-use Rattle.transform_rotations.specs.TransformRotations as transform
 use Rattle.transform_rotations.specs.TransformRotations.{transform_tests, transform_answer, transform_written}
-use Rattle.bzgrid.specs.BzGridAddresses.{grid_type_of, bz_answer, addresses_written, map_written, grg_written}
 use Rattle.triplet_grid.specs.IrTriplets as class
 use Rattle.triplet_grid.specs.IrTriplets.{triplet_tests, ir_triplets_answer, map_triplets_written, map_qwritten}
-use Rattle.bz_triplets.specs.BzTriplets.{bz_triplet_tests, bz_triplets_answer, triplets_written, left_written, left_length_written}
+use Rattle.bz_triplets.specs.BzTriplets.{bz_triplets_answer, triplets_written, left_written, left_length_written}
 use Rattle.zone_steps.specs.Steps.{group, transformed, rotation_tests}
 use Rattle.zone_steps.specs.StepsView.{Chosen}
 use Rattle.recip_rotations.proofs.ToldPart.{told-count, told_part}
@@ -89,16 +86,6 @@ module _ (list : List ℤ) (time : Bool) where
     unfolding rotation_tests
     turned-refused e f = sym (ap (λ t. after t (transform_tests (group list time) d q (length (group list time)))) (tests-refused list time 432 (sym f ∙ e)))
 
--- ---- images; a signed number is handed on as its bits, which stand for it
-module _ (d : List ℤ) (q : List (List ℤ)) (ps : List ℤ) (lattice : List (List Float)) (t : ℤ) (a b c : ℕ) where
-  pub images-built : {u : ℤ} {r : Result Lengths Refusal} {x y z : List ℤ} {v : Tested} → u ≡ t → r ≡ bz_answer d q ps lattice u a b c → x ≡ addresses_written d q ps lattice u a b c → y ≡ map_written d q ps lattice u a b c → z ≡ grg_written d q ps lattice u a b c
-      → v ≡ without_value r
-      → (v ≡ without_value (bz_answer d q ps lattice t a b c)) × ((x ≡ addresses_written d q ps lattice t a b c) × ((y ≡ map_written d q ps lattice t a b c) × (z ≡ grg_written d q ps lattice t a b c)))
-  images-built e er ex ey ez ev = (
-    ev ∙ ap without_value (er ∙ ap (λ u. bz_answer d q ps lattice u a b c) e),
-    (ex ∙ ap (λ u. addresses_written d q ps lattice u a b c) e, (ey ∙ ap (λ u. map_written d q ps lattice u a b c) e, ez ∙ ap (λ u. grg_written d q ps lattice u a b c) e)),
-  )
-
 -- ---- classes, in the front of two outputs
 module _ (q0 : ℤ) (d rotations : List ℤ) (time swappable : Bool) (n : ℕ) (classes points : List ℤ) (hc : n ≤ length classes) (hp : n ≤ length points) where
   class-tested : without_value (ir_triplets_answer q0 d rotations time swappable n n) ≡ triplet_tests q0 d rotations time n n
@@ -124,14 +111,6 @@ module _ (q0 : ℤ) (d rotations : List ℤ) (time swappable : Bool) (n : ℕ) (
 
 -- ---- triplets, in the front of three outputs
 module _ (start : ℤ) (addresses map classes d : List ℤ) (q : List (List ℤ)) (lattice : List (List Float)) (type : ℤ) (triplets left : List ℤ) (lengths : List Float) (k : ℕ) where
-  triplet-tested : without_value (bz_triplets_answer start addresses map classes d q lattice type (k * 3) k k) ≡ bz_triplet_tests start addresses map classes d q lattice (grid_type_of type) (k * 3) k k
-  unfolding bz_triplets_answer
-  triplet-tested = again (bz_triplet_tests start addresses map classes d q lattice (grid_type_of type) (k * 3) k k)
-    where
-      again : (t : Tested) → without_value t ≡ t
-      again (Ok _) = refl
-      again (Err r) = refl
-
   abbrev a : ℕ
   a = length (take (k * 3 - 0) triplets)
 
@@ -142,22 +121,21 @@ module _ (start : ℤ) (addresses map classes d : List ℤ) (q : List (List ℤ)
   c = length (take (k - 0) lengths)
 
   pub triplets-chosen : k ≡ own_places classes (length classes) → k ≤ length classes
-      → (length classes * 3 ≤ length triplets) × (length classes ≤ length left) × (length classes ≤ length lengths) → {i u : ℤ} {r : Tested} {x y : List ℤ} {z : List Float} {v : Tested}
+      → (length classes * 3 ≤ length triplets) × (length classes ≤ length left) × (length classes ≤ length lengths) → {i u : ℤ} {r : Tested} {x y : List ℤ} {z : List Float}
       → i ≡ start → u ≡ type
       → r ≡ bz_triplets_answer i addresses map classes d q lattice u a b c
       → x ≡ triplets_written i addresses map classes d q lattice u a b c
       → y ≡ left_written i addresses map classes d q lattice u a b c
       → z ≡ left_length_written i addresses map classes d q lattice u a b c
-      → v ≡ without_value r
-      → Chosen start addresses map classes d q lattice type v triplets left lengths (x ++ drop (k * 3 - 0) triplets) (y ++ drop (k - 0) left) (z ++ drop (k - 0) lengths)
-  triplets-chosen own few room ei eu er ex ey ez ev =
+      → Chosen start addresses map classes d q lattice type r triplets left lengths (x ++ drop (k * 3 - 0) triplets) (y ++ drop (k - 0) left) (z ++ drop (k - 0) lengths)
+  triplets-chosen own few room ei eu er ex ey ez =
       let ea = front_length (k * 3) triplets (omega arith) in
       let eb = front_length k left (omega arith) in
       let ec = front_length k lengths (omega arith) in
       record {
         k = k;
         own = own;
-        tested = ev ∙ ap without_value (er ∙ (λ j. bz_triplets_answer (ei j) addresses map classes d q lattice (eu j) (ea j) (eb j) (ec j))) ∙ triplet-tested;
+        tested = er ∙ (λ j. bz_triplets_answer (ei j) addresses map classes d q lattice (eu j) (ea j) (eb j) (ec j));
         written = ap₂ ◌++◌ (ex ∙ (λ j. triplets_written (ei j) addresses map classes d q lattice (eu j) (ea j) (eb j) (ec j))) (front-drop (k * 3) triplets);
         marked = ap₂ ◌++◌ (ey ∙ (λ j. left_written (ei j) addresses map classes d q lattice (eu j) (ea j) (eb j) (ec j))) (front-drop k left);
         measured = ap₂ ◌++◌ (ez ∙ (λ j. left_length_written (ei j) addresses map classes d q lattice (eu j) (ea j) (eb j) (ec j))) (front-drop k lengths);

@@ -15,12 +15,12 @@ use Rattle.common.specs.declared.Refusal.{Refusal}
 use Rattle.common.specs.Tested.{after, Tested, Accepted}
 use Rattle.common.proofs.Tests.{not-accepted}
 use Rattle.grgrid.proofs.Numbers.{own-few}
-use Rattle.bzgrid.specs.BzGridAddresses.{grid_type_of, padded}
+use Rattle.bzgrid.specs.BzGridAddresses.{padded}
 use Rattle.bzgrid.proofs.Runs.{drop-same}
 use Rattle.recip_rotations.specs.PointGroup.{room_tests}
 use Rattle.triplet_grid.specs.IrTriplets.{input_tests, triplet_tests, map_triplets_written, map_qwritten}
 use Rattle.triplet_grid.proofs.Outcome as class
-use Rattle.bz_triplets.specs.BzTriplets.{bz_triplet_tests, triplets_written, left_written, left_length_written}
+use Rattle.bz_triplets.specs.BzTriplets.{bz_triplets_answer, triplets_written, left_written, left_length_written}
 use Rattle.zone_steps.specs.Steps.{Grid, points_of, class_map_of, point_map, class_tests, start, choice_tests, triplets, left, lengths, list_tests, lists_of}
 use Rattle.zone_steps.specs.StepsView.{lists, Roomy, Chosen}
 use Rattle.zone_steps.proofs.CallSteps.{front_length}
@@ -49,7 +49,7 @@ module _ (g : Grid) (addresses map : List ℤ) where
     pub list-tested : {s : Tested} → s ≡ class_tests g → s ≡ Accepted → v ≡ list_tests g addresses map
     unfolding list_tests choice_tests
     list-tested e a =
-        c.tested ∙ ap (λ k. bz_triplet_tests (start g addresses map) addresses map (class_map_of g) g.d g.q g.lattice (grid_type_of g.type) (k * 3) k k) c.own
+        c.tested ∙ ap (λ k. bz_triplets_answer (start g addresses map) addresses map (class_map_of g) g.d g.q g.lattice g.type (k * 3) k k) c.own
         ∙ sym (ap (λ t. after t (choice_tests g addresses map)) (sym e ∙ a))
 
     module _ (m : ℕ) (fits : points_of g ≤ m) {x y x' y' : List ℤ} (bx : x ≡ replicate m (negsuc 0)) (by : y ≡ replicate m (negsuc 0)) (bt : t ≡ replicate (m * 3) (negsuc 0)) (bl : l ≡ replicate m (negsuc 0)) (bf : f ≡ replicate m (of_int binary64 (negsuc 0)))

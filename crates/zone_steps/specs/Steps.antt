@@ -3,10 +3,9 @@
 use Rattle.std.specs.Prelude.{Bool, true, List, ◌++◌, ℕ, ◌*◌, ◌-◌, leb, ℤ, pos, negsuc, nat_abs, length, get_or, replicate, Float, Result, Ok, Err}
 use Rattle.std.specs.Float.{binary64}
 use Rattle.std.specs.Float.Ieee.{of_int}
-use Rattle.bzgrid.specs.declared.Lengths.{Lengths}
 use Rattle.common.specs.declared.Refusal.{Refusal}
 use Rattle.common.specs.Array.{sides_of, matrices, flat}
-use Rattle.common.specs.Tested.{require, after, Tested, Accepted, without_value}
+use Rattle.common.specs.Tested.{require, after, Tested, without_value}
 use Rattle.common.specs.declared.Refusal.TheVariants.{WrongLength}
 use Rattle.grgrid.specs.Grid.{size}
 use Rattle.grgrid.specs.Own.{own_places}
@@ -14,10 +13,10 @@ use Rattle.recip_rotations.specs.PointGroup.{point_group}
 use Rattle.rotation_group.specs.ReciprocalGroup.{reciprocal_tests}
 use Rattle.transform_rotations.specs.TransformRotations.{transform_tests, transform_written}
 use Rattle.bzgrid.specs.declared.GridType.{GridType}
-use Rattle.bzgrid.specs.declared.GridType.TheVariants.{Sparse, Dense, Unknown}
+use Rattle.bzgrid.specs.declared.GridType.TheVariants.{Sparse, Dense}
 use Rattle.bzgrid.specs.BzGridAddresses.{grid_type_of, padded, bz_answer, addresses_written, map_written, grg_written}
 use Rattle.triplet_grid.specs.IrTriplets.{triplet_tests, map_triplets_written, map_qwritten}
-use Rattle.bz_triplets.specs.BzTriplets.{bz_triplet_tests, triplets_written, left_written, left_length_written}
+use Rattle.bz_triplets.specs.BzTriplets.{bz_triplets_answer, triplets_written, left_written, left_length_written}
 
 -- how many places are lent: for the image tables, and for each point one in `classes`, `points`, `left` and `lengths`, three in `triplets`
 pub record Rooms : Type 0 where
@@ -65,10 +64,10 @@ pub record Lists : Type 0 where
   pub lengths : List Float
 
 -- type 2 starts from the first image of q0
-abbrev pub start_of : GridType → List ℤ → ℤ → ℤ
-start_of Sparse map q0 = q0
-start_of Dense map q0 = get_or map (nat_abs q0) (pos 0)
-start_of Unknown map q0 = q0
+abbrev pub start_of : Result GridType Refusal → List ℤ → ℤ → ℤ
+start_of (Ok Sparse) map q0 = q0
+start_of (Ok Dense) map q0 = get_or map (nat_abs q0) (pos 0)
+start_of (Err r) map q0 = q0
 
 -- -1 in the places past the list
 abbrev pub padded_lengths : List Float → ℕ → List Float
@@ -102,8 +101,8 @@ module _ (g : Grid) where
     start = start_of (grid_type_of g.type) map g.q0
 
     unfoldable pub choice_tests : Tested
-    unfolding class_map_of bz_triplet_tests
-    choice_tests = bz_triplet_tests start addresses map class_map_of g.d g.q g.lattice (grid_type_of g.type) (count * 3) count count
+    unfolding class_map_of bz_triplets_answer
+    choice_tests = bz_triplets_answer start addresses map class_map_of g.d g.q g.lattice g.type (count * 3) count count
 
     unfoldable pub triplets : List ℤ
     unfolding class_map_of triplets_written

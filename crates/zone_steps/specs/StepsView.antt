@@ -1,10 +1,9 @@
 -- What the steps of the chain answer and leave, as their contracts say it.
 use Rattle.std.specs.Prelude.{◌≡◌, Bool, List, ◌++◌, ℕ, ◌*◌, ◌≤◌, ℤ, Float, length, take, drop, Result, Ok, Err}
 use Rattle.common.specs.declared.Refusal.{Refusal}
-use Rattle.common.specs.Tested.{Tested, Accepted, without_value}
+use Rattle.common.specs.Tested.{Tested}
 use Rattle.grgrid.specs.Own.{own_places}
-use Rattle.bzgrid.specs.BzGridAddresses.{grid_type_of}
-use Rattle.bz_triplets.specs.BzTriplets.{bz_triplet_tests, triplets_written, left_written, left_length_written}
+use Rattle.bz_triplets.specs.BzTriplets.{bz_triplets_answer, triplets_written, left_written, left_length_written}
 use Rattle.zone_steps.specs.Steps.{Rooms, Grid, Lists, image_addresses, image_map, image_grg, grid_lists}
 
 -- ---- records from the parts that the code holds
@@ -63,7 +62,7 @@ pub record Listed (g : Grid) (shift : List ℤ) (r : Rooms) (addresses map grg :
 pub record Chosen (start : ℤ) (addresses map classes d : List ℤ) (q : List (List ℤ)) (lattice : List (List Float)) (type : ℤ) (answer : Tested) (triplets left : List ℤ) (lengths : List Float) (triplets' left' : List ℤ) (lengths' : List Float) : Type 0 where
   pub k : ℕ
   pub own : k ≡ own_places classes (length classes)
-  pub tested : answer ≡ bz_triplet_tests start addresses map classes d q lattice (grid_type_of type) (k * 3) k k
+  pub tested : answer ≡ bz_triplets_answer start addresses map classes d q lattice type (k * 3) k k
   pub written : triplets' ≡ triplets_written start addresses map classes d q lattice type (k * 3) k k ++ drop (k * 3) triplets
   pub marked : left' ≡ left_written start addresses map classes d q lattice type (k * 3) k k ++ drop k left
   pub measured : lengths' ≡ left_length_written start addresses map classes d q lattice type (k * 3) k k ++ drop k lengths

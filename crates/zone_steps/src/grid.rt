@@ -1,37 +1,18 @@
 // Images, classes and triplets of a grid whose rotations are in its basis.
-ghost use Rattle.std.specs.Prelude.{◌≡◌, ◌++◌, ◌*◌, ◌≤◌, T, pos, negsuc, length, get_or, drop, replicate};
+ghost use Rattle.std.specs.Prelude.{◌≡◌, ◌++◌, ◌*◌, ◌≤◌, T, negsuc, length, drop, replicate};
 ghost use Rattle.std.specs.Float.{binary64};
 ghost use Rattle.std.specs.Float.Ieee.{of_int};
 ghost use Rattle.std.specs.Int.Signed.{non_neg};
-ghost use Rattle.common.specs.Tested.{Accepted, without_value};
+ghost use Rattle.common.specs.Tested.{Accepted};
 ghost use Rattle.common.specs.Array.{sides_of};
 ghost use Rattle.grgrid.specs.Grid.{size};
-ghost use Rattle.bzgrid.specs.BzGridAddresses.{bz_answer, addresses_written, map_written, grg_written};
+ghost use Rattle.bzgrid.specs.BzGridAddresses.{grid_type_of};
 ghost use Rattle.triplet_grid.specs.IrTriplets.{triplet_tests, map_triplets_written, map_qwritten};
 ghost use Rattle.zone_steps.specs.Steps.{start_of, list_tests, lists_of};
 ghost use Rattle.zone_steps.specs.StepsView.{grid, lists, Roomy, Chosen};
 
 use bzgrid::GridType;
 use common::Refusal;
-
-pub fn build_images(
-    d: [i64; 3],
-    q: [[i64; 3]; 3],
-    ps: [i64; 3],
-    lattice: [[f64; 3]; 3],
-    bz_grid_type: i64,
-    addresses: &mut [i64],
-    map: &mut [i64],
-    grg: &mut [i64],
-) -> Result<(), Refusal>
-    ensures value { result ≡ without_value (bz_answer d q ps lattice bz_grid_type (length addresses.old) (length map.old) (length grg.old)) }
-    ensures addresses_after { addresses.new ≡ addresses_written d q ps lattice bz_grid_type (length addresses.old) (length map.old) (length grg.old) }
-    ensures map_after { map.new ≡ map_written d q ps lattice bz_grid_type (length addresses.old) (length map.old) (length grg.old) }
-    ensures grg_after { grg.new ≡ grg_written d q ps lattice bz_grid_type (length addresses.old) (length map.old) (length grg.old) }
-{
-    bzgrid::bz_grid_addresses(d, q, ps, lattice, bz_grid_type, addresses, map, grg)?;
-    Ok(())
-}
 
 // In the first n places of the two maps.
 fn number_classes(
@@ -62,21 +43,14 @@ fn number_classes(
 }
 
 // Type 2 starts from the first image of q0.
-fn start_of(t: GridType, map: &[i64], q0: i64) -> i64
+fn start_of(bz_grid_type: i64, map: &[i64], q0: i64) -> i64
     requires { T (non_neg q0) }
-    ensures { result ≡ start_of t map.now q0 }
+    ensures { result ≡ start_of (grid_type_of bz_grid_type) map.now q0 }
 {
-    match t {
-        GridType::Sparse => q0,
-        GridType::Dense => number_at(map, q0 as usize),
-        GridType::Unknown => q0,
+    match GridType::try_from(bz_grid_type) {
+        Ok(GridType::Dense) => map.get(q0 as usize).copied().unwrap_or(0),
+        _ => q0,
     }
-}
-
-fn number_at(map: &[i64], i: usize) -> i64
-    ensures { result ≡ get_or map.now i (pos 0) }
-{
-    if i < map.len() { map[i] } else { 0 }
 }
 
 // In the front of the outputs, for the classes of a whole class map.
@@ -174,7 +148,7 @@ pub fn list_classes(
         &mut *classes,
         &mut *points,
     )?;
-    let start = start_of(bzgrid::grid_type(bz_grid_type), map, q0);
+    let start = start_of(bz_grid_type, map, q0);
     choose_triplets(
         start,
         addresses,

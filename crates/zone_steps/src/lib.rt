@@ -6,4 +6,4 @@ mod grid;
 mod tables;
 
 pub use grid::wipe_lists;
-pub use tables::{list_in_basis, wipe_tables};
+pub use tables::list_in_basis;

@@ -1,5 +1,5 @@
 // The grid of a diagonal matrix: its rotations, images, classes and triplets.
-ghost use Rattle.std.specs.Prelude.{◌≡◌, T, negsuc, length, replicate};
+ghost use Rattle.std.specs.Prelude.{◌≡◌, T, length};
 ghost use Rattle.common.specs.Limits.{diagonal_fits};
 ghost use Rattle.common.specs.Tested.{after, Accepted};
 ghost use Rattle.zone_steps.specs.Steps.{transformed, rotation_tests, grid_tests};
@@ -7,17 +7,6 @@ ghost use Rattle.zone_steps.specs.StepsView.{grid, rooms, lists, Agreed, Listed}
 
 use crate::{basis, grid};
 use common::Refusal;
-
-// -1 in every place.
-pub fn wipe_tables(addresses: &mut [i64], map: &mut [i64], grg: &mut [i64])
-    ensures addresses_after { addresses.new ≡ replicate (length addresses.old) (negsuc 0) }
-    ensures map_after { map.new ≡ replicate (length map.old) (negsuc 0) }
-    ensures grg_after { grg.new ≡ replicate (length grg.old) (negsuc 0) }
-{
-    addresses.fill(-1);
-    map.fill(-1);
-    grg.fill(-1);
-}
 
 // Images, classes and triplets, of rotations in the basis of the grid. A refusal may leave anything in the outputs.
 fn list_grid(
@@ -48,7 +37,7 @@ fn list_grid(
     if classes.len() < n {
         return Err(Refusal::WrongLength);
     }
-    grid::build_images(
+    bzgrid::bz_grid_addresses(
         d,
         q,
         ps,

@@ -1,13 +1,6 @@
-use mathlib.Core.Path.{◌≡◌, refl}
 use mir.Facts.{to_z-of_z}
-use Rattle.std.specs.Prelude.{Ok, Err}
-use Rattle.common.specs.Tested.{Tested, without_value}
 use Rattle.zone_steps.proofs.CallSteps.{triplets-chosen}
 use Rattle.zone_steps.proofs.grid.choose_triplets.Goals as goal
-
-itself : (t : Tested) → t ≡ without_value t
-itself (Ok _) = refl
-itself (Err r) = refl
 
 pub returns : goal.returns
 returns c =
@@ -15,4 +8,4 @@ returns c =
     let o = c.own_places-k in
     let r = c.bz_triplets_at_q.ensures in
     triplets-chosen s.start s.addresses.now s.map.now s.classes.now s.d s.q s.lattice s.bz_grid_type s.triplets.now s.left.now s.lengths.now o.result
-    o.ensures.value o.ensures.upper_bound c.requires (to_z-of_z c.ranges.start) (to_z-of_z c.ranges.bz_grid_type) r.value r.out_after r.left_after r.left_length_after (itself c.bz_triplets_at_q.result)
+    o.ensures.value o.ensures.upper_bound c.requires (to_z-of_z c.ranges.start) (to_z-of_z c.ranges.bz_grid_type) r.value r.out_after r.left_after r.left_length_after

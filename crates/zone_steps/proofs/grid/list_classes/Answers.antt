@@ -9,7 +9,7 @@ use borrow.Author.Rules.{rules}
 use Rattle.std.specs.Prelude.{Err}
 use Rattle.integer.proofs.Fits.{held}
 use Rattle.bzgrid.specs.BzGridAddresses.{grid_type_of}
-use Rattle.zone_steps.specs.Steps.{Grid, start_of, points_of}
+use Rattle.zone_steps.specs.Steps.{start_of, points_of}
 use Rattle.zone_steps.specs.StepsView.{grid}
 use Rattle.zone_steps.proofs.ListedClasses.{list-refused, list-tested, lists-left, passed-classes, class-tests, class-map, point-map, classes-front, chosen-for}
 use Rattle.zone_steps.proofs.grid.list_classes.Goals as goal
@@ -37,7 +37,7 @@ returns-clause-value c =
     let fits : points_of g ≤ m = subst (λ k. k ≤ m) c.requires.fact_1 c.requires.fact_2.fits in
     let wx = class-map g ei c.requires.fact_1 c.wipe_lists.new.classes n.classes_after in
     let kx : length c.number_classes.new.classes ≡ m = search rules in
-    let st = to_z-of_z {w = w64} (record { sfits = c.start_of-start.type_inv }) ∙ c.start_of-start.ensures ∙ ap₂ (λ t q. start_of t s.map.now q) (c.grid_type.ensures ∙ ap grid_type_of eu) ei in
+    let st = to_z-of_z {w = w64} (record { sfits = c.start_of-start.type_inv }) ∙ c.start_of-start.ensures ∙ ap₂ (λ t q. start_of (grid_type_of t) s.map.now q) eu ei in
     let ch = chosen-for g s.addresses.now s.map.now st (classes-front g ei c.requires.fact_1 m fits c.wipe_lists.ensures.classes_after wx kx) eu c.choose_triplets.ensures in
     list-tested g s.addresses.now s.map.now ch (class-tests g ei c.requires.fact_1 n.value) c.in_ok-number_classes.was
 
@@ -54,7 +54,7 @@ returns-clause-lengths_after c k =
     let agreed = c.requires.fact_2.agreed in
     let wx = class-map g ei c.requires.fact_1 c.wipe_lists.new.classes n.classes_after in
     let kx : length c.number_classes.new.classes ≡ m = search rules in
-    let st = to_z-of_z {w = w64} (record { sfits = c.start_of-start.type_inv }) ∙ c.start_of-start.ensures ∙ ap₂ (λ t q. start_of t s.map.now q) (c.grid_type.ensures ∙ ap grid_type_of eu) ei in
+    let st = to_z-of_z {w = w64} (record { sfits = c.start_of-start.type_inv }) ∙ c.start_of-start.ensures ∙ ap₂ (λ t q. start_of (grid_type_of t) s.map.now q) eu ei in
     let ch = chosen-for g s.addresses.now s.map.now st (classes-front g ei c.requires.fact_1 m fits w.classes_after wx kx) eu c.choose_triplets.ensures in
     lists-left g s.addresses.now s.map.now ch m fits
     w.classes_after

@@ -5,6 +5,7 @@ use lib.ListN.{length}
 use mir.Facts.{to_z-of_z}
 use borrow.Author.Rules.{rules}
 use Rattle.std.specs.Prelude.{Err}
+use Rattle.common.specs.Tested.{without_value}
 use Rattle.grgrid.specs.Grid.{size}
 use Rattle.zone_steps.specs.Steps.{points_of, list_tests, lists_of}
 use Rattle.zone_steps.specs.StepsView.{grid, rooms}
@@ -18,20 +19,20 @@ returns-then-classes-n-clause-value c =
     (rooms (length s.addresses.now) (length s.map.now) (length s.grg.now) (length s.classes.now) (length s.points.now) (length s.triplets.now) (length s.left.now) (length s.lengths.now))
     (c.points-n.ensures ∙ ap size c.grid_of.ensures) c.if-classes-n.true
 
-pub returns-in_err-build_images-clause-value : goal.returns-in_err-build_images-clause-value
-returns-in_err-build_images-clause-value c =
+pub returns-in_err-bz_grid_addresses-clause-value : goal.returns-in_err-bz_grid_addresses-clause-value
+returns-in_err-bz_grid_addresses-clause-value c =
     let s = c.args in
-    let e : c.from_residual.result ≡ Err c.in_err-build_images.field-0.0 = search rules in
+    let e : c.from_residual.result ≡ Err c.in_err-bz_grid_addresses.field-0.0 = search rules in
     let z = c.if-classes-n.false in
     e
     ∙ images-refused (grid s.d s.q s.rotations.now s.lattice s.is_time_reversal s.swappable s.bz_grid_type s.q0) s.ps
     (rooms (length s.addresses.now) (length s.map.now) (length s.grg.now) (length s.classes.now) (length s.points.now) (length s.triplets.now) (length s.left.now) (length s.lengths.now))
-    (c.points-n.ensures ∙ ap size c.grid_of.ensures) (omega arith) (to_z-of_z c.ranges.bz_grid_type) c.build_images.ensures.value c.in_err-build_images.was
+    (c.points-n.ensures ∙ ap size c.grid_of.ensures) (omega arith) (to_z-of_z c.ranges.bz_grid_type) (ap without_value c.bz_grid_addresses.ensures.value) (ap without_value c.in_err-bz_grid_addresses.was)
 
 pub returns-clause-value : goal.returns-clause-value
 returns-clause-value c =
     let s = c.args in
-    let b = c.build_images in
+    let b = c.bz_grid_addresses in
     let g = grid s.d s.q s.rotations.now s.lattice s.is_time_reversal s.swappable in
     let eu = to_z-of_z c.ranges.bz_grid_type in
     let ei = to_z-of_z c.ranges.q0 in
@@ -40,13 +41,13 @@ returns-clause-value c =
     let fits : c.points-n.result ≤ length s.classes.now = omega arith in
     grid-tested (g s.bz_grid_type s.q0) s.ps
     (rooms (length s.addresses.now) (length s.map.now) (length s.grg.now) (length s.classes.now) (length s.points.now) (length s.triplets.now) (length s.left.now) (length s.lengths.now))
-    n fits eu b.ensures.value c.in_ok-build_images.was b.ensures.addresses_after b.ensures.map_after b.ensures.grg_after
+    n fits eu (ap without_value b.ensures.value) (ap without_value c.in_ok-bz_grid_addresses.was) b.ensures.addresses_after b.ensures.map_after b.ensures.grg_after
     (c.list_classes.ensures.value ∙ (λ i. list_tests (g (eu i) (ei i)) b.new.addresses b.new.map))
 
 pub returns-clause-listed : goal.returns-clause-listed
 returns-clause-listed c k =
     let s = c.args in
-    let b = c.build_images in
+    let b = c.bz_grid_addresses in
     let g = grid s.d s.q s.rotations.now s.lattice s.is_time_reversal s.swappable in
     let eu = to_z-of_z c.ranges.bz_grid_type in
     let ei = to_z-of_z c.ranges.q0 in
@@ -55,5 +56,5 @@ returns-clause-listed c k =
     let fits : c.points-n.result ≤ length s.classes.now = omega arith in
     grid-listed (g s.bz_grid_type s.q0) s.ps
     (rooms (length s.addresses.now) (length s.map.now) (length s.grg.now) (length s.classes.now) (length s.points.now) (length s.triplets.now) (length s.left.now) (length s.lengths.now))
-    n fits eu b.ensures.value c.in_ok-build_images.was b.ensures.addresses_after b.ensures.map_after b.ensures.grg_after
+    n fits eu (ap without_value b.ensures.value) (ap without_value c.in_ok-bz_grid_addresses.was) b.ensures.addresses_after b.ensures.map_after b.ensures.grg_after
     (c.list_classes.ensures.lengths_after k ∙ (λ i. lists_of (g (eu i) (ei i)) b.new.addresses b.new.map (length s.classes.now)))

@@ -10,7 +10,7 @@ use lib.Signed.{non_neg}
 use Rattle.std.specs.Prelude.{Result, Ok, Err}
 use Rattle.common.specs.declared.Refusal.{Refusal}
 use Rattle.common.specs.Matrix.{Vec, Mat}
-use Rattle.common.specs.Array.{matrix_of, matrix_at, matrices, items, rows}
+use Rattle.common.specs.Array.{matrix_of, matrices, items, rows}
 use Rattle.common.specs.declared.Refusal.TheVariants.{WrongLength}
 use Rattle.common.proofs.Tests.{passed, not-accepted, both-accepted}
 use Rattle.common.specs.Tested.{after, giving, Tested, Accepted, without_value}

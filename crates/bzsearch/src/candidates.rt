@@ -107,6 +107,7 @@ fn is_near(r: Range) -> bool
     is_within(r, BzSearch::SEARCH_FIRST)
 }
 
+// A clause asks that the range fits: the type for it is Boxes, which `boxes_of` makes of the range.
 fn first_box(r: Range) -> Axes
     requires { T (range_fits (range_view r)) }
     ensures { axes_view result ≡ first_box (range_view r) }
@@ -137,7 +138,7 @@ pub fn boxes_of(r: Range) -> Boxes
     let rest = if is_near(r) { None } else { Some(whole_box(r)) };
     Boxes {
         first: first_box(r),
-        rest: rest,
+        rest,
     }
 }
 
@@ -215,7 +216,12 @@ impl BzSearch {
     pub fn bound(self, s0: [f64; 3], b: Boxes) -> f64
         ensures { result ≡ bound (search_of self) (float_vector s0) (candidates_of b) }
     {
-        let first = self.least_box(s0, b.first, false, self.distance(s0, Candidate { v: [0, 0, 0] }));
+        let first = self.least_box(
+            s0,
+            b.first,
+            false,
+            self.distance(s0, Candidate { v: [0, 0, 0] }),
+        );
         let least = match b.rest {
             None => first,
             Some(whole) => self.least_box(s0, whole, true, first),

@@ -19,6 +19,7 @@ use common::{Refusal, Shift};
 pub use grid::{Address, Doubled, Grid, Rotation, Rotations};
 pub use point::GridPoint;
 
+// A clause asks for the limits: the type for them is Grid, which this makes of the numbers.
 pub fn grid_of(d: [i64; 3]) -> Grid
     requires { T (diagonal_fits d) }
     ensures { sides result ≡ sides_of d }
@@ -271,6 +272,7 @@ fn next(r: Remainders, g: Grid) -> Remainders
     }
 }
 
+// By index: of places that an iterator lends, a proof knows no element afterwards.
 fn write_addresses(g: Grid, out: &mut [i64])
     requires { length out.old ≡ size (sides g) * 3 }
     ensures { out.new ≡ addresses (sides g) (size (sides g)) }

@@ -17,6 +17,7 @@ fn row_step(l: [[i64; 3]; 3], m: [[i64; 3]; 3]) -> Option<[[i64; 3]; 3]>
 }
 
 // Row j becomes 0 in column i by the pivot in row i.
+// Rows and columns are numbers, as the Rust has them, and below 3 by a clause: an enum of three would be a number again at each use.
 #[tactic(auto, unfolding(crate::specs::Hermite3x3::clear))]
 fn clear(i: usize, j: usize, m: [[i64; 3]; 3]) -> Option<[[i64; 3]; 3]>
     requires { (i < 3) × (j < 3) }

@@ -51,6 +51,7 @@ pub fn combined(a: i64, b: i64) -> Option<Combination>
 }
 
 // Only where the sizes leave it open are the products tested. Taken apart and built again, a pair is copied without a call.
+// Rows and columns are numbers, as the Rust has them, and below 3 by a clause: an enum of three would be a number again at each use.
 fn combine(i: usize, j: usize, c: Combination, s: Pair) -> Option<Pair>
     requires { (i < 3) × (j < 3) }
     ensures { pair_of result ≡ columns.multiply (columns.combination_matrix i j c) (matrices_of s) }

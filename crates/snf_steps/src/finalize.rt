@@ -11,6 +11,7 @@ use crate::elementary::{
 };
 use crate::stages::{Triple, both_zero, first, on_columns, on_rows, second};
 
+// Rows and columns are numbers, as the Rust has them, and below 3 by a clause: an enum of three would be a number again at each use.
 fn make_positive(i: usize, s: Triple) -> Option<Triple>
     requires { i < 3 }
     ensures { triple_of result ≡ finalize.make_positive i (on_diagonal s i) (three_of s) }

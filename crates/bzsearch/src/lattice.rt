@@ -26,6 +26,7 @@ fn step_squared(a: [f64; 3], d: i64) -> f64
     squares_from_0(x, y, z) / (d * d) as f64
 }
 
+// The Rust's comparison, and no `max`: of a NaN, and of zeros of both signs, that one says less.
 fn larger(most: f64, x: f64) -> f64
     ensures { result ≡ larger most x }
 {

@@ -1,7 +1,7 @@
 -- What accepted tests say of the input, and that the lists of the code's steps are the definition's.
-use mathlib.Core.Path.{◌≡◌, refl, ap₂}
+use mathlib.Core.Path.{◌≡◌, refl}
 use mathlib.Core.Bool.{◌&&◌}
-use mathlib.Core.List.{List, [], ◌∷◌}
+use mathlib.Core.List.{List}
 use Prim.Native.Nat.{ℕ}
 use lib.Dec.{T, leb, eqb}
 use lib.IntN.{ℤ}
@@ -9,14 +9,14 @@ use lib.Ieee.{Float, binary64, of_int}
 use lib.ListN.{length}
 use Rattle.common.specs.Tested.{Accepted}
 use Rattle.integer.proofs.Test.{holds, and_l, and_r}
-use Rattle.common.specs.Matrix.{Vec, Mat, map_vec, entries}
+use Rattle.common.specs.Matrix.{Vec, Mat, map_vec}
 use Rattle.common.specs.Array.{matrix_of}
 use Rattle.common.specs.Limits.{all_within, matrix_within, whole_matrices, diagonal_fits}
 use Rattle.common.specs.declared.Refusal.TheVariants.{OutsideLimits, WrongLength}
 use Rattle.common.proofs.Tests.{passed}
-use Rattle.transform_rotations.specs.Transform.{to_d, inverse_d, transform_d, is_whole, rounded}
-use Rattle.transform_rotations.specs.TransformRotations.{input_tests, all_whole, transformed_list}
-use Rattle.transform_rotations.specs.Steps.{transform_over, transform_by, whole_by, list_by}
+use Rattle.transform_rotations.specs.Transform.{to_d, inverse_d, transform_d}
+use Rattle.transform_rotations.specs.TransformRotations.{input_tests}
+use Rattle.transform_rotations.specs.Steps.{transform_over, transform_by}
 use borrow.Author.Tests.{eqb-true}
 
 pub record InputAccepted (rotations d : List ℤ) (q : List (List ℤ)) (n : ℕ) : Type 0 where
@@ -47,14 +47,6 @@ module _ (d : Vec ℤ) (q : Mat ℤ) where
   abbrev pub ready : Mat ℤ → Mat Float
   ready = transform_by (inverse_d (to_d q)) (to_d q) (map_vec (of_int binary64) d)
 
-  same : (r : Mat ℤ) → ready r ≡ transform_d d q r
+  pub same : (r : Mat ℤ) → ready r ≡ transform_d d q r
   unfolding transform_over transform_d
   same r = refl
-
-  pub whole_is : (l : List (Mat ℤ)) → whole_by ready l ≡ all_whole d q l
-  whole_is [] = refl
-  whole_is (r ∷ l) = ap₂ (λ m b. is_whole m && b) (same r) (whole_is l)
-
-  pub list-is : (l : List (Mat ℤ)) → list_by ready l ≡ transformed_list d q l
-  list-is [] = refl
-  list-is (r ∷ l) = ap₂ (λ m t. entries (rounded m) t) (same r) (list-is l)

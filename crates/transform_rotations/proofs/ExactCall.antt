@@ -1,17 +1,12 @@
 -- What the tests and the output of the call say of each rotation.
-use mathlib.Core.Path.{◌≡◌, refl, ◌∙◌, ap}
-use mathlib.Core.Logic.{⊎_elim}
+use mathlib.Core.Path.{◌≡◌, ◌∙◌, ap}
 use mathlib.Core.Bool.{◌&&◌}
-use mathlib.Core.List.Memᴰ.{cases_cons as cases}
-use mathlib.Core.List.Memᴰ.{head as here}
-use mathlib.Core.List.Memᴰ.{not-nil}
-use mathlib.Core.List.Memᴰ.{tail as there}
-use mathlib.Core.List.{List, [], ◌∷◌, map}
+use mathlib.Core.List.{List, map}
 use Prim.Native.Nat.{ℕ}
 use lib.Dec.{T, leb}
 use lib.IntN.{ℤ, pos, nat_abs}
-use Rattle.integer.proofs.Test.{and_l, and_r, and_in, holds, is_true}
-use Rattle.common.specs.Matrix.{Axis, X, Y, Z, Vec, Mat, side, entries, diagonal}
+use Rattle.integer.proofs.Test.{and_l, holds, is_true}
+use Rattle.common.specs.Matrix.{Axis, X, Y, Z, side, diagonal}
 use Rattle.common.specs.Array.{along, vector_of, sides_of, matrix_of, matrices, flat}
 use Rattle.common.specs.Limits.{side_fits, diagonal_fits}
 use Rattle.common.specs.Tested.{require, output_of, after, Tested, Accepted}
@@ -20,11 +15,10 @@ use Rattle.common.proofs.Matrix.{axes-of, same-vector}
 use Rattle.common.proofs.Tests.{passed, both-accepted}
 use Rattle.common.proofs.Bounds.{side-above}
 use Rattle.grgrid.specs.Grid.{size}
-use Rattle.grgrid.proofs.Lists.{◌∈◌}
 use Rattle.grgrid.proofs.Folding.{Sides}
 use Rattle.grgrid.proofs.Acting.{grid}
 use Rattle.grgrid.proofs.Accepted.{grid-fits}
-use Rattle.transform_rotations.specs.Transform.{transform_d, is_whole, rounded}
+use Rattle.transform_rotations.specs.Transform.{transform_d, rounded}
 use Rattle.transform_rotations.specs.TransformRotations.{all_whole, transformed_list, input_tests, transform_tests, transform_answer, transform_written}
 
 -- ---- the diagonal numbers
@@ -38,21 +32,6 @@ grid-is d t = ap diagonal (same-vector {f = side (vector_of d)} {g = λ k. pos (
 
 pub sides-positive : (d : List ℤ) → T (diagonal_fits d) → Sides (sides_of d)
 sides-positive d t = record { positive = (grid-fits d t).positive }
-
--- ---- lists of rotations
-module _ (d : Vec ℤ) (q : Mat ℤ) where
-  pub whole_each : (l : List (Mat ℤ)) → T (all_whole d q l) → (r : Mat ℤ) → r ∈ l → T (is_whole (transform_d d q r))
-  whole_each [] t r k = absurd (not-nil k)
-  whole_each (x ∷ l) t r k =
-      ⊎_elim (λ e. rw e (and_l (is_whole (transform_d d q x)) (all_whole d q l) t)) (whole_each l (and_r (is_whole (transform_d d q x)) (all_whole d q l) t) r) (cases k)
-
-  pub each-whole : (l : List (Mat ℤ)) → ((r : Mat ℤ) → r ∈ l → T (is_whole (transform_d d q r))) → T (all_whole d q l)
-  each-whole [] h = tt
-  each-whole (x ∷ l) h = and_in (is_whole (transform_d d q x)) (all_whole d q l) (h x (here refl)) (each-whole l (λ r k. h r (there k)))
-
-  pub list-flat : (l : List (Mat ℤ)) → transformed_list d q l ≡ flat (map (λ r. rounded (transform_d d q r)) l)
-  list-flat [] = refl
-  list-flat (r ∷ l) = ap (entries (rounded (transform_d d q r))) (list-flat l)
 
 -- ---- the tests
 module _ (rotations d : List ℤ) (q : List (List ℤ)) (n : ℕ) where
@@ -81,4 +60,4 @@ module _ (rotations d : List ℤ) (q : List (List ℤ)) (n : ℕ) where
   pub written-flat : transform_tests rotations d q n ≡ Accepted
       → transform_written rotations d q n ≡ flat (map (λ r. rounded (transform_d (vector_of d) (matrix_of q) r)) (matrices rotations))
   unfolding transform_written
-  written-flat e = ap (λ s. output_of s n (transformed_list (vector_of d) (matrix_of q) (matrices rotations))) e ∙ list-flat (vector_of d) (matrix_of q) (matrices rotations)
+  written-flat e = ap (λ s. output_of s n (transformed_list (vector_of d) (matrix_of q) (matrices rotations))) e

@@ -17,6 +17,7 @@ use Rattle.common.specs.Array.{vector_of, sides_of, matrix_of, matrices, flat}
 use Rattle.common.specs.Limits.{matrix_within, diagonal_fits}
 use Rattle.common.specs.FloatMatrix.{floats}
 use Rattle.common.proofs.Bounds.{matrix-sizes, sizes-within}
+use Rattle.common.proofs.Every.{every_of, of-every}
 use Rattle.common.proofs.Reading.{matrices-flat, read_small}
 use Rattle.common.proofs.Unimodular.{Regular, Unimodular, regular-product, unimodular-regular, unimodular-inverse, cancel_left, cancel_right, similar-identity, similar-product, similar-negate, similar-det, conjugate-similar}
 use Rattle.grgrid.proofs.Lists.{◌∈◌}
@@ -27,7 +28,7 @@ use Rattle.transform_rotations.specs.TransformRotations.{singular_q, input_tests
 use Rattle.transform_rotations.proofs.ExactMatrix.{int-exact}
 use Rattle.transform_rotations.proofs.ExactEntries.{det_q, all-accepted, all-exact}
 use Rattle.transform_rotations.proofs.Accepted.{input-accepted}
-use Rattle.transform_rotations.proofs.ExactCall.{sides-fit, sides-positive, grid-is, whole_each, each-whole, tests-input, tests-whole, whole-tests, written-flat}
+use Rattle.transform_rotations.proofs.ExactCall.{sides-fit, sides-positive, grid-is, tests-input, tests-whole, whole-tests, written-flat}
 
 -- The nine fractions of R are the whole numbers of M. The fraction at (j, k) is the entry of Q⁻¹·R·Q times dj over dk, so that M is D·Q⁻¹·R·Q·D⁻¹.
 abbrev pub Fractions : Vec ℤ → Mat ℤ → Mat ℤ → Mat ℤ → Type 0
@@ -89,12 +90,12 @@ module _ (rotations d : List ℤ) (q : List (List ℤ)) (n : ℕ) (u : Unimodula
   call-fractions t r k =
       let e = tests-input rotations d q n t in
       let l = input-accepted rotations d q n e in
-      accepted-whole d (matrix_of q) r l.grid l.change (rotation-fits e r k) u (whole_each (vector_of d) (matrix_of q) (matrices rotations) (tests-whole rotations d q n t) r k)
+      accepted-whole d (matrix_of q) r l.grid l.change (rotation-fits e r k) u (every_of (λ r. is_whole (transform_d (vector_of d) (matrix_of q) r)) (matrices rotations) (tests-whole rotations d q n t) r k)
 
   -- accepted exactly if the fractions of each rotation are whole
   pub call-accepts : input_tests rotations d q n ≡ Accepted
       → (transform_tests rotations d q n ≡ Accepted) ↔ ((r : Mat ℤ) → r ∈ matrices rotations → (m : Mat ℤ) × Fractions (vector_of d) (matrix_of q) r m)
-  call-accepts e = (λ t r k. (transform_of (vector_of d) (matrix_of q) r, call-fractions t r k), λ h. whole-tests rotations d q n e (each-whole (vector_of d) (matrix_of q) (matrices rotations) (λ r k. accept r k (h r k))))
+  call-accepts e = (λ t r k. (transform_of (vector_of d) (matrix_of q) r, call-fractions t r k), λ h. whole-tests rotations d q n e (of-every (λ r. is_whole (transform_d (vector_of d) (matrix_of q) r)) (matrices rotations) (λ r k. accept r k (h r k))))
     where
       accept : (r : Mat ℤ) → r ∈ matrices rotations → (m : Mat ℤ) × Fractions (vector_of d) (matrix_of q) r m → T (is_whole (transform_d (vector_of d) (matrix_of q) r))
       accept r k f = let l = input-accepted rotations d q n e in (whole-accepted d (matrix_of q) r l.grid l.change (rotation-fits e r k) u f.0 f.1).0

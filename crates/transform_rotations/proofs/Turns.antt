@@ -1,7 +1,7 @@
 -- The loop over the rotations: what is tested and written after n turns, and what is left.
 use mathlib.Core.Path.{◌≡◌, sym, ◌∙◌, ap, ap₂}
 use mathlib.Core.Bool.{Bool, true, false, ◌&&◌}
-use mathlib.Core.List.{List, [], ◌∷◌, ◌++◌, append_assoc, append-nil}
+use mathlib.Core.List.{List, [], ◌∷◌, ◌++◌, append_assoc, append-nil, map}
 use Prim.Native.Nat.{ℕ, suc, ◌+◌, ◌-◌, ◌*◌, ◌≤◌, ◌<◌}
 use native.Mathlib.Omega.{arith}
 use lib.IntN.{ℤ}
@@ -10,10 +10,11 @@ use lib.ListN.{length, take, drop, length-append, take-append-drop, drop_of_leng
 use lib.Seq.{sets, sets-eq, take_at, length-take-le, drop-drop}
 use borrow.Rule.Slice.PartMut.{put_mid}
 use Rattle.common.specs.Matrix.{Mat, entries}
-use Rattle.common.specs.Array.{matrix_of, rows, matrix_at, matrices_from}
+use Rattle.common.specs.Array.{matrix_of, rows, matrix_at, matrices_from, flat}
+use Rattle.common.specs.Every.{every}
 use Rattle.common.specs.FloatMatrix.{float_matrix}
 use Rattle.transform_rotations.specs.Transform.{is_whole, rounded}
-use Rattle.transform_rotations.specs.Steps.{all_near, whole_by, list_by}
+use Rattle.transform_rotations.specs.Steps.{all_near}
 
 -- ---- lists
 module _ (out : List ℤ) (at : ℕ) (m : Mat ℤ) (h : at + 9 ≤ length out) where
@@ -53,6 +54,14 @@ module _ (t : Mat Float) {m : List (List Float)} {k : List (List ℤ)} (e : m �
   near-whole h = h ∙ ap₂ (λ k m. all_near (matrix_of k) (float_matrix m)) rounded-rows e
 
 -- ---- n turns of the loop
+-- the rotations of l, each transformed by g, as the test and the output have them
+module _ (g : Mat ℤ → Mat Float) (l : List (Mat ℤ)) where
+  abbrev whole_by : Bool
+  whole_by = every (λ r. is_whole (g r)) l
+
+  abbrev list_by : List ℤ
+  list_by = flat (map (λ r. rounded (g r)) l)
+
 pub record Turned (g : Mat ℤ → Mat Float) (l : List ℤ) (count n : ℕ) (out : List ℤ) : Type 0 where
   pub whole : whole_by g (matrices_from l n (count - n)) ≡ whole_by g (matrices_from l 0 count)
   pub list : take (n * 9) out ++ list_by g (matrices_from l n (count - n)) ≡ list_by g (matrices_from l 0 count)

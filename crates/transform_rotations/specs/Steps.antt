@@ -1,12 +1,12 @@
 -- What the steps of the code compute, from Q, its inverse and D as f64.
-use Rattle.std.specs.Prelude.{Bool, true, not, ◌&&◌, List, [], ◌∷◌, ℤ, get_or, Float}
+use Rattle.std.specs.Prelude.{Bool, not, List, ℤ, get_or, Float}
 use Rattle.std.specs.Float.{nan, binary64}
 use Rattle.std.specs.Float.Ieee.{sub, mul, div, of_int, lt}
 use Rattle.float.specs.Rounding.{abs_of, tolerance}
-use Rattle.common.specs.Matrix.{next, Vec, Mat, side, vector, entry, matrix, entries, map_mat, all_axes, cross, product_over, adjugate_over}
+use Rattle.common.specs.Matrix.{next, Vec, Mat, side, vector, entry, matrix, map_mat, all_axes, cross, product_over, adjugate_over}
 use Rattle.common.specs.Array.{number, items}
 use Rattle.common.specs.FloatMatrix.{floats}
-use Rattle.transform_rotations.specs.Transform.{to_d, is_whole, rounded}
+use Rattle.transform_rotations.specs.Transform.{to_d}
 
 -- a row of the inverse, from the two columns after its number, in a circle
 abbrev pub inverse_row : List Float → List Float → Float → List Float
@@ -33,12 +33,3 @@ near n x = not (lt tolerance (abs_of (sub binary64 (of_int binary64 n) x)))
 
 unfoldable pub all_near : Mat ℤ → Mat Float → Bool
 all_near n m = all_axes (λ j. all_axes (λ k. near (entry n j k) (entry m j k)))
-
--- ---- a list of rotations, each transformed by g
-abbrev pub whole_by : (Mat ℤ → Mat Float) → List (Mat ℤ) → Bool
-whole_by g [] = true
-whole_by g (r ∷ l) = is_whole (g r) && whole_by g l
-
-abbrev pub list_by : (Mat ℤ → Mat Float) → List (Mat ℤ) → List ℤ
-list_by g [] = []
-list_by g (r ∷ l) = entries (rounded (g r)) (list_by g l)

@@ -1,9 +1,10 @@
 -- `transform_rotations`: the tests, the answer and the output, which has n places.
-use Rattle.std.specs.Prelude.{Bool, true, not, ◌&&◌, List, [], ◌∷◌, ℕ, leb, eqb, ℤ, pos, length}
+use Rattle.std.specs.Prelude.{Bool, not, ◌&&◌, List, map, ℕ, leb, eqb, ℤ, pos, length}
 use Rattle.std.specs.Float.{binary64}
 use Rattle.std.specs.Float.Ieee.{of_int, eq}
-use Rattle.common.specs.Matrix.{Vec, Mat, entries, det_over}
-use Rattle.common.specs.Array.{vector_of, matrix_of, matrices}
+use Rattle.common.specs.Matrix.{Vec, Mat, det_over}
+use Rattle.common.specs.Array.{vector_of, matrix_of, matrices, flat}
+use Rattle.common.specs.Every.{every}
 use Rattle.common.specs.FloatMatrix.{floats}
 use Rattle.common.specs.Limits.{all_within, matrix_within, whole_matrices, diagonal_fits}
 use Rattle.common.specs.Tested.{require, output_of, after, Tested, Accepted}
@@ -16,13 +17,11 @@ singular_q q = eq (det_over floats (to_d q)) (of_int binary64 (pos 0))
 
 -- every rotation is transformed to whole numbers
 abbrev pub all_whole : Vec ℤ → Mat ℤ → List (Mat ℤ) → Bool
-all_whole d q [] = true
-all_whole d q (r ∷ l) = is_whole (transform_d d q r) && all_whole d q l
+all_whole d q l = every (λ r. is_whole (transform_d d q r)) l
 
 -- nine numbers a rotation
 abbrev pub transformed_list : Vec ℤ → Mat ℤ → List (Mat ℤ) → List ℤ
-transformed_list d q [] = []
-transformed_list d q (r ∷ l) = entries (rounded (transform_d d q r)) (transformed_list d q l)
+transformed_list d q l = flat (map (λ r. rounded (transform_d d q r)) l)
 
 -- the tests before any rotation is transformed
 unfoldable pub input_tests : List ℤ → List ℤ → List (List ℤ) → ℕ → Tested

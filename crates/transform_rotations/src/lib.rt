@@ -1,7 +1,7 @@
 // Transform reciprocal-space rotations into rotations of the grid.
 #![tactic(auto)]
 
-ghost use Rattle.std.specs.Prelude.{◌≡◌, true, ◌&&◌, [], ◌+◌, ◌*◌, ◌^◌, ◌≤◌, T, nat_abs, length, get_or};
+ghost use Rattle.std.specs.Prelude.{◌≡◌, true, ◌&&◌, [], ◌+◌, ◌^◌, ◌≤◌, T, nat_abs, length, get_or, map};
 ghost use Rattle.std.specs.Float.{nan, binary64};
 ghost use Rattle.std.specs.Float.Ieee.{div};
 ghost use Rattle.std.proofs.lemmas.List.Edits.{sets};
@@ -9,14 +9,15 @@ ghost use Rattle.common.specs.Tested.{require, Accepted};
 ghost use Rattle.common.specs.declared.Refusal.TheVariants.{SymmetryBroken};
 ghost use Rattle.float.specs.Rounding.{nint_of};
 ghost use Rattle.common.specs.Matrix.{all_axes, cross, entries, map_vec};
-ghost use Rattle.common.specs.Array.{number, along, vector_of, items, matrix_of, rows, row_at, matrix_at, matrices};
+ghost use Rattle.common.specs.Array.{number, along, vector_of, items, matrix_of, rows, matrices, flat, Sized};
+ghost use Rattle.common.specs.Every.{every};
 ghost use Rattle.common.specs.FloatMatrix.{floats, row_d, float_vector, float_matrix};
 ghost use Rattle.common.specs.Limits.{all_within, matrix_within, whole_matrices, diagonal_fits};
-ghost use Rattle.transform_rotations.specs.Transform.{to_d, rounded};
+ghost use Rattle.transform_rotations.specs.Transform.{to_d, is_whole, rounded};
 ghost use Rattle.transform_rotations.specs.TransformRotations.{singular_q, all_whole, transformed_list, input_tests, transform_tests, transform_answer, transform_written};
-ghost use Rattle.transform_rotations.specs.Steps.{inverse_row, inverse_over, scaled_row, transform_over, transform_by, near, all_near, whole_by, list_by};
+ghost use Rattle.transform_rotations.specs.Steps.{inverse_row, inverse_over, scaled_row, transform_over, transform_by, near, all_near};
 
-use common::Refusal;
+use common::{BoundedMatrix, Refusal, Rotations};
 
 const IDENTITY_TOL: f64 = 0.00001;
 
@@ -69,30 +70,19 @@ fn transform(q_inv: [[f64; 3]; 3], q: [[f64; 3]; 3], d: [f64; 3], r: [[f64; 3]; 
     ]
 }
 
-// Three entries of the rotations as f64. With the limit in force the casts are exact, and take a tenth less of the call than `float_matrix`'s.
-fn rotation_row(rotations: &[i64], at: usize) -> [f64; 3]
-    requires places { at + 3 ≤ length rotations.now }
-    requires within { T (all_within 100 rotations.now) }
-    ensures { result ≡ row_d (row_at rotations.now at) }
+// A row of a rotation as f64. With the limit in force the casts are exact, and take a tenth less of the call than `float_matrix`'s.
+fn row_to_d(a: [i64; 3]) -> [f64; 3]
+    requires { Sized 100 a }
+    ensures { result ≡ row_d a }
 {
-    [
-        rotations[at] as f64,
-        rotations[at + 1] as f64,
-        rotations[at + 2] as f64,
-    ]
+    [a[0] as f64, a[1] as f64, a[2] as f64]
 }
 
-fn rotation_at(rotations: &[i64], n: usize) -> [[f64; 3]; 3]
-    requires places { n * 9 + 9 ≤ length rotations.now }
-    requires within { T (all_within 100 rotations.now) }
-    ensures { result ≡ rows (to_d (matrix_at rotations.now n)) }
+fn to_d(r: BoundedMatrix<100>) -> [[f64; 3]; 3]
+    ensures { result ≡ rows (to_d (matrix_of r.m)) }
 {
-    let at = n * 9;
-    [
-        rotation_row(rotations, at),
-        rotation_row(rotations, at + 3),
-        rotation_row(rotations, at + 6),
-    ]
+    let [x, y, z] = r.m;
+    [row_to_d(x), row_to_d(y), row_to_d(z)]
 }
 
 // From the bits of x + 2^52 + 2^51, whose last binary digits are those of the whole number nearest to x: that number, if it is of a size up to 2^51.
@@ -173,22 +163,21 @@ fn store(out: &mut [i64], at: usize, m: [[i64; 3]; 3])
 
 // Each rotation transformed, where all come to whole numbers. A refusal may leave anything in the output.
 fn transform_each(
-    rotations: &[i64],
+    rotations: Rotations<'_, 100>,
     q_inv: [[f64; 3]; 3],
     q: [[f64; 3]; 3],
     d: [f64; 3],
     out: &mut [i64],
 ) -> Result<(), Refusal>
-    requires same_length { length out.old ≡ length rotations.now }
-    requires whole { T (whole_matrices rotations.now) }
-    requires within { T (all_within 100 rotations.now) }
+    requires same_length { length out.old ≡ length rotations.list.now }
+    requires whole { T (whole_matrices rotations.list.now) }
     ensures value { let g = transform_by (float_matrix q_inv) (float_matrix q) (float_vector d) in
-        result ≡ require (whole_by g (matrices rotations.now)) SymmetryBroken Accepted }
+        result ≡ require (every (λ r. is_whole (g r)) (matrices rotations.entry.list.now)) SymmetryBroken Accepted }
     ensures out_after { let g = transform_by (float_matrix q_inv) (float_matrix q) (float_vector d) in
-        (result ≡ Accepted → out.new ≡ list_by g (matrices rotations.now)) }
+        (result ≡ Accepted → out.new ≡ flat (map (λ r. rounded (g r)) (matrices rotations.entry.list.now))) }
 {
-    for n in 0..rotations.len() / 9 {
-        let m = transform(q_inv, q, d, rotation_at(rotations, n));
+    for n in 0..rotations.count() {
+        let m = transform(q_inv, q, d, to_d(rotations.at(n)));
         let rounded = nint_matrix(m);
         if !all_near(rounded, m) {
             return Err(Refusal::SymmetryBroken);
@@ -200,16 +189,15 @@ fn transform_each(
 
 // Q, its inverse and D are f64 once for all rotations.
 fn transform_all(
-    rotations: &[i64],
+    rotations: Rotations<'_, 100>,
     d: [i64; 3],
     q: [[i64; 3]; 3],
     out: &mut [i64],
 ) -> Result<(), Refusal>
-    requires same_length { length out.old ≡ length rotations.now }
-    requires whole { T (whole_matrices rotations.now) }
-    requires within { T (all_within 100 rotations.now) }
-    ensures value { result ≡ require (all_whole (vector_of d) (matrix_of q) (matrices rotations.now)) SymmetryBroken Accepted }
-    ensures out_after { result ≡ Accepted → out.new ≡ transformed_list (vector_of d) (matrix_of q) (matrices rotations.now) }
+    requires same_length { length out.old ≡ length rotations.list.now }
+    requires whole { T (whole_matrices rotations.list.now) }
+    ensures value { result ≡ require (all_whole (vector_of d) (matrix_of q) (matrices rotations.entry.list.now)) SymmetryBroken Accepted }
+    ensures out_after { result ≡ Accepted → out.new ≡ transformed_list (vector_of d) (matrix_of q) (matrices rotations.entry.list.now) }
 {
     let q_d = float_matrix::mat_i_to_d(q);
     let q_inv = inverse_f64(q_d, float_matrix::det_d(q_d));
@@ -266,7 +254,7 @@ fn transform_tests(
     ensures out_after { result ≡ Accepted → out.new ≡ transformed_list (vector_of d) (matrix_of q) (matrices rotations.now) }
 {
     input_tests(rotations, d, q, out.len())?;
-    transform_all(rotations, d, q, out)
+    transform_all(Rotations { list: rotations }, d, q, out)
 }
 
 // D·Q⁻¹·R·Q·D⁻¹ of each rotation R, nine numbers each.

@@ -13,6 +13,7 @@ use Rattle.common.specs.Matrix.{entries}
 use Rattle.common.specs.Tested.{require, Accepted}
 use Rattle.common.specs.declared.Refusal.TheVariants.{SymmetryBroken}
 use Rattle.common.proofs.Tests.{not-accepted}
+use Rattle.transform_rotations.specs.Transform.{to_d}
 use Rattle.transform_rotations.specs.Steps.{transform_over, transform_by}
 use Rattle.transform_rotations.proofs.Turns.{turned_none, turned_on, broken, all_whole_lem, all_listed, rounded-rows, near-whole}
 use Rattle.transform_rotations.proofs.transform_each.Goals as goal
@@ -24,17 +25,17 @@ ended m n t h e = let z : m % 9 ≡ 0 = eqb→eq (m % 9) 0 t in omega (arith, di
 pub loop-n-init : goal.loop-n-init
 loop-n-init c =
     let a = c.args in
-    turned_none (transform_by (float_matrix a.q_inv) (float_matrix a.q) (float_vector a.d)) a.rotations.now (length a.rotations.now / 9) a.out.now
+    turned_none (transform_by (float_matrix a.q_inv) (float_matrix a.q) (float_vector a.d)) a.rotations.list.now (length a.rotations.list.now / 9) a.out.now
 
 pub returns-then-not-all_near : goal.returns-then-not-all_near
 returns-then-not-all_near c =
     let s = c in
     let l = c.loop-n in
     let g = transform_by (float_matrix s.args.q_inv) (float_matrix s.args.q) (float_vector s.args.d) in
-    let m = matrix_at s.args.rotations.now l.n in
-    let e = c.transform-m.ensures ∙ ap (λ r. rows (transform_over (float_matrix s.args.q_inv) (float_matrix s.args.q) (float_vector s.args.d) (float_matrix r))) c.rotation_at.ensures in
+    let m = matrix_at s.args.rotations.list.now l.n in
+    let e = c.transform-m.ensures ∙ ap (λ r. rows (transform_over (float_matrix s.args.q_inv) (float_matrix s.args.q) (float_vector s.args.d) (float_matrix r))) (c.to_d.ensures ∙ ap (λ m. rows (to_d (matrix_of m))) c.at.ensures) in
     let f = near-whole (g m) e c.nint_matrix-rounded.ensures c.all_near.ensures in
-    let b = broken g s.args.rotations.now (length s.args.rotations.now / 9) l.n (search rules) l.invariant (sym f ∙ c.if-not-all_near.true) in
+    let b = broken g s.args.rotations.list.now (length s.args.rotations.list.now / 9) l.n (search rules) l.invariant (sym f ∙ c.if-not-all_near.true) in
     record { value = sym (ap (λ b. require b SymmetryBroken Accepted) b); out_after = λ h. absurd (not-accepted h) }
 
 pub loop-n-preserved : goal.loop-n-preserved
@@ -42,20 +43,20 @@ loop-n-preserved c =
     let s = c in
     let l = c.loop-n in
     let g = transform_by (float_matrix s.args.q_inv) (float_matrix s.args.q) (float_vector s.args.d) in
-    let m = matrix_at s.args.rotations.now l.n in
-    let e = c.transform-m.ensures ∙ ap (λ r. rows (transform_over (float_matrix s.args.q_inv) (float_matrix s.args.q) (float_vector s.args.d) (float_matrix r))) c.rotation_at.ensures in
+    let m = matrix_at s.args.rotations.list.now l.n in
+    let e = c.transform-m.ensures ∙ ap (λ r. rows (transform_over (float_matrix s.args.q_inv) (float_matrix s.args.q) (float_vector s.args.d) (float_matrix r))) (c.to_d.ensures ∙ ap (λ m. rows (to_d (matrix_of m))) c.at.ensures) in
     let f = near-whole (g m) e c.nint_matrix-rounded.ensures c.all_near.ensures in
     let k = ap (λ k. sets l.out (l.n * 9) (entries (matrix_of k) [])) (rounded-rows (g m) e c.nint_matrix-rounded.ensures) in
-    turned_on g s.args.rotations.now (length s.args.rotations.now / 9) l.n (search rules) l.invariant (search rules) (sym f ∙ c.if-not-all_near.false) (c.store.ensures ∙ k)
+    turned_on g s.args.rotations.list.now (length s.args.rotations.list.now / 9) l.n (search rules) l.invariant (search rules) (sym f ∙ c.if-not-all_near.false) (c.store.ensures ∙ k)
 
 pub returns : goal.returns
 returns c =
     let s = c in
     let l = c.loop-n in
     let g = transform_by (float_matrix s.args.q_inv) (float_matrix s.args.q) (float_vector s.args.d) in
-    let n = length s.args.rotations.now in
+    let n = length s.args.rotations.list.now in
     let over : n / 9 ≤ l.n = search rules in
     record {
-      value = ap (λ b. require b SymmetryBroken Accepted) (all_whole_lem g s.args.rotations.now (n / 9) l.n over l.invariant);
-      out_after = λ _. all_listed g s.args.rotations.now (n / 9) l.n over l.invariant (ended n l.n s.requires.whole over (search rules));
+      value = ap (λ b. require b SymmetryBroken Accepted) (all_whole_lem g s.args.rotations.list.now (n / 9) l.n over l.invariant);
+      out_after = λ _. all_listed g s.args.rotations.list.now (n / 9) l.n over l.invariant (ended n l.n s.requires.whole over (search rules));
     }

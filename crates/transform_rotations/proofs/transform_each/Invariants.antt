@@ -8,4 +8,4 @@ use Rattle.transform_rotations.proofs.transform_each.Given as goal
 abbrev pub invariant-loop-n : goal.invariant-loop-n
 invariant-loop-n l =
     let g = transform_by (float_matrix l.q_inv) (float_matrix l.q) (float_vector l.d) in
-    Turned g l.rotations (length l.rotations / 9) l.n l.out
+    Turned g l.rotations.list.now (length l.rotations.list.now / 9) l.n l.out

@@ -30,10 +30,10 @@ transform_all-requires-clause-whole c =
     let a = c.args in
     (input-accepted a.rotations.now a.d a.q (length a.out.now) (sym c.in_ok-input_tests.ensures)).whole
 
-pub transform_all-requires-clause-within : goal.transform_all-requires-clause-within
-transform_all-requires-clause-within c =
+pub invariant_of-transform_all : goal.invariant_of-transform_all
+invariant_of-transform_all c =
     let a = c.args in
-    (input-accepted a.rotations.now a.d a.q (length a.out.now) (sym c.in_ok-input_tests.ensures)).entries
+    record { within = (input-accepted a.rotations.now a.d a.q (length a.out.now) (sym c.in_ok-input_tests.ensures)).entries }
 
 pub returns-clause-value : goal.returns-clause-value
 unfolding transform_tests

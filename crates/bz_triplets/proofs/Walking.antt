@@ -7,7 +7,6 @@ use Prim.Native.Nat.{ℕ, zero, suc, ◌+◌, ◌-◌, ◌<◌, ◌≤◌}
 use native.Mathlib.Nat.{le_antisymm, not-suc-le-zero, le_of_suc-le-suc, eq-or-lt_of_le}
 use native.Mathlib.Numerals.{add-one}
 use native.Mathlib.Omega.{arith}
-use lib.Dec.{lit<}
 use Rattle.std.specs.Prelude.{Err}
 use Rattle.common.specs.Matrix.{Vec}
 use Rattle.common.specs.declared.Refusal.{Refusal}
@@ -17,9 +16,9 @@ use Rattle.bzsearch.specs.Search.{numbers_from}
 use Rattle.bz_triplets.specs.declared.choices.Step.{Step}
 use Rattle.bz_triplets.specs.declared.choices.Step.TheVariants as step
 use Rattle.bz_triplets.specs.declared.choices.Triplet.{Triplet}
-use Rattle.bz_triplets.specs.Choosing.{start, nested}
+use Rattle.bz_triplets.specs.Choosing.{nested}
 use Rattle.bz_triplets.specs.BzTriplets.{State, Walk, try_at, place_in}
-use Rattle.bz_triplets.specs.TripletsView.{found_by, choice_of, state_of, is_closed, TripletFits}
+use Rattle.bz_triplets.specs.TripletsView.{found_by, choice_view, state_of, is_closed}
 
 -- ---- one walk
 module _ {A S : Type 0} (f : S → A → S) where
@@ -101,7 +100,7 @@ module _ (w : Walk) where
   unfolding try_at
   closed-stays t e p = go t.step e
     where
-      go : (s : Step) → is_closed s ≡ true → try_at w (got (found_by s (choice_of t))) p ≡ got (found_by s (choice_of t))
+      go : (s : Step) → is_closed s ≡ true → try_at w (got (found_by s (choice_view t.choice))) p ≡ got (found_by s (choice_view t.choice))
       go step.Closed e = refl
       go step.Empty e = absurd (true≢false (sym e))
       go (step.Left x) e = absurd (true≢false (sym e))
@@ -114,20 +113,12 @@ module _ (w : Walk) where
 -- ---- the walk has reached s, goes on, and holds t
 pub record Reached (s : Read State) (t : Triplet) : Type 0 where
   pub on : is_closed t.step ≡ false
-  pub fits : TripletFits t
   pub is : got (state_of t) ≡ s
-
-pub reached-here : {s : Read State} {t : Triplet} → Reached s t → Reached (got (state_of t)) t
-reached-here v = record { on = v.on; fits = v.fits; is = refl }
 
 -- at the end of a walk inside turn k of another
 module _ (f : Read State → ℕ → Read State) (g : ℕ → ℕ) (s : Read State) where
   pub reached-end : {k n : ℕ} {t : Triplet} → Reached (foldl f s (listed g k)) t → k ≤ n → n ≤ k → Reached (foldl f s (listed g n)) t
-  reached-end v h l = record { on = v.on; fits = v.fits; is = complete f g s v.is h l }
+  reached-end v h l = record { on = v.on; is = complete f g s v.is h l }
 
   pub reached-next : (k : ℕ) {r : Read State} {a : ℕ} {t : Triplet} → r ≡ foldl f s (listed g k) → a ≡ g k → Reached (f r a) t → Reached (foldl f s (listed g (k + 1))) t
-  reached-next k e at v = record { on = v.on; fits = v.fits; is = turned f g s k v.is e at }
-
--- ---- before the first choice
-pub reached-none : Reached (got start) (record { step = step.Empty; x = 0; y = 0; z = 0 })
-reached-none = record { on = refl; fits = record { x = lit< tt; y = lit< tt; z = lit< tt }; is = refl }
+  reached-next k e at v = record { on = v.on; is = turned f g s k v.is e at }

@@ -1,5 +1,5 @@
 -- What the records of the triplet call stand for, and the sizes that it relies on.
-use Rattle.std.specs.Prelude.{◌≡◌, Bool, true, false, List, ℕ, ◌*◌, ◌<◌, ℤ, pos, negsuc, length, Float}
+use Rattle.std.specs.Prelude.{◌≡◌, Bool, true, false, List, ℕ, ◌*◌, ℤ, pos, negsuc, length, Float}
 use Rattle.std.specs.Float.{binary64}
 use Rattle.std.specs.Float.Ieee.{sub, div, lt}
 use Rattle.common.specs.Matrix.{Vec, side, vector}
@@ -12,6 +12,7 @@ use Rattle.common.specs.Tested.{◌then◌}
 use Rattle.bztable.specs.Reading.{Read, got}
 use Rattle.bz_triplets.specs.declared.choices.Step.{Step}
 use Rattle.bz_triplets.specs.declared.choices.Step.TheVariants as step
+use Rattle.bz_triplets.specs.declared.places.Choice.{Choice}
 use Rattle.bz_triplets.specs.declared.choices.Triplet.{Triplet}
 use Rattle.bz_triplets.specs.declared.places.Places.{Places}
 use Rattle.bz_triplets.specs.declared.choices.Measure.{Measure}
@@ -27,11 +28,11 @@ found_by step.Empty c = start
 found_by (step.Left x) c = left x c
 found_by step.Closed c = closed c
 
-abbrev pub choice_of : Triplet → Vec ℕ
-choice_of t = record { x = t.x; y = t.y; z = t.z }
+abbrev pub choice_view : Choice → Vec ℕ
+choice_view c = record { x = c.x; y = c.y; z = c.z }
 
 abbrev pub state_of : Triplet → State
-state_of t = found_by t.step (choice_of t)
+state_of t = found_by t.step (choice_view t.choice)
 
 abbrev pub state_read : Read Triplet → Read State
 state_read r = r then λ t. got (state_of t)
@@ -55,12 +56,6 @@ abbrev pub is_closed : Step → Bool
 is_closed step.Empty = false
 is_closed (step.Left x) = false
 is_closed step.Closed = true
-
--- places that fit 63 bits
-pub record TripletFits (t : Triplet) : Type 0 where
-  pub x : t.x < 9223372036854775808
-  pub y : t.y < 9223372036854775808
-  pub z : t.z < 9223372036854775808
 
 -- an image of a triplet, as the outputs hold it
 abbrev pub step_place : Step → ℕ → ℤ

@@ -1,13 +1,13 @@
 // The walk over the choices of a class: one image each of q0, q1 and q2.
-ghost use Rattle.std.specs.Prelude.{◌≡◌, false, [], ◌<◌, IfOk};
+ghost use Rattle.std.specs.Prelude.{◌≡◌, false, [], ◌<◌};
 ghost use Rattle.common.specs.Array.{vector_of, items, Sized};
 ghost use Rattle.bzsearch.specs.SearchView.{float_nine};
 ghost use Rattle.bztable.specs.Reading.{got};
 ghost use Rattle.bz_triplets.specs.Choosing.{start, nested};
 ghost use Rattle.bz_triplets.specs.BzTriplets.{squared_distance, sum_of, is_zero, tried_sum, try_at, place_in};
-ghost use Rattle.bz_triplets.specs.TripletsView.{state_of, state_read, places_in, walk_by, shorter, is_closed, TripletFits};
+ghost use Rattle.bz_triplets.specs.TripletsView.{state_of, state_read, places_in, walk_by, shorter, is_closed, choice_view};
 
-use crate::places::Places;
+use crate::places::{Choice, Places};
 use bztable::reading;
 use bztable::reading::Table;
 use common::{Bounded, Refusal};
@@ -21,13 +21,10 @@ pub enum Step {
     Empty,
 }
 
-// By the places of the images. That they fit is no ghost field: a loop knows a `mut` variable of such a struct by its bare fields.
 #[derive(Clone, Copy)]
 pub struct Triplet {
     pub step: Step,
-    pub x: usize,
-    pub y: usize,
-    pub z: usize,
+    pub choice: Choice,
 }
 
 // Of three addresses.
@@ -77,52 +74,34 @@ fn is_shorter(found: Step, d2: f64, tolerance: f64) -> bool
 }
 
 // A choice whose sum is g.
-fn with_sum(t: Triplet, g: Sum, x: usize, y: usize, z: usize, m: Measure) -> Triplet
-    requires fact_1 { is_closed t.step ≡ false }
-    requires fact_2 { TripletFits t }
-    requires fact_3 { (x < 9223372036854775808) × (y < 9223372036854775808) × (z < 9223372036854775808) }
-    ensures value { state_of result ≡ tried_sum (walk_by m []) (state_of t) (record { x = x; y = y; z = z }) (vector_of g.v) }
-    ensures triplet_fits { TripletFits result }
+fn with_sum(t: Triplet, choice: Choice, g: Sum, m: Measure) -> Triplet
+    requires { is_closed t.step ≡ false }
+    ensures { state_of result ≡ tried_sum (walk_by m []) (state_of t) (choice_view choice) (vector_of g.v) }
 {
     if is_zero(g.v) {
         return Triplet {
             step: Step::Closed,
-            x,
-            y,
-            z,
+            choice,
         };
     }
     let d2 = squared_distance(g, m.lqd);
     if is_shorter(t.step, d2, m.tolerance) {
         return Triplet {
             step: Step::Left(d2),
-            x,
-            y,
-            z,
+            choice,
         };
     }
     t
 }
 
-// One choice, by its three places.
-fn try_choice(
-    table: &Table,
-    t: Triplet,
-    x: usize,
-    y: usize,
-    z: usize,
-    m: Measure,
-) -> Result<Triplet, Refusal>
-    requires fact_1 { is_closed t.step ≡ false }
-    requires fact_2 { TripletFits t }
-    requires fact_3 { (x < 9223372036854775808) × (y < 9223372036854775808) × (z < 9223372036854775808) }
-    ensures value { state_read result ≡ try_at (walk_by m table.now.addresses.now) (got (state_of t)) (record { x = x; y = y; z = z }) }
-    ensures triplet_fits { IfOk result TripletFits }
+fn try_choice(table: &Table, t: Triplet, choice: Choice, m: Measure) -> Result<Triplet, Refusal>
+    requires { is_closed t.step ≡ false }
+    ensures { state_read result ≡ try_at (walk_by m table.now.addresses.now) (got (state_of t)) (choice_view choice) }
 {
-    let a = reading::address_at(table.addresses, x)?;
-    let b = reading::address_at(table.addresses, y)?;
-    let c = reading::address_at(table.addresses, z)?;
-    Ok(with_sum(t, add3(a, b, c), x, y, z, m))
+    let a = reading::address_at(table.addresses, choice.x)?;
+    let b = reading::address_at(table.addresses, choice.y)?;
+    let c = reading::address_at(table.addresses, choice.z)?;
+    Ok(with_sum(t, choice, add3(a, b, c), m))
 }
 
 fn place_in(r: Places, k: usize) -> usize
@@ -140,11 +119,7 @@ fn place_in(r: Places, k: usize) -> usize
 fn is_closed(s: Step) -> bool
     ensures { result ≡ is_closed s }
 {
-    match s {
-        Step::Closed => true,
-        Step::Left(_) => false,
-        Step::Empty => false,
-    }
+    s == Step::Closed
 }
 
 // Images of q0, q1 and q2 in three nested walks. Where one of the three has none the walks would turn for nothing.
@@ -155,14 +130,11 @@ pub fn search_choices(
     q2: Places,
     m: Measure,
 ) -> Result<Triplet, Refusal>
-    ensures value { state_read result ≡ nested (try_at (walk_by m table.now.addresses.now)) (got start) (record { x = places_in q0; y = places_in q1; z = places_in q2 }) }
-    ensures triplet_fits { IfOk result TripletFits }
+    ensures { state_read result ≡ nested (try_at (walk_by m table.now.addresses.now)) (got start) (record { x = places_in q0; y = places_in q1; z = places_in q2 }) }
 {
     let mut found = Triplet {
         step: Step::Empty,
-        x: 0,
-        y: 0,
-        z: 0,
+        choice: Choice { x: 0, y: 0, z: 0 },
     };
     if q0.count == 0 || q1.count == 0 || q2.count == 0 {
         return Ok(found);
@@ -172,7 +144,12 @@ pub fn search_choices(
         for j in 0..q1.count {
             let y = place_in(q1, j);
             for k in 0..q2.count {
-                found = try_choice(table, found, x, y, place_in(q2, k), m)?;
+                let choice = Choice {
+                    x,
+                    y,
+                    z: place_in(q2, k),
+                };
+                found = try_choice(table, found, choice, m)?;
                 if is_closed(found.step) {
                     return Ok(found);
                 }

@@ -1,5 +1,5 @@
 // The triplet of a class, and the walk over the classes.
-ghost use Rattle.std.specs.Prelude.{◌≡◌, ◌++◌, ◌+◌, ◌*◌, ◌≤◌, ◌<◌, length, take, drop, IfOk};
+ghost use Rattle.std.specs.Prelude.{◌≡◌, ◌++◌, ◌+◌, ◌*◌, ◌≤◌, ◌<◌, length, take, drop};
 ghost use Rattle.common.specs.Tested.{giving, ◌then◌};
 ghost use Rattle.common.specs.Array.{vector_of, Sized};
 ghost use Rattle.grgrid.specs.Grid.{size};
@@ -8,7 +8,7 @@ ghost use Rattle.grgrid.specs.Sides.{sides};
 ghost use Rattle.bzgrid.specs.declared.GridType.TheVariants.{Sparse, Dense};
 ghost use Rattle.bztable.specs.Reading.{got, vector_read};
 ghost use Rattle.bz_triplets.specs.BzTriplets.{places_read, chosen, first_of, triplet_of, read_each, places_of, mark_of, length_of, triplet_list, marks, lengths};
-ghost use Rattle.bz_triplets.specs.TripletsView.{state_of, state_read, places_listed, walk_by, step_place, TripletFits, Room};
+ghost use Rattle.bz_triplets.specs.TripletsView.{state_of, state_read, places_listed, walk_by, step_place, Room};
 
 use crate::choices;
 use crate::choices::{Measure, Step, Triplet};
@@ -64,8 +64,7 @@ fn places_at(table: &Table, p: usize) -> Result<Places, Refusal>
 #[tactic(auto, unfolding(crate::specs::BzTriplets::chosen))]
 fn chosen(table: &Table, q0: usize, q1: usize, q2: usize, m: Measure) -> Result<Triplet, Refusal>
     requires { (q0 < 9223372036854775808) × (q1 < 9223372036854775808) × (q2 < 9223372036854775808) }
-    ensures value { state_read result ≡ chosen table.now.t (size (sides table.now.g)) table.now.map.now (walk_by m table.now.addresses.now) q0 q1 q2 }
-    ensures triplet_fits { IfOk result TripletFits }
+    ensures { state_read result ≡ chosen table.now.t (size (sides table.now.g)) table.now.map.now (walk_by m table.now.addresses.now) q0 q1 q2 }
 {
     let x = places_at(table, q0)?;
     let y = places_at(table, q1)?;
@@ -93,8 +92,7 @@ fn triplet_of(
     m: Measure,
 ) -> Result<Triplet, Refusal>
     requires { (q0 < 9223372036854775808) × (q1 < 9223372036854775808) }
-    ensures value { state_read result ≡ triplet_of table.now.t (sides table.now.g) table.now.map.now (walk_by m table.now.addresses.now) (vector_of a0.v) q0 q1 }
-    ensures triplet_fits { IfOk result TripletFits }
+    ensures { state_read result ≡ triplet_of table.now.t (sides table.now.g) table.now.map.now (walk_by m table.now.addresses.now) (vector_of a0.v) q0 q1 }
 {
     let a1 = first_of(table, q1)?;
     let q2 = grgrid::grid_index_from_address(triplet_grid::third(a0, a1), table.g);
@@ -118,9 +116,8 @@ fn length_of(t: Triplet) -> f64
     ensures { result ≡ length_of (state_of t) }
 {
     match t.step {
-        Step::Closed => 0.0,
         Step::Left(x) => x,
-        Step::Empty => 0.0,
+        Step::Closed | Step::Empty => 0.0,
     }
 }
 
@@ -129,22 +126,21 @@ fn place_of(s: Step, place: usize) -> i64
     ensures { result ≡ step_place s place }
 {
     match s {
-        Step::Closed => place as i64,
-        Step::Left(_) => place as i64,
+        Step::Closed | Step::Left(_) => place as i64,
         Step::Empty => -1,
     }
 }
 
 // The three places of triplet `at`.
 fn store_places(out: &mut [i64], at: usize, t: Triplet)
-    requires fact_1 { TripletFits t }
-    requires fact_2 { at * 3 + 3 ≤ length out.old }
+    requires { at * 3 + 3 ≤ length out.old }
     ensures { out.new ≡ take (at * 3) out.old ++ (places_of (state_of t) ++ drop (at * 3 + 3) out.old) }
 {
     let s = t.step;
-    out[at * 3] = place_of(s, t.x);
-    out[at * 3 + 1] = place_of(s, t.y);
-    out[at * 3 + 2] = place_of(s, t.z);
+    let c = t.choice;
+    out[at * 3] = place_of(s, c.x);
+    out[at * 3 + 1] = place_of(s, c.y);
+    out[at * 3 + 2] = place_of(s, c.z);
 }
 
 // A triplet for each entry of the class map that equals its own place, from the lowest up.

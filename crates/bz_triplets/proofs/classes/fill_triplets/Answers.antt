@@ -25,7 +25,7 @@ returns-in_err-found-clause-out_after c =
     let whole : SFits w64 z = search rules in
     let own = entry_place z c.loop-q1.q1 (entry-is z c.loop-q1.q1 whole.sfits (omega arith) c.if-class_map-q1.true) in
     let p = err_from_is_err_and c.from_residual.result c.from_residual.ensures.1 in
-    rw (p.1, p.2) (filled-refused (triplet s.table.now s.m s.a0.v s.q0) s.class_map.now c.loop-q1.invariant (λ l. got (triplet_list l)) c.loop-q1-test.true own (sym c.in_err-found.ensures.value))
+    rw (p.1, p.2) (filled-refused (triplet s.table.now s.m s.a0.v s.q0) s.class_map.now c.loop-q1.invariant (λ l. got (triplet_list l)) c.loop-q1-test.true own (sym c.in_err-found.ensures))
 
 pub returns-in_err-found-clause-left_after : goal.returns-in_err-found-clause-left_after
 returns-in_err-found-clause-left_after c =
@@ -34,7 +34,7 @@ returns-in_err-found-clause-left_after c =
     let whole : SFits w64 z = search rules in
     let own = entry_place z c.loop-q1.q1 (entry-is z c.loop-q1.q1 whole.sfits (omega arith) c.if-class_map-q1.true) in
     let p = err_from_is_err_and c.from_residual.result c.from_residual.ensures.1 in
-    rw (p.1, p.2) (filled-refused (triplet s.table.now s.m s.a0.v s.q0) s.class_map.now c.loop-q1.invariant (λ l. got (marks l)) c.loop-q1-test.true own (sym c.in_err-found.ensures.value))
+    rw (p.1, p.2) (filled-refused (triplet s.table.now s.m s.a0.v s.q0) s.class_map.now c.loop-q1.invariant (λ l. got (marks l)) c.loop-q1-test.true own (sym c.in_err-found.ensures))
 
 pub returns-in_err-found-clause-left_length_after : goal.returns-in_err-found-clause-left_length_after
 returns-in_err-found-clause-left_length_after c =
@@ -43,10 +43,10 @@ returns-in_err-found-clause-left_length_after c =
     let whole : SFits w64 z = search rules in
     let own = entry_place z c.loop-q1.q1 (entry-is z c.loop-q1.q1 whole.sfits (omega arith) c.if-class_map-q1.true) in
     let p = err_from_is_err_and c.from_residual.result c.from_residual.ensures.1 in
-    rw (p.1, p.2) (filled-refused (triplet s.table.now s.m s.a0.v s.q0) s.class_map.now c.loop-q1.invariant (λ l. got (lengths l)) c.loop-q1-test.true own (sym c.in_err-found.ensures.value))
+    rw (p.1, p.2) (filled-refused (triplet s.table.now s.m s.a0.v s.q0) s.class_map.now c.loop-q1.invariant (λ l. got (lengths l)) c.loop-q1-test.true own (sym c.in_err-found.ensures))
 
-pub store_places-requires-clause-fact_2 : goal.store_places-requires-clause-fact_2
-store_places-requires-clause-fact_2 c =
+pub store_places-requires : goal.store_places-requires
+store_places-requires c =
     let s = c.args in
     let z = get_or s.class_map.now c.loop-q1.q1 (pos 0) in
     let whole : SFits w64 z = search rules in
@@ -63,7 +63,7 @@ loop-q1-preserved c =
           let z = get_or s.class_map.now c.loop-q1.q1 (pos 0) in
           let whole : SFits w64 z = search rules in
           let own = entry_place z c.loop-q1.q1 (entry-is z c.loop-q1.q1 whole.sfits (omega arith) w.if-class_map-q1.true) in
-          let d = filled_more f s.class_map.now l.invariant c.loop-q1-test.true own (state_of w.in_ok-found.found) (sym w.in_ok-found.ensures.value) in
+          let d = filled_more f s.class_map.now l.invariant c.loop-q1-test.true own (state_of w.in_ok-found.found) (sym w.in_ok-found.ensures) in
           let m : to_z w64 (of_z w64 w.mark_of.result) ≡ w.mark_of.result = search rules in
           filled-as w.at-is (w.out-is ∙ w.store_places.ensures) (w.left-is ∙ ap (set l.left l.at) (m ∙ w.mark_of.ensures)) (w.left_length-is ∙ ap (set l.left_length l.at) w.length_of.ensures) d
       | else-class_map-q1 w ↦ filled-as w.at-is w.out-is w.left-is w.left_length-is (filled_on f s.class_map.now l.invariant (entry_other (get_or s.class_map.now l.q1 (pos 0)) l.q1 w.if-class_map-q1.false))

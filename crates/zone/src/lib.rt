@@ -8,6 +8,7 @@ ghost use Rattle.zone_steps.specs.StepsView.{rooms, lists, Listed};
 ghost use Rattle.zone.specs.ChainView.{job};
 
 use common::Refusal;
+use zone_steps::Given;
 
 // The diagonal and the number of classes.
 #[derive(Clone, Copy)]
@@ -60,16 +61,19 @@ fn run_chain(
     let s = snf3x3::snf3x3(a)?;
     let d = s.d_diag;
     let q = s.q;
-    zone_steps::list_in_basis(
+    let g = Given {
         d,
-        integer_matrix::nested(q),
+        q: integer_matrix::nested(q),
         rotations,
         lattice,
-        ps,
         is_time_reversal,
         swappable,
         bz_grid_type,
         q0,
+    };
+    zone_steps::list_in_basis(
+        &g,
+        ps,
         addresses,
         map,
         grg,

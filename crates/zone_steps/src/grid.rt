@@ -9,10 +9,23 @@ ghost use Rattle.grgrid.specs.Grid.{size};
 ghost use Rattle.bzgrid.specs.BzGridAddresses.{grid_type_of};
 ghost use Rattle.triplet_grid.specs.IrTriplets.{triplet_tests, map_triplets_written, map_qwritten};
 ghost use Rattle.zone_steps.specs.Steps.{start_of, list_tests, lists_of};
-ghost use Rattle.zone_steps.specs.StepsView.{grid, lists, Roomy, Chosen};
+ghost use Rattle.zone_steps.specs.StepsView.{given_grid, lists, Roomy, Chosen};
 
 use bzgrid::GridType;
 use common::Refusal;
+
+// A grid, and what is asked of it. The rotations have nine numbers each.
+#[derive(Clone, Copy)]
+pub struct Given<'a> {
+    pub d: [i64; 3],
+    pub q: [[i64; 3]; 3],
+    pub rotations: &'a [i64],
+    pub lattice: [[f64; 3]; 3],
+    pub is_time_reversal: bool,
+    pub swappable: bool,
+    pub bz_grid_type: i64,
+    pub q0: i64,
+}
 
 // In the first n places of the two maps.
 fn number_classes(
@@ -109,14 +122,7 @@ pub fn wipe_lists(
 
 // Classes and triplets of n points, from tables that were built. A refusal may leave anything in the outputs.
 pub fn list_classes(
-    q0: i64,
-    d: [i64; 3],
-    q: [[i64; 3]; 3],
-    rotations: &[i64],
-    lattice: [[f64; 3]; 3],
-    is_time_reversal: bool,
-    swappable: bool,
-    bz_grid_type: i64,
+    g: &Given,
     addresses: &[i64],
     map: &[i64],
     n: usize,
@@ -126,10 +132,10 @@ pub fn list_classes(
     left: &mut [i64],
     lengths: &mut [f64],
 ) -> Result<(), Refusal>
-    requires fact_1 { n ≡ size (sides_of d) }
+    requires fact_1 { n ≡ size (sides_of g.now.d) }
     requires fact_2 { Roomy n (length classes.old) (length points.old) (length triplets.old) (length left.old) (length lengths.old) }
-    ensures value { result ≡ list_tests (grid d q rotations.now lattice is_time_reversal swappable bz_grid_type q0) addresses.now map.now }
-    ensures lengths_after { result ≡ Accepted → lists classes.new points.new triplets.new left.new lengths.new ≡ lists_of (grid d q rotations.now lattice is_time_reversal swappable bz_grid_type q0) addresses.now map.now (length classes.old) }
+    ensures value { result ≡ list_tests (given_grid g.now) addresses.now map.now }
+    ensures lengths_after { result ≡ Accepted → lists classes.new points.new triplets.new left.new lengths.new ≡ lists_of (given_grid g.now) addresses.now map.now (length classes.old) }
 {
     wipe_lists(
         &mut *classes,
@@ -139,25 +145,25 @@ pub fn list_classes(
         &mut *lengths,
     );
     number_classes(
-        q0,
-        d,
-        rotations,
-        is_time_reversal,
-        swappable,
+        g.q0,
+        g.d,
+        g.rotations,
+        g.is_time_reversal,
+        g.swappable,
         n,
         &mut *classes,
         &mut *points,
     )?;
-    let start = start_of(bz_grid_type, map, q0);
+    let start = start_of(g.bz_grid_type, map, g.q0);
     choose_triplets(
         start,
         addresses,
         map,
         &classes[0..n],
-        d,
-        q,
-        lattice,
-        bz_grid_type,
+        g.d,
+        g.q,
+        g.lattice,
+        g.bz_grid_type,
         triplets,
         left,
         lengths,

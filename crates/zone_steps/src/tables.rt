@@ -2,23 +2,17 @@
 ghost use Rattle.std.specs.Prelude.{◌≡◌, T, length};
 ghost use Rattle.common.specs.Limits.{diagonal_fits};
 ghost use Rattle.common.specs.Tested.{after, Accepted};
-ghost use Rattle.zone_steps.specs.Steps.{transformed, rotation_tests, grid_tests};
-ghost use Rattle.zone_steps.specs.StepsView.{grid, rooms, lists, Agreed, Listed};
+ghost use Rattle.zone_steps.specs.Steps.{rotation_tests, grid_tests};
+ghost use Rattle.zone_steps.specs.StepsView.{given_grid, turned_grid, rooms, lists, Agreed, Listed};
 
+use crate::grid::Given;
 use crate::{basis, grid};
 use common::Refusal;
 
 // Images, classes and triplets, of rotations in the basis of the grid. A refusal may leave anything in the outputs.
 fn list_grid(
-    d: [i64; 3],
-    q: [[i64; 3]; 3],
-    rotations: &[i64],
-    lattice: [[f64; 3]; 3],
+    g: &Given,
     ps: [i64; 3],
-    is_time_reversal: bool,
-    swappable: bool,
-    bz_grid_type: i64,
-    q0: i64,
     addresses: &mut [i64],
     map: &mut [i64],
     grg: &mut [i64],
@@ -28,56 +22,34 @@ fn list_grid(
     left: &mut [i64],
     lengths: &mut [f64],
 ) -> Result<(), Refusal>
-    requires fact_1 { T (diagonal_fits d) }
+    requires fact_1 { T (diagonal_fits g.now.d) }
     requires fact_2 { Agreed (length classes.old) (length points.old) (length triplets.old) (length left.old) (length lengths.old) }
-    ensures value { result ≡ grid_tests (grid d q rotations.now lattice is_time_reversal swappable bz_grid_type q0) ps (rooms (length addresses.old) (length map.old) (length grg.old) (length classes.old) (length points.old) (length triplets.old) (length left.old) (length lengths.old)) }
-    ensures listed { result ≡ Accepted → Listed (grid d q rotations.now lattice is_time_reversal swappable bz_grid_type q0) ps (rooms (length addresses.old) (length map.old) (length grg.old) (length classes.old) (length points.old) (length triplets.old) (length left.old) (length lengths.old)) addresses.new map.new grg.new (lists classes.new points.new triplets.new left.new lengths.new) }
+    ensures value { result ≡ grid_tests (given_grid g.now) ps (rooms (length addresses.old) (length map.old) (length grg.old) (length classes.old) (length points.old) (length triplets.old) (length left.old) (length lengths.old)) }
+    ensures listed { result ≡ Accepted → Listed (given_grid g.now) ps (rooms (length addresses.old) (length map.old) (length grg.old) (length classes.old) (length points.old) (length triplets.old) (length left.old) (length lengths.old)) addresses.new map.new grg.new (lists classes.new points.new triplets.new left.new lengths.new) }
 {
-    let n = grgrid::points(grgrid::grid_of(d));
+    let n = grgrid::points(grgrid::grid_of(g.d));
     if classes.len() < n {
         return Err(Refusal::WrongLength);
     }
     bzgrid::bz_grid_addresses(
-        d,
-        q,
+        g.d,
+        g.q,
         ps,
-        lattice,
-        bz_grid_type,
+        g.lattice,
+        g.bz_grid_type,
         &mut *addresses,
         &mut *map,
         &mut *grg,
     )?;
     grid::list_classes(
-        q0,
-        d,
-        q,
-        rotations,
-        lattice,
-        is_time_reversal,
-        swappable,
-        bz_grid_type,
-        addresses,
-        map,
-        n,
-        classes,
-        points,
-        triplets,
-        left,
-        lengths,
+        g, addresses, map, n, classes, points, triplets, left, lengths,
     )
 }
 
 // Of rotations as they stand.
 pub fn list_in_basis(
-    d: [i64; 3],
-    q: [[i64; 3]; 3],
-    rotations: &[i64],
-    lattice: [[f64; 3]; 3],
+    g: &Given,
     ps: [i64; 3],
-    is_time_reversal: bool,
-    swappable: bool,
-    bz_grid_type: i64,
-    q0: i64,
     addresses: &mut [i64],
     map: &mut [i64],
     grg: &mut [i64],
@@ -88,21 +60,24 @@ pub fn list_in_basis(
     lengths: &mut [f64],
 ) -> Result<(), Refusal>
     requires { Agreed (length classes.old) (length points.old) (length triplets.old) (length left.old) (length lengths.old) }
-    ensures value { result ≡ after (rotation_tests rotations.now is_time_reversal d q) (grid_tests (grid d q (transformed rotations.now is_time_reversal d q) lattice is_time_reversal swappable bz_grid_type q0) ps (rooms (length addresses.old) (length map.old) (length grg.old) (length classes.old) (length points.old) (length triplets.old) (length left.old) (length lengths.old))) }
-    ensures listed { result ≡ Accepted → Listed (grid d q (transformed rotations.now is_time_reversal d q) lattice is_time_reversal swappable bz_grid_type q0) ps (rooms (length addresses.old) (length map.old) (length grg.old) (length classes.old) (length points.old) (length triplets.old) (length left.old) (length lengths.old)) addresses.new map.new grg.new (lists classes.new points.new triplets.new left.new lengths.new) }
+    ensures value { result ≡ after (rotation_tests g.now.rotations.now g.now.is_time_reversal g.now.d g.now.q) (grid_tests (turned_grid g.now) ps (rooms (length addresses.old) (length map.old) (length grg.old) (length classes.old) (length points.old) (length triplets.old) (length left.old) (length lengths.old))) }
+    ensures listed { result ≡ Accepted → Listed (turned_grid g.now) ps (rooms (length addresses.old) (length map.old) (length grg.old) (length classes.old) (length points.old) (length triplets.old) (length left.old) (length lengths.old)) addresses.new map.new grg.new (lists classes.new points.new triplets.new left.new lengths.new) }
 {
     let mut turned = [0; 432];
-    let n = basis::turn_rotations(rotations, is_time_reversal, d, q, &mut turned)?;
+    let n = basis::turn_rotations(g.rotations, g.is_time_reversal, g.d, g.q, &mut turned)?;
+    let turned_given = Given {
+        d: g.d,
+        q: g.q,
+        rotations: &turned[0..n * 9],
+        lattice: g.lattice,
+        is_time_reversal: g.is_time_reversal,
+        swappable: g.swappable,
+        bz_grid_type: g.bz_grid_type,
+        q0: g.q0,
+    };
     list_grid(
-        d,
-        q,
-        &turned[0..n * 9],
-        lattice,
+        &turned_given,
         ps,
-        is_time_reversal,
-        swappable,
-        bz_grid_type,
-        q0,
         addresses,
         map,
         grg,

@@ -2,20 +2,19 @@ use mathlib.Core.Path.{◌≡◌, ◌∙◌, ap}
 use Prim.Native.Nat.{◌≤◌}
 use native.Mathlib.Omega.{arith}
 use lib.ListN.{length}
-use mir.Facts.{to_z-of_z}
 use borrow.Author.Rules.{rules}
 use Rattle.std.specs.Prelude.{Err}
 use Rattle.common.specs.Tested.{without_value}
 use Rattle.grgrid.specs.Grid.{size}
-use Rattle.zone_steps.specs.Steps.{points_of, list_tests, lists_of}
-use Rattle.zone_steps.specs.StepsView.{grid, rooms}
+use Rattle.zone_steps.specs.Steps.{points_of}
+use Rattle.zone_steps.specs.StepsView.{given_grid, rooms}
 use Rattle.zone_steps.proofs.ListedGrid.{no_room, images-refused, grid-tested, grid-listed}
 use Rattle.zone_steps.proofs.tables.list_grid.Goals as goal
 
 pub returns-then-classes-n-clause-value : goal.returns-then-classes-n-clause-value
 returns-then-classes-n-clause-value c =
     let s = c.args in
-    no_room (grid s.d s.q s.rotations.now s.lattice s.is_time_reversal s.swappable s.bz_grid_type s.q0) s.ps
+    no_room (given_grid s.g.now) s.ps
     (rooms (length s.addresses.now) (length s.map.now) (length s.grg.now) (length s.classes.now) (length s.points.now) (length s.triplets.now) (length s.left.now) (length s.lengths.now))
     (c.points-n.ensures ∙ ap size c.grid_of.ensures) c.if-classes-n.true
 
@@ -25,36 +24,30 @@ returns-in_err-bz_grid_addresses-clause-value c =
     let e : c.from_residual.result ≡ Err c.in_err-bz_grid_addresses.field-0.0 = search rules in
     let z = c.if-classes-n.false in
     e
-    ∙ images-refused (grid s.d s.q s.rotations.now s.lattice s.is_time_reversal s.swappable s.bz_grid_type s.q0) s.ps
+    ∙ images-refused (given_grid s.g.now) s.ps
     (rooms (length s.addresses.now) (length s.map.now) (length s.grg.now) (length s.classes.now) (length s.points.now) (length s.triplets.now) (length s.left.now) (length s.lengths.now))
-    (c.points-n.ensures ∙ ap size c.grid_of.ensures) (omega arith) (to_z-of_z c.ranges.bz_grid_type) (ap without_value c.bz_grid_addresses.ensures.value) (ap without_value c.in_err-bz_grid_addresses.was)
+    (c.points-n.ensures ∙ ap size c.grid_of.ensures) (omega arith) (search rules) (ap without_value c.bz_grid_addresses.ensures.value) (ap without_value c.in_err-bz_grid_addresses.was)
 
 pub returns-clause-value : goal.returns-clause-value
 returns-clause-value c =
     let s = c.args in
     let b = c.bz_grid_addresses in
-    let g = grid s.d s.q s.rotations.now s.lattice s.is_time_reversal s.swappable in
-    let eu = to_z-of_z c.ranges.bz_grid_type in
-    let ei = to_z-of_z c.ranges.q0 in
-    let n : c.points-n.result ≡ points_of (g s.bz_grid_type s.q0) = c.points-n.ensures ∙ ap size c.grid_of.ensures in
+    let n : c.points-n.result ≡ points_of (given_grid s.g.now) = c.points-n.ensures ∙ ap size c.grid_of.ensures in
     let z = c.if-classes-n.false in
     let fits : c.points-n.result ≤ length s.classes.now = omega arith in
-    grid-tested (g s.bz_grid_type s.q0) s.ps
+    grid-tested (given_grid s.g.now) s.ps
     (rooms (length s.addresses.now) (length s.map.now) (length s.grg.now) (length s.classes.now) (length s.points.now) (length s.triplets.now) (length s.left.now) (length s.lengths.now))
-    n fits eu (ap without_value b.ensures.value) (ap without_value c.in_ok-bz_grid_addresses.was) b.ensures.addresses_after b.ensures.map_after b.ensures.grg_after
-    (c.list_classes.ensures.value ∙ (λ i. list_tests (g (eu i) (ei i)) b.new.addresses b.new.map))
+    n fits (search rules) (ap without_value b.ensures.value) (ap without_value c.in_ok-bz_grid_addresses.was) b.ensures.addresses_after b.ensures.map_after b.ensures.grg_after
+    c.list_classes.ensures.value
 
 pub returns-clause-listed : goal.returns-clause-listed
 returns-clause-listed c k =
     let s = c.args in
     let b = c.bz_grid_addresses in
-    let g = grid s.d s.q s.rotations.now s.lattice s.is_time_reversal s.swappable in
-    let eu = to_z-of_z c.ranges.bz_grid_type in
-    let ei = to_z-of_z c.ranges.q0 in
-    let n : c.points-n.result ≡ points_of (g s.bz_grid_type s.q0) = c.points-n.ensures ∙ ap size c.grid_of.ensures in
+    let n : c.points-n.result ≡ points_of (given_grid s.g.now) = c.points-n.ensures ∙ ap size c.grid_of.ensures in
     let z = c.if-classes-n.false in
     let fits : c.points-n.result ≤ length s.classes.now = omega arith in
-    grid-listed (g s.bz_grid_type s.q0) s.ps
+    grid-listed (given_grid s.g.now) s.ps
     (rooms (length s.addresses.now) (length s.map.now) (length s.grg.now) (length s.classes.now) (length s.points.now) (length s.triplets.now) (length s.left.now) (length s.lengths.now))
-    n fits eu (ap without_value b.ensures.value) (ap without_value c.in_ok-bz_grid_addresses.was) b.ensures.addresses_after b.ensures.map_after b.ensures.grg_after
-    (c.list_classes.ensures.lengths_after k ∙ (λ i. lists_of (g (eu i) (ei i)) b.new.addresses b.new.map (length s.classes.now)))
+    n fits (search rules) (ap without_value b.ensures.value) (ap without_value c.in_ok-bz_grid_addresses.was) b.ensures.addresses_after b.ensures.map_after b.ensures.grg_after
+    (c.list_classes.ensures.lengths_after k)

@@ -5,9 +5,9 @@ use mathlib.Core.List.{List, [], ◌∷◌}
 use Prim.Native.Nat.{ℕ, ◌*◌, ◌<◌}
 use native.Mathlib.Omega.{arith}
 use lib.Dec.{T, eqb, leb, leb→le}
-use lib.IntN.{ℤ, pos, negsuc}
+use lib.IntN.{ℤ, pos}
 use lib.Ieee.{Float}
-use lib.ListN.{length, replicate}
+use lib.ListN.{length}
 use borrow.Author.Tests.{eqb-true, eq-eqb, ne_eqb}
 use mir.Syntax.{w64}
 use mir.Val.{to_z}
@@ -24,13 +24,10 @@ use Rattle.bztable.specs.declared.rotate.Rotated.{Rotated}
 use Rattle.bzsearch.specs.SearchView.{float_nine}
 use Rattle.bzgrid.specs.BzGridAddresses.{has_room, input_tests, bz_answer, addresses_written, map_written, grg_written}
 use Rattle.bztable.specs.Rotate.{rotate_tests, rotate_read, rotate_answer}
-use Rattle.bztable.specs.Neighbours.{input_tests as neighbour_input, neighbours_read, neighbour_tests, neighbours_answer, neighbours_written}
+use Rattle.bztable.specs.Neighbours.{input_tests as neighbour_input, neighbours_read, neighbours_answer, neighbours_written}
 use Rattle.bztable.proofs.AcceptedCall.{call-accepted}
 use Rattle.answers.specs.Images.{image_lengths, images_told, Held, LengthsFit, BzGridAddressesTold, rotate_lengths, rotated_told, RotateTold, NeighboursTold}
-use Rattle.answers.proofs.Lengths.{taken, left, both, three-lengths}
-
-abbrev unwritten : ℕ → List ℤ
-unwritten n = replicate n (negsuc 0)
+use Rattle.answers.proofs.Lengths.{taken, left, both, three-lengths, unwritten}
 
 -- ---- image tables
 -- a length that a place holds
@@ -152,7 +149,7 @@ module _ (points offsets addresses map d : List ℤ) (t : ℤ) (n : ℕ) where
 
     pub neighbours-passed : length d ≡ 3 → {u : List ℤ} {z : ℤ} {b : Tested} → z ≡ t → u ≡ row_at d 0 → b ≡ neighbours_answer points offsets addresses map u z n → out ≡ neighbours_written points offsets addresses map u z n
         → r ≡ answer_of b → NeighboursTold points offsets addresses map d t n r out
-    unfolding neighbour_input neighbours_read neighbour_tests neighbours_answer neighbours_written
+    unfolding neighbour_input neighbours_read neighbours_answer neighbours_written
     neighbours-passed h ez eu eb eo er = let e = eq-eqb (length d) 3 h in record {
       answer = er ∙ ap answer_of (eb ∙ ap₂ (λ u z. neighbours_answer points offsets addresses map u z n) eu ez) ∙ taken (answer_of found) (pos (number_of WrongLength)) e;
       written = eo ∙ ap₂ (λ u z. neighbours_written points offsets addresses map u z n) eu ez ∙ taken listed (unwritten n) e;

@@ -11,7 +11,7 @@ use Rattle.common.specs.declared.Refusal.TheVariants.{WrongLength}
 use Rattle.common.specs.Refusal.{number_of}
 use Rattle.common.specs.Array.{row_at, rows, matrix_at}
 use Rattle.bzsearch.specs.SearchView.{float_nine}
-use Rattle.bz_triplets.specs.BzTriplets.{input_tests, triplets_read, bz_triplet_tests, bz_triplets_answer, triplets_written, left_written, left_length_written}
+use Rattle.bz_triplets.specs.BzTriplets.{input_tests, triplets_read, states_read, bz_triplets_answer, triplets_written, left_written, left_length_written}
 use Rattle.answers.specs.Triplets.{triplet_lengths, BzTripletsTold}
 use Rattle.answers.proofs.Lengths.{taken, left, three-lengths}
 
@@ -50,7 +50,7 @@ module _ (q0 : ℤ) (addresses map classes d q : List ℤ) (lattice : List Float
         → {i z : ℤ} {u : List ℤ} {a : List (List ℤ)} {f : List (List Float)} {b : Tested} → i ≡ q0 → z ≡ t → u ≡ row_at d 0 → a ≡ rows (matrix_at q 0) → f ≡ rows (float_nine lattice)
         → b ≡ bz_triplets_answer i addresses map classes u a f z n m l → out ≡ triplets_written i addresses map classes u a f z n m l → marks ≡ left_written i addresses map classes u a f z n m l
         → lefts ≡ left_length_written i addresses map classes u a f z n m l → r ≡ answer_of b → BzTripletsTold q0 addresses map classes d q lattice t n m l r out marks lefts
-    unfolding input_tests triplets_read bz_triplet_tests bz_triplets_answer triplets_written left_written left_length_written
+    unfolding input_tests triplets_read states_read bz_triplets_answer triplets_written left_written left_length_written
     triplets-passed e {i} {z} {u} {a} {f} {b} ei ez eu ea ef eb eo em el er = record {
       answer = er ∙ ap answer_of (eb ∙ over (λ i u a f z. bz_triplets_answer i addresses map classes u a f z n m l)) ∙ taken (answer_of answer) (pos (number_of WrongLength)) e;
       written = eo ∙ over (λ i u a f z. triplets_written i addresses map classes u a f z n m l) ∙ taken written (replicate n (negsuc 0)) e;

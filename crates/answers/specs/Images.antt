@@ -1,7 +1,7 @@
 -- What the exports of bzgrid answer and leave in their outputs.
-use Rattle.std.specs.Prelude.{◌≡◌, Bool, ◌&&◌, List, [], ◌∷◌, ℕ, ◌<◌, eqb, ℤ, pos, negsuc, Float, length, replicate, Result, Ok, Err}
+use Rattle.std.specs.Prelude.{◌≡◌, Bool, ◌&&◌, List, [], ◌∷◌, ℕ, ◌<◌, eqb, ℤ, pos, negsuc, Float, length, replicate, Result, Ok}
 use Rattle.common.specs.declared.Refusal.{Refusal}
-use Rattle.common.specs.Tested.{Tested, answer_of, told_of}
+use Rattle.common.specs.Tested.{answer_of, told_of}
 use Rattle.integer.specs.Checked.{pick}
 use Rattle.common.specs.declared.Refusal.TheVariants.{WrongLength}
 use Rattle.common.specs.Refusal.{number_of}

@@ -1,5 +1,5 @@
 -- What an export of the reciprocal point group answers, and what it leaves in its outputs: the list, and its count in one place.
-use Rattle.std.specs.Prelude.{◌≡◌, List, [], ◌∷◌, ℕ, eqb, ℤ, pos, negsuc, replicate, Result, Ok, Err}
+use Rattle.std.specs.Prelude.{◌≡◌, List, [], ◌∷◌, ℕ, eqb, ℤ, pos, negsuc, replicate, Result}
 use Rattle.common.specs.Tested.{answer_of, told_of}
 use Rattle.common.specs.declared.Refusal.{Refusal}
 use Rattle.integer.specs.Checked.{pick}

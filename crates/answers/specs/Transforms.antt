@@ -1,6 +1,6 @@
 -- What the export of transform_rotations answers and leaves in its output.
-use Rattle.std.specs.Prelude.{◌≡◌, Bool, ◌&&◌, List, ℕ, eqb, ℤ, pos, negsuc, length, replicate, Ok, Err}
-use Rattle.common.specs.Tested.{Tested, answer_of}
+use Rattle.std.specs.Prelude.{◌≡◌, Bool, ◌&&◌, List, ℕ, eqb, ℤ, pos, negsuc, length, replicate}
+use Rattle.common.specs.Tested.{answer_of}
 use Rattle.integer.specs.Checked.{pick}
 use Rattle.common.specs.declared.Refusal.TheVariants.{WrongLength}
 use Rattle.common.specs.Refusal.{number_of}

@@ -1,10 +1,9 @@
 -- What the exports of triplet_grid and bz_triplets answer and leave in their outputs.
-use Rattle.std.specs.Prelude.{◌≡◌, Bool, ◌&&◌, List, [], ◌∷◌, ℕ, eqb, ℤ, pos, negsuc, length, replicate, Float, Result, Ok, Err}
+use Rattle.std.specs.Prelude.{◌≡◌, Bool, ◌&&◌, List, ℕ, eqb, ℤ, pos, negsuc, length, replicate, Float}
 use Rattle.std.specs.Float.{binary64}
 use Rattle.std.specs.Float.Ieee.{of_int}
 use Rattle.answers.specs.Grids.{classes_told}
-use Rattle.common.specs.declared.Refusal.{Refusal}
-use Rattle.common.specs.Tested.{Tested, answer_of}
+use Rattle.common.specs.Tested.{answer_of}
 use Rattle.integer.specs.Checked.{pick}
 use Rattle.common.specs.declared.Refusal.TheVariants.{WrongLength}
 use Rattle.common.specs.Refusal.{number_of}

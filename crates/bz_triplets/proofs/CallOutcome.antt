@@ -1,6 +1,6 @@
 -- What accepted tests say of the input of `bz_triplets_at_q`, and its answer and outputs from those of the walk over the classes.
 use mathlib.Core.Path.{◌≡◌, refl, sym, ◌∙◌, ap, ap₂}
-use mathlib.Core.Bool.{Bool, true, false, false≢true, ◌&&◌, ◌||◌}
+use mathlib.Core.Bool.{Bool, ◌&&◌, ◌||◌}
 use mathlib.Core.List.{List}
 use Prim.Native.Nat.{ℕ, ◌*◌, ◌<◌}
 use native.Mathlib.Nat.{lt_of_lt_of_le, le_trans}
@@ -23,7 +23,7 @@ use Rattle.common.specs.Limits.{matrix_within, diagonal_fits, point_fits}
 use Rattle.common.specs.Tested.{require, giving, filled_or, output_of, Tested, Accepted, ◌then◌}
 use Rattle.common.specs.declared.Refusal.{Refusal}
 use Rattle.common.specs.declared.Refusal.TheVariants.{WrongLength, OutsideLimits}
-use Rattle.common.proofs.Tests.{same-ok}
+use Rattle.common.proofs.Tests.{same-ok, refused-not-ok}
 use Rattle.grgrid.specs.Grid.{size}
 use Rattle.grgrid.specs.Sides.{GridFits}
 use Rattle.grgrid.specs.Own.{own_places, own_points}
@@ -37,13 +37,10 @@ use Rattle.bztable.specs.Reading.{Read, got, whole_addresses, address_of, list_o
 use Rattle.bz_triplets.specs.BzTriplets.{State, Walk, walk_of, point_of, triplet_of, triplet_at, read_each, is_dense, input_tests, triplets_read, states_read, triplet_list, marks, lengths, bz_triplets_answer, triplets_written, left_written, left_length_written}
 use Rattle.bz_triplets.specs.TripletsView.{Room}
 
-pub not-refused : {A : Type 0} {x : A} {r : Refusal} → ◌≡◌ {A = Read A} (Err r) (got x) → ⊥
-not-refused e = let z : ◌≡◌ {A = Bool} false true = cc in absurd (false≢true z)
-
 -- ---- an address that was read was asked for by a number that is not negative
 pub asked-for : (addresses : List ℤ) (q0 : ℤ) {a : Vec ℤ} → got a ≡ address_of addresses q0 → T (non_neg q0)
 asked-for addresses (pos n) e = tt
-asked-for addresses (negsuc n) e = absurd (not-refused (sym e))
+asked-for addresses (negsuc n) e = absurd (refused-not-ok (sym e))
 
 -- which then fits, as does the grid point of q0
 pub whole_below : {z : ℤ} → SFits w64 z → T (non_neg (held z)) → nat_abs (held z) < 9223372036854775808
@@ -171,7 +168,7 @@ module _ (i : Input) where
         where
           go : (y : Read (List State)) → got x ≡ (y then λ l. got (f l)) → x ≡ f (list_of y)
           go (Ok l) h = same-ok h
-          go (Err e) h = absurd (not-refused (sym h))
+          go (Err e) h = absurd (refused-not-ok (sym h))
 
   -- ---- the outputs of the call
   module _ {s : Tested} (e : s ≡ answer) where

@@ -13,7 +13,7 @@ ghost use Rattle.bzsearch.specs.SearchView.{point_split, float_nine, search_of, 
 use crate::lattice;
 use crate::types::{Basis, BzSearch, Candidate, Point, Range, Span, Split};
 use common::{Bounded, BoundedMatrix, Shift};
-use grgrid::Address;
+use grgrid::{Address, GridPoint};
 
 // A cofactor times the determinant, which is 1 or -1: the same as over it. `common::cross` asks by a test of its own that each product fits, which the check
 // does not find from sizes, as it does here.
@@ -233,7 +233,8 @@ impl BzSearch {
         ensures address_value { result.address.v ≡ items (address (search_of self).d i) }
         ensures result_value { point_split result ≡ split_reduced (search_of self) (address (search_of self).d i) }
     {
-        let address = grgrid::grid_address_from_index(i, grgrid::grid_of(self.d_diag));
+        let g = grgrid::grid_of(self.d_diag);
+        let address = grgrid::grid_address_from_index(GridPoint { p: i, g });
         let s = self.split_reduced_coordinates(address);
         let s0 = s.s0;
         let n = s.nint;

@@ -1,5 +1,5 @@
 -- Accepted calls: the point that the class call takes, the counts of a map that the image call leaves, and what the triplet call has read.
-use mathlib.Core.Path.{◌≡◌, refl, ◌∙◌, ap, ap₂}
+use mathlib.Core.Path.{◌≡◌, refl, sym, ◌∙◌, ap}
 use mathlib.Core.Bool.{Bool, false}
 use mathlib.Core.List.Memᴰ.{head as here}
 use mathlib.Core.List.{List, ◌++◌}
@@ -13,7 +13,7 @@ use lib.ListN.{length}
 use Rattle.std.specs.Prelude.{Ok, Err, Result}
 use Rattle.common.specs.Matrix.{Vec}
 use Rattle.common.specs.Array.{sides_of, matrices}
-use Rattle.common.specs.Tested.{output_of, after, Tested, Accepted}
+use Rattle.common.specs.Tested.{output_of, after, Tested, Accepted, ◌then◌}
 use Rattle.common.specs.declared.Refusal.{Refusal}
 use Rattle.common.proofs.Tests.{not-accepted}
 use Rattle.grgrid.specs.Grid.{size, index}
@@ -21,21 +21,23 @@ use Rattle.grgrid.specs.ClassMap.{kept}
 use Rattle.grgrid.proofs.Lists.{◌∈◌}
 use Rattle.recip_rotations.specs.PointGroup.{room_tests}
 use Rattle.bzgrid.specs.declared.GridType.{GridType}
-use Rattle.bzgrid.specs.declared.GridType.TheVariants.{Sparse, Dense, Unknown}
+use Rattle.bzgrid.specs.declared.GridType.TheVariants.{Sparse, Dense}
 use Rattle.bzsearch.specs.Search.{rows, numbers_from}
 use Rattle.bzgrid.specs.Table.{Image, others}
 use Rattle.bzgrid.specs.BzGridAddresses.{grid_type_of, map_of}
-use Rattle.bztable.specs.Reading.{Read, got, triple_at, place_at, address_at, tests_after, list_of}
+use Rattle.bztable.specs.Reading.{Read, got, triple_at, place_at, address_at, list_of}
 use Rattle.bztable.specs.Access.{number_in, image_places}
 use Rattle.bztable.proofs.TableRead.{sparse-start}
 use Rattle.bzsearch.proofs.Listing.{length-rows}
 use Rattle.triplet_grid.specs.IrTriplets.{input_tests, triplet_tests, map_triplets_of, classes_at, ir_triplets_answer}
 use Rattle.triplet_grid.specs.IrTriplets as class
 use Rattle.triplet_grid.proofs.Outcome.{InputAccepted, input-accepted}
-use Rattle.bz_triplets.specs.BzTriplets.{State, first_of, point_of, triplet_list, triplets_read, bz_triplet_tests, bz_triplets_answer, triplets_written}
+use Rattle.bz_triplets.specs.BzTriplets.{State, first_of, point_of, triplet_list, triplets_read, states_read, bz_triplets_answer, triplets_written}
+use Rattle.bz_triplets.proofs.CallOutcome.{Input, input-accepted as call-input}
+use Rattle.bzgrid.proofs.Accepted.{passes-first}
 use Rattle.bz_triplets.specs.BzTriplets as triplet
 use Rattle.demand3.specs.FinishedList.{Starts}
-use Rattle.demand3.proofs.TableWalks.{Counts, not-got, then-got, place-got, address-got}
+use Rattle.demand3.proofs.TableWalks.{Counts, place-got, address-got}
 
 -- ---- the class call takes a point of the grid
 module _ (q0 : ℤ) (d rotations : List ℤ) (time_reversal swappable : Bool) (n m : ℕ) {k : ℤ} (e : ir_triplets_answer q0 d rotations time_reversal swappable n m ≡ Ok k) where
@@ -70,19 +72,16 @@ map-counts Sparse d g r p h =
       length-rows (others g) p,
     )
 map-counts Dense d g r p h = tt
-map-counts Unknown d g r p h = tt
 
 -- ---- where the triplet call starts
 module _ (map : List ℤ) (n q0 start : ℕ) where
   pub starts-in : (t : GridType) → Starts t map n q0 start → start ∈ image_places t map n q0
   starts-in Sparse e = here e
   starts-in Dense m = m
-  starts-in Unknown k = absurd k
 
   pub starts-point : (d : Vec ℕ) (t : GridType) → Starts t map n q0 start → (a : Vec ℤ) → index d a ≡ q0 → point_of d t start a ≡ q0
   starts-point d Sparse e a f = e
   starts-point d Dense m a f = f
-  starts-point d Unknown k a f = absurd k
 
 pub first-in : (a k : ℕ) → 0 < length (numbers_from (λ i. i) a k) → a ∈ numbers_from (λ i. i) a k
 first-in a zero h = absurd (not-suc-le-zero h)
@@ -93,37 +92,43 @@ pub first-got : (t : GridType) (map addresses : List ℤ) (n q1 : ℕ) → 0 < l
     → (i : ℕ) × (i ∈ image_places t map n q1) × (triple_at addresses i ≡ a)
 first-got Sparse map addresses n q1 h e = (q1, here refl, address-got addresses q1 e)
 first-got Dense map addresses n q1 h e =
-    let r = then-got (place_at map q1) (address_at addresses) e in
+    let r = passes-first (place_at map q1) (address_at addresses) e in
     (number_in map q1, first-in (number_in map q1) (number_in map (q1 + 1) - number_in map q1) h, ap (triple_at addresses) (place-got map q1 r.1) ∙ address-got addresses r.0 r.2)
-first-got Unknown map addresses n q1 h e = absurd (not-got e)
 
 -- ---- the triplet call has read every triplet, and leaves them
 pub record TripletsAccepted (q0 : ℤ) (addresses map classes d : List ℤ) (q : List (List ℤ)) (lattice : List (List Float)) (t : ℤ) (n m l : ℕ) : Type 0 where
+  pub kind : GridType
+  pub known : grid_type_of t ≡ Ok kind
   pub states : List State
-  pub read : triplets_read q0 addresses map classes d q lattice (grid_type_of t) ≡ got states
+  pub read : triplets_read q0 addresses map classes d q lattice kind ≡ got states
   pub written : triplets_written q0 addresses map classes d q lattice t n m l ≡ triplet_list states
 
 module _ (q0 : ℤ) (addresses map classes d : List ℤ) (q : List (List ℤ)) (lattice : List (List Float)) (t : ℤ) (n m l : ℕ)
     (e : bz_triplets_answer q0 addresses map classes d q lattice t n m l ≡ Accepted) where
-  abbrev tests : Tested
-  tests = bz_triplet_tests q0 addresses map classes d q lattice (grid_type_of t) n m l
+  abbrev reads : GridType → Read (List State)
+  reads = triplets_read q0 addresses map classes d q lattice
 
-  abbrev reads : Read (List State)
-  reads = triplets_read q0 addresses map classes d q lattice (grid_type_of t)
-
-  passed : tests ≡ Accepted
+  tests-passed : (k : GridType) × (triplet.input_tests q0 addresses classes d q lattice t n m l ≡ Ok k) × ((reads k then λ _. Accepted) ≡ Accepted)
   unfolding bz_triplets_answer
-  passed = e
+  tests-passed = passes-first (triplet.input_tests q0 addresses classes d q lattice t n m l) (λ k. reads k then λ _. Accepted) e
 
-  all_read : (s : List State) × (reads ≡ got s)
-  unfolding bz_triplet_tests
-  all_read = go (triplet.input_tests q0 addresses classes d q lattice (grid_type_of t) n m l) reads passed
-    where
-      go : (x : Tested) (r : Read (List State)) → tests_after x r ≡ Accepted → (s : List State) × (r ≡ got s)
-      go (Ok _) (Ok s) e = (s, refl)
-      go (Ok _) (Err r) e = absurd (not-accepted e)
-      go (Err r) s e = absurd (not-accepted e)
+  abbrev kind : GridType
+  kind = tests-passed.0
+
+  known : grid_type_of t ≡ Ok kind
+  known =
+      let i : Input = record { q0 = q0; addresses = addresses; map = map; classes = classes; d = d; q = q; lattice = lattice; t = t; n = n; m = m; l = l } in
+      (call-input i refl refl (sym tests-passed.1)).known
+
+  all_read : (s : List State) × (reads kind ≡ got s) × (Accepted ≡ Accepted)
+  all_read = passes-first (reads kind) (λ _. Accepted) tests-passed.2
 
   pub triplets-accepted : TripletsAccepted q0 addresses map classes d q lattice t n m l
-  unfolding triplets_written
-  triplets-accepted = record { states = all_read.0; read = all_read.1; written = ap₂ (λ x r. output_of x n (triplet_list (list_of r))) passed all_read.1 }
+  unfolding triplets_written states_read
+  triplets-accepted = record {
+    kind = kind;
+    known = known;
+    states = all_read.0;
+    read = all_read.1;
+    written = (λ j. output_of (e j) n (triplet_list (list_of (known j then reads)))) ∙ ap (λ r. triplet_list (list_of r)) all_read.1;
+  }

@@ -31,6 +31,7 @@ use Rattle.transform_rotations.specs.Transform.{transform_d, is_whole, rounded}
 use Rattle.transform_rotations.specs.TransformRotations.{transform_answer, transform_written}
 use Rattle.bzgrid.specs.declared.Lengths.{Lengths}
 use Rattle.bzsearch.specs.Lattice.{bz_tolerance, lattice_det, dual_lengths_of}
+use Rattle.bzgrid.specs.declared.GridType.TheVariants.{Sparse, Dense}
 use Rattle.bzgrid.specs.BzGridAddresses.{bz_answer, addresses_written, map_written}
 use Rattle.triplet_grid.specs.IrTriplets.{ir_triplets_answer, map_triplets_written}
 use Rattle.bz_triplets.specs.BzTriplets.{lqd_inv, squared_distance, bz_triplets_answer, triplets_written}
@@ -145,6 +146,8 @@ job = record {
   lattice = lattice;
   shift = shift;
   type = pos 2;
+  kind = Dense;
+  kind-is = refl;
   time_reversal = true;
   swappable = true;
   q0 = 1;
@@ -187,6 +190,8 @@ sparse-job = record {
   lattice = lattice;
   shift = shift;
   type = pos 1;
+  kind = Sparse;
+  kind-is = refl;
   time_reversal = true;
   swappable = true;
   q0 = 1;

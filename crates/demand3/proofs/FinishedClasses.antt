@@ -5,16 +5,13 @@ use mathlib.Core.Bool.{false}
 use mathlib.Core.List.Memᴰ.{append_right}
 use mathlib.Core.List.{List, map}
 use Prim.Native.Nat.{ℕ, ◌<◌, ◌≤◌}
-use native.Mathlib.Omega.{arith}
 use lib.Dec.{T}
 use lib.IntN.{ℤ, pos, nat_abs}
 use lib.ListN.{length, get_or, get_or-map}
-use Rattle.std.specs.Prelude.{Ok, Err}
 use Rattle.common.specs.Matrix.{Mat}
 use Rattle.common.specs.Array.{items, rows, matrix_of, matrices}
 use Rattle.common.specs.Limits.{diagonal_fits}
 use Rattle.common.specs.Tested.{output_of, Accepted}
-use Rattle.common.specs.declared.Refusal.{Refusal}
 use Rattle.common.proofs.Unimodular.{Unimodular}
 use Rattle.common.proofs.Tests.{passed-by, both-accepted, refused-not-ok}
 use Rattle.grgrid.specs.ClassMap.{kept}

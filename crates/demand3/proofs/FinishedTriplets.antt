@@ -13,15 +13,16 @@ use Rattle.float.specs.Value.{zero_f}
 use Rattle.common.specs.Matrix.{Axis, X, Y, Z, Vec, side, vector, map_vec, origin}
 use Rattle.common.specs.Array.{items, rows, vector_of}
 use Rattle.common.specs.FloatMatrix.{float_matrix}
+use Rattle.common.proofs.Tests.{same-ok}
 use Rattle.common.proofs.Matrix.{axes-of, same-vector, side-vector}
 use Rattle.grgrid.specs.Grid.{index}
 use Rattle.grgrid.proofs.Accepted.{grid-fits}
 use Rattle.grgrid.proofs.Lists.{◌∈◌}
-use Rattle.bzgrid.specs.declared.GridType.{GridType}
 use Rattle.bzsearch.specs.Search.{images}
-use Rattle.bzgrid.specs.BzGridAddresses.{grid_type_of, grg_written}
+use Rattle.bzgrid.specs.BzGridAddresses.{addresses_written, map_written, grg_written}
 use Rattle.bztable.specs.Reading.{Read, got, triple_at, address_at}
 use Rattle.bztable.specs.Access.{image_places}
+use Rattle.bzgrid.proofs.Accepted.{passes-first}
 use Rattle.bzsearch.proofs.Listing.{item_in}
 use Rattle.bzsearch.proofs.Images.{Sound}
 use Rattle.bztable.proofs.ImageTable.{Stands, place-image, image-place, place-folds}
@@ -34,7 +35,7 @@ use Rattle.bz_triplets.proofs.Choosing.{Picks, Length, Triplet, triplet-best, fl
 use Rattle.bz_triplets.proofs.Choosing as choosing
 use Rattle.bz_triplets.proofs.Rising.{own-points}
 use Rattle.demand3.specs.FinishedList.{Calls, grid, points, partner_of, lowest_points, search, trio, Choice, sum, squared_length, less_tolerance, at, Best}
-use Rattle.demand3.proofs.TableWalks.{Counts, then-got, address-got, closes_at, length_at, less_at, chosen-got, each-got}
+use Rattle.demand3.proofs.TableWalks.{Counts, address-got, closes_at, length_at, less_at, chosen-got, each-got}
 use Rattle.demand3.proofs.SumLengths.{sum-size, sum-length}
 use Rattle.demand3.proofs.AcceptedTriplets.{classes-accepted, map-counts, starts-in, starts-point, first-got, TripletsAccepted, triplets-accepted}
 
@@ -46,9 +47,6 @@ sum-zero : {g : Vec ℤ} → g ≡ origin → T (is_zero g)
 sum-zero e = subst (λ g. T (is_zero g)) (sym e) tt
 
 module _ (c : Calls) where
-  abbrev kind : GridType
-  kind = grid_type_of c.type
-
   abbrev walk : Walk
   walk = walk_of c.addresses (items c.d) (rows c.q) c.lattice
 
@@ -56,8 +54,23 @@ module _ (c : Calls) where
   built : CallAccepted (items c.d) (rows c.q) c.shift c.lattice c.type c.rooms.x c.rooms.y c.rooms.z c.lengths
   built = call-accepted (items c.d) (rows c.q) c.shift c.lattice c.type c.rooms.x c.rooms.y c.rooms.z c.lengths c.builds
 
-  stands : Stands kind (search c) c.addresses c.map (grg_written (items c.d) (rows c.q) c.shift c.lattice c.type c.rooms.x c.rooms.y c.rooms.z) c.lengths.grg
-  stands = rw (c.builds-addresses, c.builds-map) (call-stands built)
+  -- the layout that the call found
+  same-kind : built.kind ≡ c.kind
+  same-kind = same-ok (sym built.input.known ∙ c.kind-is)
+
+  abbrev addresses-left : List ℤ
+  addresses-left = addresses_written (items c.d) (rows c.q) c.shift c.lattice c.type c.rooms.x c.rooms.y c.rooms.z
+
+  abbrev map-left : List ℤ
+  map-left = map_written (items c.d) (rows c.q) c.shift c.lattice c.type c.rooms.x c.rooms.y c.rooms.z
+
+  abbrev grg-left : List ℤ
+  grg-left = grg_written (items c.d) (rows c.q) c.shift c.lattice c.type c.rooms.x c.rooms.y c.rooms.z
+
+  stands : Stands c.kind (search c) c.addresses c.map grg-left c.lengths.grg
+  stands =
+      rw (c.builds-addresses, c.builds-map)
+      (subst (λ t. Stands t (search c) addresses-left map-left grg-left c.lengths.grg) same-kind (call-stands built))
 
   pub images-room : c.lengths.grg ≤ c.rooms.z
   images-room = leb→le c.lengths.grg c.rooms.z (and_r (leb c.lengths.map c.rooms.y) _ (and_r (leb c.lengths.addresses c.rooms.x) _ built.room))
@@ -66,10 +79,12 @@ module _ (c : Calls) where
   sound = call-sound built
 
   abbrev places : ℕ → List ℕ
-  places p = image_places kind c.map (points c) p
+  places p = image_places c.kind c.map (points c) p
 
-  counts : (p : ℕ) → p < points c → Counts kind c.map (points c) p
-  counts p h = rw (c.builds-map ∙ built.map) (map-counts kind (grid c) _ _ p h)
+  counts : (p : ℕ) → p < points c → Counts c.kind c.map (points c) p
+  counts p h =
+      subst (λ t. Counts t c.map (points c) p) same-kind
+      (subst (λ l. Counts built.kind l (points c) p) (sym (c.builds-map ∙ built.map)) (map-counts built.kind (grid c) _ _ p h))
 
   some-place : (p : ℕ) → p < points c → 0 < length (places p)
   some-place p h = rw (← length-map (places p) (triple_at c.addresses), stands.reads p h) (call-found built p h)
@@ -79,7 +94,7 @@ module _ (c : Calls) where
   q0-inside = (classes-accepted (pos c.q0) (items c.d) c.transformed c.time_reversal c.swappable c.class-room c.point-room c.classifies).point
 
   start-folds : index (grid c) (triple_at c.addresses c.start) ≡ c.q0
-  start-folds = place-folds stands sound c.q0 q0-inside (starts-in c.map (points c) c.q0 c.start kind c.starts)
+  start-folds = place-folds stands sound c.q0 q0-inside (starts-in c.map (points c) c.q0 c.start c.kind c.starts)
 
   -- v holds the image indices of a best triplet of the class of q1
   abbrev Written : ℕ → Vec ℤ → Type 0
@@ -169,45 +184,50 @@ module _ (c : Calls) where
     state-best (left x i) b = (i, refl, best_of i b.0)
     state-best (closed i) b = (i, refl, best_of i b.0)
 
-    chosen-best : {s : State} → chosen kind (points c) c.map walk c.q0 q1 (partner_of c q1) ≡ got s → Written q1 (vector_of (places_of s))
+    chosen-best : {s : State} → chosen c.kind (points c) c.map walk c.q0 q1 (partner_of c q1) ≡ got s → Written q1 (vector_of (places_of s))
     chosen-best {s} e =
         state-best s
         (subst (Triplet (closes_at walk) (length_at walk) lt (less_at walk) lists)
-        (chosen-got walk kind (points c) c.map (trio c q1) (counts c.q0 (trio-inside X)) (counts q1 (trio-inside Y)) (counts (partner_of c q1) (trio-inside Z)) e)
+        (chosen-got walk c.kind (points c) c.map (trio c q1) (counts c.q0 (trio-inside X)) (counts q1 (trio-inside Y)) (counts (partner_of c q1) (trio-inside Z)) e)
         (triplet-best (closes_at walk) (length_at walk) lt (less_at walk) lists (float-order walk.tolerance tolerance) pick-length))
 
     -- by the address that the call starts from
-    triplet-got : {s : State} → triplet_of kind (grid c) c.map walk (triple_at c.addresses c.start) c.q0 q1 ≡ got s → Written q1 (vector_of (places_of s))
+    triplet-got : {s : State} → triplet_of c.kind (grid c) c.map walk (triple_at c.addresses c.start) c.q0 q1 ≡ got s → Written q1 (vector_of (places_of s))
     unfolding triplet_of
     triplet-got {s} e =
-        let r = then-got (first_of c.map c.addresses kind q1) _ e in
-        let f = first-got kind c.map c.addresses (points c) q1 (some-place q1 h) r.1 in
+        let r = passes-first (first_of c.map c.addresses c.kind q1) _ e in
+        let f = first-got c.kind c.map c.addresses (points c) q1 (some-place q1 h) r.1 in
         let folds = ap (index (grid c)) (sym f.2) ∙ place-folds stands sound q1 h f.1 in
         let third-is = partner-index (grid c) sound.sides (triple_at c.addresses c.start) r.0 start-folds folds in
-        chosen-best (subst (λ q2. chosen kind (points c) c.map walk c.q0 q1 q2 ≡ got s) third-is r.2)
+        chosen-best (subst (λ q2. chosen c.kind (points c) c.map walk c.q0 q1 q2 ≡ got s) third-is r.2)
 
   -- ---- the whole list
   accepted : TripletsAccepted (pos c.start) c.addresses c.map c.classes (items c.d) (rows c.q) c.lattice c.type c.triplet-rooms.x c.triplet-rooms.y c.triplet-rooms.z
   accepted = triplets-accepted (pos c.start) c.addresses c.map c.classes (items c.d) (rows c.q) c.lattice c.type c.triplet-rooms.x c.triplet-rooms.y c.triplet-rooms.z c.chooses
 
+  reads : triplets_read (pos c.start) c.addresses c.map c.classes (items c.d) (rows c.q) c.lattice c.kind ≡ got accepted.states
+  reads =
+      subst (λ k. triplets_read (pos c.start) c.addresses c.map c.classes (items c.d) (rows c.q) c.lattice k ≡ got accepted.states)
+      (same-ok (sym accepted.known ∙ c.kind-is)) accepted.read
+
   abbrev Triplets : List ℤ → Type 0
   Triplets l = (length l ≡ length (lowest_points c) * 3) × ((j : ℕ) → j < length (lowest_points c) → Written (get_or (lowest_points c) j 0) (triple_at l j))
 
   abbrev read_from : Vec ℤ → ℕ → Read State
-  read_from a0 = triplet_at (pos c.start) c.addresses c.map c.classes (items c.d) (rows c.q) c.lattice kind a0
+  read_from a0 = triplet_at (pos c.start) c.addresses c.map c.classes (items c.d) (rows c.q) c.lattice c.kind a0
 
   read-best : (a0 : Vec ℤ) → triple_at c.addresses c.start ≡ a0 → (q1 : ℕ) → q1 < points c → {s : State} → read_from a0 q1 ≡ got s → Written q1 (vector_of (places_of s))
   read-best a0 e q1 h {s} k =
       let a = triple_at c.addresses c.start in
-      let point = starts-point c.map (points c) c.q0 c.start (grid c) kind c.starts a start-folds in
+      let point = starts-point c.map (points c) c.q0 c.start (grid c) c.kind c.starts a start-folds in
       let read = subst (λ a. read_from a q1 ≡ got s) (sym e) k in
-      triplet-got q1 h (subst (λ q0. triplet_of kind (grid c) c.map walk a q0 q1 ≡ got s) point read)
+      triplet-got q1 h (subst (λ q0. triplet_of c.kind (grid c) c.map walk a q0 q1 ≡ got s) point read)
 
   pub finished-triplets : length c.classes ≡ points c → (length c.triplets ≡ length (lowest_points c) * 3)
       × ((j : ℕ) → j < length (lowest_points c) → (i : Vec ℕ) × (triple_at c.triplets j ≡ map_vec pos i) × Best c (get_or (lowest_points c) j 0) i)
   unfolding triplets_read
   finished-triplets full =
-      let r = then-got (address_at c.addresses c.start) _ accepted.read in
+      let r = passes-first (address_at c.addresses c.start) _ reads in
       let e = each-got (read_from r.0) (lowest_points c) r.2 in
       subst Triplets (sym (c.chooses-to ∙ accepted.written)) (
         e.0,

@@ -12,10 +12,10 @@ use lib.Ieee.{Float, binary64, sub, lt}
 use Rattle.std.specs.Prelude.{Ok, Err}
 use Rattle.common.specs.Matrix.{Vec}
 use Rattle.common.specs.Array.{vector_of}
-use Rattle.common.specs.declared.Refusal.{Refusal}
+use Rattle.common.proofs.Tests.{same-ok, refused-not-ok}
+use Rattle.bzgrid.proofs.Accepted.{passes-first}
 use Rattle.bzgrid.specs.declared.GridType.{GridType}
-use Rattle.bzgrid.specs.declared.GridType.TheVariants.{Sparse, Dense, Unknown}
-use Rattle.common.specs.Tested.{◌then◌}
+use Rattle.bzgrid.specs.declared.GridType.TheVariants.{Sparse, Dense}
 use Rattle.bztable.specs.Reading.{Read, got, inside, near, triple_at, address_at, place_of, place_at}
 use Rattle.bztable.specs.Access.{number_in, places_from, image_places}
 use Rattle.bzgrid.specs.Table.{listed}
@@ -25,32 +25,18 @@ use Rattle.bz_triplets.specs.BzTriplets.{squared_distance, sum_of, is_zero, Stat
 use Rattle.bz_triplets.proofs.Choosing.{choices, nested_is}
 
 -- ---- one read
-abbrev Missing : {A : Type 0} → Read A → Type 0
-Missing (Ok a) = ⊥
-Missing (Err r) = Unit {0}
-
-pub not-got : {A : Type 0} {a : A} {r : Refusal} → ◌≡◌ {A = Read A} (Err r) (got a) → ⊥
-not-got e = subst Missing e tt
-
-pub got-is : {A : Type 0} {a b : A} → got a ≡ got b → a ≡ b
-got-is e = cc
-
-pub then-got : {A B : Type 0} (r : Read A) (f : A → Read B) {b : B} → (r then f) ≡ got b → (a : A) × (r ≡ got a) × (f a ≡ got b)
-then-got (Ok a) f e = (a, refl, e)
-then-got (Err r) f e = absurd (not-got e)
-
 inside-got : {A : Type 0} (t : Bool) {x a : A} → inside t x ≡ got a → x ≡ a
-inside-got true e = got-is e
-inside-got false e = absurd (not-got e)
+inside-got true e = same-ok e
+inside-got false e = absurd (refused-not-ok e)
 
 pub place-got : (map : List ℤ) (i : ℕ) {n : ℕ} → place_at map i ≡ got n → number_in map i ≡ n
 place-got map i {n} e =
-    let r = then-got (inside (ltb i (length map)) (get_or map i (pos 0))) place_of e in
+    let r = passes-first (inside (ltb i (length map)) (get_or map i (pos 0))) place_of e in
     ap nat_abs (inside-got (ltb i (length map)) r.1) ∙ natural r.0 r.2
   where
     natural : (z : ℤ) → place_of z ≡ got n → nat_abs z ≡ n
     natural (pos m) e = inside-got (leb m 1099511627776) e
-    natural (negsuc m) e = absurd (not-got e)
+    natural (negsuc m) e = absurd (refused-not-ok e)
 
 pub address-got : (l : List ℤ) (i : ℕ) {a : Vec ℤ} → address_at l i ≡ got a → triple_at l i ≡ a
 address-got l i e = inside-got (ltb i _ && near (triple_at l i)) e
@@ -67,7 +53,6 @@ first-others a b n = ap (λ l. a ∷ l) (others-listed a b 0 b n (omega arith))
 abbrev pub Counts : GridType → List ℤ → (n p : ℕ) → Type 0
 Counts Sparse map n p = number_in map (8 * n + p) ≤ number_in map (8 * n + p + 1)
 Counts Dense map n p = Unit {0}
-Counts Unknown map n p = Unit {0}
 
 sparse-places : (p n s e : ℕ) → s ≤ e → listed (place_in p (n + s)) (e + 1 - s) ≡ p ∷ places_from (n + s) (n + e)
 sparse-places p n s e h =
@@ -80,18 +65,17 @@ dense-places s (suc k) = ap (λ l. s ∷ l) (others-listed s (s + 1) 0 (suc s) k
 
 pub places-got : (t : GridType) (map : List ℤ) (n p : ℕ) → Counts t map n p → {l : List ℕ} → places_read t map n p ≡ got l → image_places t map n p ≡ l
 places-got Sparse map n p h e =
-    let r = then-got (place_at map (8 * n + p)) _ e in
-    let s = then-got (place_at map (8 * n + p + 1)) _ r.2 in
+    let r = passes-first (place_at map (8 * n + p)) _ e in
+    let s = passes-first (place_at map (8 * n + p + 1)) _ r.2 in
     let a = place-got map (8 * n + p) r.1 in
     let b = place-got map (8 * n + p + 1) s.1 in
-    sym (sparse-places p n (number_in map (8 * n + p)) (number_in map (8 * n + p + 1)) h) ∙ (λ t. listed (place_in p (n + a t)) (b t + 1 - a t)) ∙ got-is s.2
+    sym (sparse-places p n (number_in map (8 * n + p)) (number_in map (8 * n + p + 1)) h) ∙ (λ t. listed (place_in p (n + a t)) (b t + 1 - a t)) ∙ same-ok s.2
 places-got Dense map n p h e =
-    let r = then-got (place_at map p) _ e in
-    let s = then-got (place_at map (p + 1)) _ r.2 in
+    let r = passes-first (place_at map p) _ e in
+    let s = passes-first (place_at map (p + 1)) _ r.2 in
     let a = place-got map p r.1 in
     let b = place-got map (p + 1) s.1 in
-    sym (dense-places (number_in map p) (number_in map (p + 1) - number_in map p)) ∙ (λ t. listed (place_in (a t) (a t + 1)) (b t - a t)) ∙ got-is s.2
-places-got Unknown map n p h e = absurd (not-got e)
+    sym (dense-places (number_in map p) (number_in map (p + 1) - number_in map p)) ∙ (λ t. listed (place_in (a t) (a t + 1)) (b t - a t)) ∙ same-ok s.2
 
 -- ---- the walk over the choices
 module _ (w : Walk) where
@@ -117,20 +101,20 @@ module _ (w : Walk) where
 
   read_step : (s : State) (p : Vec ℕ) {r : State} → try_read w s p ≡ got r → step s p ≡ r
   read_step s p e =
-      let x = then-got (address_at w.addresses p.x) _ e in
-      let y = then-got (address_at w.addresses p.y) _ x.2 in
-      let z = then-got (address_at w.addresses p.z) _ y.2 in
+      let x = passes-first (address_at w.addresses p.x) _ e in
+      let y = passes-first (address_at w.addresses p.y) _ x.2 in
+      let z = passes-first (address_at w.addresses p.z) _ y.2 in
       let a = address-got w.addresses p.x x.1 in
       let b = address-got w.addresses p.y y.1 in
       let c = address-got w.addresses p.z z.1 in
-      same_step s p ∙ (λ t. tried_sum w s p (sum_of (a t) (b t) (c t))) ∙ got-is z.2
+      same_step s p ∙ (λ t. tried_sum w s p (sum_of (a t) (b t) (c t))) ∙ same-ok z.2
 
   try-got : (r : Read State) (p : Vec ℕ) {u : State} → try_at w r p ≡ got u → (s : State) × (r ≡ got s) × (step s p ≡ u)
   unfolding try_at
   try-got (Ok start) p e = (start, refl, read_step start p e)
   try-got (Ok (left x b)) p e = (left x b, refl, read_step (left x b) p e)
-  try-got (Ok (closed b)) p e = (closed b, refl, got-is e)
-  try-got (Err r) p e = absurd (not-got e)
+  try-got (Ok (closed b)) p e = (closed b, refl, same-ok e)
+  try-got (Err r) p e = absurd (refused-not-ok e)
 
   walk-got : (r : Read State) (l : List (Vec ℕ)) {u : State} → foldl (try_at w) r l ≡ got u → (s : State) × (r ≡ got s) × (foldl step s l ≡ u)
   walk-got r [] {u} e = (u, e, refl)
@@ -142,16 +126,16 @@ module _ (w : Walk) where
   pub nested-got : (l : Vec (List ℕ)) {s : State} → nested (try_at w) (got start) l ≡ got s → nested step start l ≡ s
   nested-got l e =
       let r = walk-got (got start) (choices l) (sym (nested_is l (try_at w) (got start)) ∙ e) in
-      nested_is l step start ∙ ap (λ s. foldl step s (choices l)) (got-is r.1) ∙ r.2
+      nested_is l step start ∙ ap (λ s. foldl step s (choices l)) (same-ok r.1) ∙ r.2
 
   -- the triplet of a class, where the map is one that a call leaves
   pub chosen-got : (t : GridType) (n : ℕ) (map : List ℤ) (v : Vec ℕ) → Counts t map n v.x → Counts t map n v.y → Counts t map n v.z
       → {s : State} → chosen t n map w v.x v.y v.z ≡ got s → nested step start (record { x = image_places t map n v.x; y = image_places t map n v.y; z = image_places t map n v.z }) ≡ s
   unfolding chosen
   chosen-got t n map v hx hy hz e =
-      let x = then-got (places_read t map n v.x) _ e in
-      let y = then-got (places_read t map n v.y) _ x.2 in
-      let z = then-got (places_read t map n v.z) _ y.2 in
+      let x = passes-first (places_read t map n v.x) _ e in
+      let y = passes-first (places_read t map n v.y) _ x.2 in
+      let z = passes-first (places_read t map n v.z) _ y.2 in
       let a = places-got t map n v.x hx x.1 in
       let b = places-got t map n v.y hy y.1 in
       let c = places-got t map n v.z hz z.1 in
@@ -184,12 +168,12 @@ abbrev Lists : (ℕ → Read State) → List ℕ → List State → Type 0
 Lists f l r = (length (triplet_list r) ≡ length l * 3) × ((j : ℕ) → j < length l → (s : State) × (f (get_or l j 0) ≡ got s) × (triple_at (triplet_list r) j ≡ vector_of (places_of s)))
 
 pub each-got : (f : ℕ → Read State) (l : List ℕ) {r : List State} → read_each f l ≡ got r → Lists f l r
-each-got f [] e = subst (Lists f []) (got-is e) (refl, λ j h. absurd (not-suc-le-zero h))
+each-got f [] e = subst (Lists f []) (same-ok e) (refl, λ j h. absurd (not-suc-le-zero h))
 each-got f (p ∷ l) {r} e =
-    let s = then-got (f p) _ e in
-    let u = then-got (read_each f l) _ s.2 in
+    let s = passes-first (f p) _ e in
+    let u = passes-first (read_each f l) _ s.2 in
     let k = each-got f l u.1 in
-    subst (Lists f (p ∷ l)) (got-is u.2) (omega (arith, length-append (places_of s.0) (triplet_list u.0), three-places s.0, k.0), at s.0 u.0 s.1 k.1)
+    subst (Lists f (p ∷ l)) (same-ok u.2) (omega (arith, length-append (places_of s.0) (triplet_list u.0), three-places s.0, k.0), at s.0 u.0 s.1 k.1)
   where
     at : (s : State) (r : List State) → f p ≡ got s → ((j : ℕ) → j < length l → (s : State) × (f (get_or l j 0) ≡ got s) × (triple_at (triplet_list r) j ≡ vector_of (places_of s)))
         → (j : ℕ) → j < suc (length l) → (u : State) × (f (get_or (p ∷ l) j 0) ≡ got u) × (triple_at (places_of s ++ triplet_list r) j ≡ vector_of (places_of u))

@@ -18,7 +18,7 @@ use Rattle.recip_rotations.specs.PointGroup.{joined, point_group_answer, point_g
 use Rattle.snf3x3.specs.Snf3x3.{snf3x3, diagonalised}
 use Rattle.transform_rotations.specs.TransformRotations.{transform_answer, transform_written}
 use Rattle.bzgrid.specs.declared.GridType.{GridType}
-use Rattle.bzgrid.specs.declared.GridType.TheVariants.{Sparse, Dense, Unknown}
+use Rattle.bzgrid.specs.declared.GridType.TheVariants.{Sparse, Dense}
 use Rattle.bzgrid.specs.declared.Lengths.{Lengths}
 use Rattle.bzsearch.specs.Lattice.{bz_tolerance}
 use Rattle.bzsearch.specs.Search.{Search, images}
@@ -42,7 +42,6 @@ pub data Given (time_reversal : Bool) (list : List ℤ) : List ℤ → Type 0 wh
 abbrev pub Starts : GridType → List ℤ → (n q0 start : ℕ) → Type 0
 Starts Sparse map n q0 start = start ≡ q0
 Starts Dense map n q0 start = start ∈ image_places Dense map n q0
-Starts Unknown map n q0 start = ⊥
 
 -- what comes from outside, what each call left, and that each accepted. The lengths of lent slices are free.
 pub record Calls : Type 0 where
@@ -51,6 +50,9 @@ pub record Calls : Type 0 where
   pub lattice : List (List Float)
   pub shift : List ℤ
   pub type : ℤ
+  -- the layout that an accepted type names
+  pub kind : GridType
+  pub kind-is : grid_type_of type ≡ Ok kind
   pub time_reversal : Bool
   pub swappable : Bool
   pub q0 : ℕ
@@ -85,7 +87,7 @@ pub record Calls : Type 0 where
   pub classifies-to : classes ≡ map_triplets_written (pos q0) (items d) transformed time_reversal swappable class-room point-room
   -- triplets
   pub start : ℕ
-  pub starts : Starts (grid_type_of type) map (size (sides_of (items d))) q0 start
+  pub starts : Starts kind map (size (sides_of (items d))) q0 start
   pub triplets : List ℤ
   pub triplet-rooms : Vec ℕ
   pub chooses : bz_triplets_answer (pos start) addresses map classes (items d) (rows q) lattice type triplet-rooms.x triplet-rooms.y triplet-rooms.z ≡ Accepted
@@ -144,7 +146,7 @@ module _ (c : Calls) where
 
   -- a triplet of image indices for the class of q1
   pub record Best (q1 : ℕ) (i : Vec ℕ) : Type 0 where
-    pub stands : (k : Axis) → side i k ∈ image_places (grid_type_of c.type) c.map points (side (trio q1) k)
+    pub stands : (k : Axis) → side i k ∈ image_places c.kind c.map points (side (trio q1) k)
     pub choice : Choice q1 (at i)
     -- it sums to zero if any choice does
     pub closes : (a : Vec (Vec ℤ)) → Choice q1 a → sum a ≡ origin → sum (at i) ≡ origin

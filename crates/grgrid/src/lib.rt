@@ -2,6 +2,7 @@
 #![tactic(auto)]
 
 mod grid;
+mod point;
 
 ghost use Rattle.std.specs.Prelude.{IfSome, ◌≡◌, ◌+◌, ◌*◌, ◌≤◌, ◌<◌, ℤ, pos, nat_abs, ◌+ℤ◌, ◌*ℤ◌, ◌-ℤ◌, length, map, T};
 ghost use Rattle.common.specs.Array.{vector_of, sides_of, items, matrix_of, matrices, Sized, SizedRows};
@@ -16,6 +17,7 @@ ghost use Rattle.common.specs.Limits.{all_within, diagonal_fits};
 
 use common::{Refusal, Shift};
 pub use grid::{Address, Doubled, Grid, Rotation, Rotations};
+pub use point::GridPoint;
 
 pub fn grid_of(d: [i64; 3]) -> Grid
     requires { T (diagonal_fits d) }
@@ -75,10 +77,11 @@ pub fn grid_index_from_address(address: [i64; 3], g: Grid) -> usize
 
 // Inverse of `grid_index_from_address` for a canonical address.
 #[tactic(auto, unfolding(crate::specs::Grid::address))]
-pub fn grid_address_from_index(p: usize, g: Grid) -> Address
-    requires { p < size (sides g) }
-    ensures { result.v ≡ items (address (sides g) p) }
+pub fn grid_address_from_index(point: GridPoint) -> Address
+    ensures { result.v ≡ items (address (sides point.g) point.p) }
 {
+    let p = point.p;
+    let g = point.g;
     let layer = g.x * g.y;
     let z = p / layer;
     let y = (p - z * layer) / g.x;
@@ -145,32 +148,29 @@ fn rotated_index(a: Doubled, rotation: Rotation, g: Grid, ps: Shift) -> usize
     double_grid_index(common::matvec_ii(rotation.m, a.v), g, ps)
 }
 
-fn doubled_point(p: usize, g: Grid, ps: Shift) -> Doubled
-    requires { p < size (sides g) }
-    ensures { result.v ≡ items (double (address (sides g) p) (vector_of ps.v)) }
+fn doubled_point(point: GridPoint, ps: Shift) -> Doubled
+    ensures { result.v ≡ items (double (address (sides point.g) point.p) (vector_of ps.v)) }
 {
-    double_grid_address(grid_address_from_index(p, g), ps)
+    double_grid_address(grid_address_from_index(point), ps)
 }
 
 // Apply an integer rotation to a grid point and return the index of the rotated point.
-pub fn rotate_grid_index(p: usize, rotation: Rotation, g: Grid, ps: Shift) -> usize
-    requires { p < size (sides g) }
-    ensures value { result ≡ rotate (sides g) (vector_of ps.v) (matrix_of rotation.m) p }
-    ensures upper_bound { result < size (sides g) }
+pub fn rotate_grid_index(point: GridPoint, rotation: Rotation, ps: Shift) -> usize
+    ensures value { result ≡ rotate (sides point.g) (vector_of ps.v) (matrix_of rotation.m) point.p }
+    ensures upper_bound { result < size (sides point.g) }
 {
-    rotated_index(doubled_point(p, g, ps), rotation, g, ps)
+    rotated_index(doubled_point(point, ps), rotation, point.g, ps)
 }
 
-// Where the first rotation of the list that carries p lower carries it.
-fn first_lower(rotations: Rotations<'_>, p: usize, g: Grid, ps: Shift) -> Option<usize>
-    requires { p < size (sides g) }
-    ensures value { result ≡ first_lower (map (rotate (sides g) (vector_of ps.v)) (matrices rotations.entry.list.now)) p }
-    ensures lower { IfSome result (λ q. q < p) }
+// Where the first rotation of the list that carries the point lower carries it.
+fn first_lower(rotations: Rotations<'_>, point: GridPoint, ps: Shift) -> Option<usize>
+    ensures value { result ≡ first_lower (map (rotate (sides point.g) (vector_of ps.v)) (matrices rotations.entry.list.now)) point.p }
+    ensures lower { IfSome result (λ q. q < point.p) }
 {
-    let address = doubled_point(p, g, ps);
+    let address = doubled_point(point, ps);
     for n in 0..rotations.count() {
-        let q = rotated_index(address, rotations.at(n), g, ps);
-        if q < p {
+        let q = rotated_index(address, rotations.at(n), point.g, ps);
+        if q < point.p {
             return Some(q);
         }
     }
@@ -183,7 +183,7 @@ pub fn number_points(rotations: Rotations<'_>, g: Grid, ps: Shift, out: &mut [i6
     ensures { out.new ≡ map pos (class_map_of (sides g) (vector_of ps.v) (matrices rotations.entry.list.now)) }
 {
     for p in 0..out.len() {
-        out[p] = match first_lower(rotations, p, g, ps) {
+        out[p] = match first_lower(rotations, GridPoint { p, g }, ps) {
             Some(lower) => out[lower],
             None => p as i64,
         };
@@ -258,15 +258,11 @@ fn next(r: Remainders, g: Grid) -> Remainders
 {
     let x = r.x + 1;
     if x < g.x {
-        return Remainders {
-            x: x,
-            y: r.y,
-            z: r.z,
-        };
+        return Remainders { x, y: r.y, z: r.z };
     }
     let y = r.y + 1;
     if y < g.y {
-        return Remainders { x: 0, y: y, z: r.z };
+        return Remainders { x: 0, y, z: r.z };
     }
     Remainders {
         x: 0,

@@ -8,7 +8,7 @@ ghost use Rattle.mark_candidates.specs.ScaledCoordinates.{shares, scaled_by, sca
 
 use bzsearch::Basis;
 use common::{Bounded, Shift};
-use grgrid::Grid;
+use grgrid::{Grid, GridPoint};
 
 // N, the number of points of a grid.
 #[derive(Clone, Copy)]
@@ -98,7 +98,8 @@ impl Mesh {
         requires { p < size (sides self.g) }
         ensures { result ≡ items (scaled (sides self.g) (vector_of self.ps.v) (matrix_of self.q.m) p) }
     {
-        let address = grgrid::grid_address_from_index(p, self.g);
+        let point = GridPoint { p, g: self.g };
+        let address = grgrid::grid_address_from_index(point);
         let a = grgrid::double_grid_address(address, self.ps);
         common::matvec_ii(self.q.m, scaled_grid(a.v, self.g))
     }

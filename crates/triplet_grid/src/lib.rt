@@ -15,21 +15,13 @@ ghost use Rattle.triplet_grid.specs.Partner.{stabilizer, third};
 ghost use Rattle.triplet_grid.specs.IrTriplets.{map_q_of, lower_of, map_triplets_of, input_tests, classes_at, ir_triplets_answer, map_triplets_written, map_qwritten};
 
 use common::Refusal;
-use grgrid::{Address, Grid, Rotation, Rotations};
-
-// A point of a grid.
-#[derive(Clone, Copy)]
-struct Point {
-    p: usize,
-    g: Grid,
-    ghost inside: { p < size (sides g) },
-}
+use grgrid::{Address, Grid, GridPoint, Rotation, Rotations};
 
 // The classes under the operations that keep q0. A number in `map_q` is the lowest point that bears it, which comes first.
 #[derive(Clone, Copy)]
 struct Classes<'a> {
     map_q: &'a [i64],
-    q0: Point,
+    q0: GridPoint,
     ghost places: { length map_q.now ≡ size (sides q0.g) },
     ghost numbered: { Numbered (size (sides q0.g)) map_q.now },
 }
@@ -50,12 +42,12 @@ fn carried(rotation: Rotation, address: Address, g: Grid) -> usize
 
 // Moves the matrices that keep q0 to the front, and answers how many there are.
 // The limits of `group` are a clause, and no type: only this and its caller ask for them.
-fn keep_stabilizer(group: &mut [i64], q0: Point) -> usize
+fn keep_stabilizer(group: &mut [i64], q0: GridPoint) -> usize
     requires { T (all_within 100000 group.old) }
     ensures group_after { group.new ≡ laid (stabilizer (sides q0.g) q0.p (matrices group.old)) group.old }
     ensures value { result ≡ length (stabilizer (sides q0.g) q0.p (matrices group.old)) }
 {
-    let address = grgrid::grid_address_from_index(q0.p, q0.g);
+    let address = grgrid::grid_address_from_index(q0);
     let mut kept = 0;
     // By index: the matrices move within the list.
     for n in 0..group.len() / 9 {
@@ -71,7 +63,7 @@ fn keep_stabilizer(group: &mut [i64], q0: Point) -> usize
 }
 
 // The classes under those matrices of `group` that keep q0.
-fn number_classes(group: &mut [i64], q0: Point, map_q: &mut [i64])
+fn number_classes(group: &mut [i64], q0: GridPoint, map_q: &mut [i64])
     requires within { T (all_within 100000 group.old) }
     requires places { length map_q.old ≡ size (sides q0.g) }
     ensures { map_q.new ≡ map pos (map_q_of (sides q0.g) q0.p (matrices group.old)) }
@@ -90,7 +82,7 @@ fn swapped_number(classes: &Classes<'_>, address0: Address, q1: usize) -> i64
         result ≡ pos (lower_of (get_or (map nat_abs classes.now.map_q.now) (index d (third (vector_of address0.v) (address d q1))) 0) q1) }
 {
     let g = classes.q0.g;
-    let address1 = grgrid::grid_address_from_index(q1, g);
+    let address1 = grgrid::grid_address_from_index(GridPoint { p: q1, g });
     let q2 = grgrid::grid_index_from_address(third(address0, address1), g);
     classes.map_q[q2].min(q1 as i64)
 }
@@ -101,7 +93,7 @@ fn ir_triplets_at_q_perm_q1q2(classes: &Classes<'_>, map_triplets: &mut [i64])
     ensures { map_triplets.new ≡ map pos (map_triplets_of true (sides classes.now.q0.g) classes.now.q0.p (map nat_abs classes.now.map_q.now)) }
 {
     let q0 = classes.q0;
-    let address0 = grgrid::grid_address_from_index(q0.p, q0.g);
+    let address0 = grgrid::grid_address_from_index(q0);
     // By index: a place may take what another one has.
     for q1 in 0..map_triplets.len() {
         let own = classes.map_q[q1];
@@ -144,7 +136,7 @@ fn triplet_tests(
 
 // The classes under the operations that keep q0, or why there is no such group.
 fn classes_at(
-    q0: Point,
+    q0: GridPoint,
     rotations: &[i64],
     is_time_reversal: bool,
     map_q: &mut [i64],
@@ -198,7 +190,7 @@ fn fill_maps(
 {
     triplet_tests(q0, d, rotations, map_triplets.len(), map_q.len())?;
     let g = grgrid::grid_of(d);
-    let point = Point {
+    let point = GridPoint {
         p: q0 as usize,
         g: g,
     };

@@ -10,7 +10,7 @@ use lib.Signed.{non_neg}
 use Rattle.std.specs.Prelude.{Result, Ok, Err}
 use Rattle.common.specs.declared.Refusal.{Refusal}
 use Rattle.common.specs.Matrix.{Vec, Mat}
-use Rattle.common.specs.Array.{matrix_of, matrix_at, matrices, items, rows}
+use Rattle.common.specs.Array.{matrix_of, matrices, items, rows}
 use Rattle.common.specs.declared.Refusal.TheVariants.{WrongLength}
 use Rattle.common.proofs.Tests.{passed, not-accepted, both-accepted}
 use Rattle.common.specs.Tested.{after, giving, Tested, Accepted, without_value}
@@ -21,9 +21,9 @@ use Rattle.rotation_group.specs.ReciprocalGroup.{reciprocal_tests}
 use Rattle.rotation_group.proofs.Accepted.{accepted-joined, accepted-call}
 use Rattle.transform_rotations.specs.TransformRotations.{transform_tests, transform_answer, transform_written}
 use Rattle.bzgrid.specs.declared.GridType.{GridType}
-use Rattle.bzgrid.specs.declared.GridType.TheVariants.{Sparse, Dense, Unknown}
+use Rattle.bzgrid.specs.declared.GridType.TheVariants.{Sparse, Dense}
 use Rattle.bzgrid.specs.declared.Lengths.{Lengths}
-use Rattle.bzgrid.specs.BzGridAddresses.{grid_type_of, is_known, bz_answer, addresses_written, map_written}
+use Rattle.bzgrid.specs.BzGridAddresses.{grid_type_of, bz_answer, addresses_written, map_written}
 use Rattle.bztable.specs.Reading.{triple_at, address_of}
 use Rattle.bztable.specs.Access.{number_in, image_places}
 use Rattle.bztable.proofs.AcceptedCall.{CallAccepted, call-accepted, call-stands, call-found}
@@ -36,7 +36,7 @@ use Rattle.zone_steps.specs.Steps.{Rooms, Grid, Lists, group, transformed, rotat
 use Rattle.zone.specs.Chain.{Job, rooms_agree, sides_in, change_in, diagonal, grid_of, chain_tests}
 use Rattle.zone_steps.specs.StepsView.{grid, Listed}
 use Rattle.zone.specs.ChainFinished.{FinishedChain}
-use Rattle.demand3.proofs.TableWalks.{then-got}
+use Rattle.bzgrid.proofs.Accepted.{passes-first}
 use Rattle.demand3.proofs.AcceptedTriplets.{triplets-accepted, first-in}
 use Rattle.recip_rotations.proofs.ToldPart.{told_part}
 use Rattle.demand3.proofs.FinishedList.{finished-list}
@@ -57,10 +57,9 @@ classified-by (Ok _) k e = (pos k, refl)
 classified-by (Err r) k e = absurd (not-accepted e)
 
 -- ---- where the triplet call starts
-starts-at : (t : GridType) → T (is_known t) → (map : List ℤ) (n q0 : ℕ) → 0 < length (image_places t map n q0) → Starts t map n q0 (nat_abs (start_of t map (pos q0)))
-starts-at Sparse k map n q0 h = refl
-starts-at Dense k map n q0 h = first-in (number_in map q0) (number_in map (q0 + 1) - number_in map q0) h
-starts-at Unknown k map n q0 h = absurd k
+starts-at : (t : GridType) (map : List ℤ) (n q0 : ℕ) → 0 < length (image_places t map n q0) → Starts t map n q0 (nat_abs (start_of (Ok t) map (pos q0)))
+starts-at Sparse map n q0 h = refl
+starts-at Dense map n q0 h = first-in (number_in map q0) (number_in map (q0 + 1) - number_in map q0) h
 
 -- ---- a grid by its diagonal d and its change of basis q, with shift and rooms
 module _ (j : Job) (r : Rooms) (d : Vec ℤ) (p q : Mat ℤ) (rounds : ℕ) (diagonalises : snf3x3 (matrix_of j.matrix) ≡ diagonalised d p q rounds) where
@@ -161,7 +160,7 @@ module _ (j : Job) (r : Rooms) (d : Vec ℤ) (p q : Mat ℤ) (rounds : ℕ) (dia
     unfolding triplets_read
     start_is =
         let t = triplets-accepted (start g a m) a m (class_map_of g) (items d) (rows q) j.lattice j.type (count g * 3) (count g) (count g) chooses in
-        whole (start g a m) (asked-for a (start g a m) (sym (then-got (address_of a (start g a m)) _ t.read).1))
+        whole (start g a m) (asked-for a (start g a m) (sym (passes-first (address_of a (start g a m)) _ t.read).1))
 
     triplets-to : triplets g a m ≡ triplets_written (pos (nat_abs (start g a m))) a m (class_map_of g) (items d) (rows q) j.lattice j.type (count g * 3) (count g) (count g)
     unfolding triplets
@@ -173,15 +172,19 @@ module _ (j : Job) (r : Rooms) (d : Vec ℤ) (p q : Mat ℤ) (rounds : ℕ) (dia
     abbrev addresses-written : List ℤ
     addresses-written = addresses_written (items d) (rows q) j.shift j.lattice j.type r.addresses r.map r.grg
 
-    some-place : 0 < length (image_places (grid_type_of j.type) map-written (points_of g) (nat_abs j.q0))
+    abbrev kind : GridType
+    kind = call.kind
+
+    some-place : 0 < length (image_places kind map-written (points_of g) (nat_abs j.q0))
     some-place =
-        rw (← length-map (image_places (grid_type_of j.type) map-written (points_of g) (nat_abs j.q0)) (triple_at addresses-written), (call-stands call).reads (nat_abs j.q0) inside)
+        rw (← length-map (image_places kind map-written (points_of g) (nat_abs j.q0)) (triple_at addresses-written), (call-stands call).reads (nat_abs j.q0) inside)
         (call-found call (nat_abs j.q0) inside)
 
-    starts : Starts (grid_type_of j.type) m (points_of g) (nat_abs j.q0) (nat_abs (start g a m))
+    starts : Starts kind m (points_of g) (nat_abs j.q0) (nat_abs (start g a m))
     starts =
-        subst (λ z. Starts (grid_type_of j.type) m (points_of g) (nat_abs j.q0) (nat_abs (start_of (grid_type_of j.type) m z))) (sym q0-is)
-        (starts-at (grid_type_of j.type) call.input.known m (points_of g) (nat_abs j.q0) (subst (λ l. 0 < length (image_places (grid_type_of j.type) l (points_of g) (nat_abs j.q0))) (sym map-to) some-place))
+        subst (λ z. Starts kind m (points_of g) (nat_abs j.q0) (nat_abs (start_of (grid_type_of j.type) m z))) (sym q0-is)
+        (subst (λ t. Starts kind m (points_of g) (nat_abs j.q0) (nat_abs (start_of t m (pos (nat_abs j.q0))))) (sym call.input.known)
+        (starts-at kind m (points_of g) (nat_abs j.q0) (subst (λ l. 0 < length (image_places kind l (points_of g) (nat_abs j.q0))) (sym map-to) some-place)))
 
     pub calls : Calls
     calls = record {
@@ -190,6 +193,8 @@ module _ (j : Job) (r : Rooms) (d : Vec ℤ) (p q : Mat ℤ) (rounds : ℕ) (dia
       lattice = j.lattice;
       shift = j.shift;
       type = j.type;
+      kind = kind;
+      kind-is = call.input.known;
       time_reversal = j.time_reversal;
       swappable = j.swappable;
       q0 = nat_abs j.q0;

@@ -7,7 +7,7 @@ use lib.IntN.{ℤ, pos, nat_abs}
 use lib.ListN.{length, get_or, take}
 use lib.Seq.{take_at}
 use Rattle.common.specs.Matrix.{Axis, X, Y, Z, Vec, side, map_vec}
-use Rattle.common.specs.Array.{matrix_of, matrix_at, items, rows, sides_of}
+use Rattle.common.specs.Array.{matrix_of, items, rows, sides_of}
 use Rattle.common.specs.Tested.{after, Tested, Accepted, without_value}
 use Rattle.common.specs.declared.Refusal.TheVariants.{WrongLength}
 use Rattle.common.proofs.Tests.{passed, not-accepted, both-accepted}

@@ -134,7 +134,7 @@ pub fn list(
         text,
     );
     if printed.is_err() {
-        zone_steps::wipe_tables(addresses, map, grg);
+        bzgrid::wipe(addresses, map, grg);
         zone_steps::wipe_lists(classes, points, triplets, left, lengths);
     }
     printed

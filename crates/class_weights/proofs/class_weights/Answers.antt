@@ -40,20 +40,20 @@ overflow_cast-classes c =
     let g = c.grid_of-g.result in
     record { sfits = omega (arith, c.weigh_classes-classes.ensures.many, classes-few (sides g) (vector_of c.shift-half.result.v) (matrices c.args.rotations.now), grid-few g) }
 
-pub overflow_cast-point : goal.overflow_cast-point
-overflow_cast-point c =
+pub overflow_cast-p : goal.overflow_cast-p
+overflow_cast-p c =
     let a = (call-accepted c.weight_tests.ensures (to_z-of_z c.ranges.point) c.in-Ok.is).1 in
     let e = c.grid_of-g.ensures in
     let g = c.grid_of-g.result in
     rw (to_z-of_z c.ranges.point) (a.sign, record { fits = omega (arith, a.inside, ap size e, grid-few g) })
 
-pub list_keepers-count-requires : goal.list_keepers-count-requires
-list_keepers-count-requires c =
+pub invariant_of-list_keepers : goal.invariant_of-list_keepers
+invariant_of-list_keepers c =
     let a = (call-accepted c.weight_tests.ensures (to_z-of_z c.ranges.point) c.in-Ok.is).1 in
-    record {
-      inside = rw (to_z-of_z c.ranges.point) (subst (λ v. nat_abs c.args.point < size v) (sym c.grid_of-g.ensures) a.inside);
-      places = a.keepers;
-    }
+    record { inside = rw (to_z-of_z c.ranges.point) (subst (λ v. nat_abs c.args.point < size v) (sym c.grid_of-g.ensures) a.inside) }
+
+pub list_keepers-count-requires : goal.list_keepers-count-requires
+list_keepers-count-requires c = (call-accepted c.weight_tests.ensures (to_z-of_z c.ranges.point) c.in-Ok.is).1.keepers
 
 pub overflow_cast-count : goal.overflow_cast-count
 overflow_cast-count c = let h = counted-few c.args.rotations.now _ _ _ c.list_keepers-count.ensures.0 in search rules

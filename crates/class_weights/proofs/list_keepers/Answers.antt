@@ -14,18 +14,18 @@ pub loop-i-preserved : goal.loop-i-preserved
 loop-i-preserved c =
     let s = c.args in
     let l = c.loop-i in
-    let d = sides s.g in
+    let d = sides s.point.g in
     let ps = vector_of s.ps.v in
     let k = l.invariant.1 in
     elim c.if-rotate_grid_index-point.branch [
       | then-rotate_grid_index-point w ↦ (
         search rules,
-        rw w.k-is (keeping-more d ps s.rotations.list.now s.point k (search rules) c.rotate_grid_index.ensures.value c.at.ensures (search rules)
+        rw w.k-is (keeping-more d ps s.rotations.list.now s.point.p k (search rules) c.rotate_grid_index.ensures.value c.at.ensures (search rules)
             w.if-rotate_grid_index-point.true (w.keepers-is ∙ ap (set l.keepers l.k) (to_z_pos w64 {n = l.i} (search rules)))),
       )
       | else-rotate_grid_index-point w ↦ (
         search rules,
-        rw (w.keepers-is, w.k-is) (keeping-same d ps s.rotations.list.now s.point k (search rules) c.rotate_grid_index.ensures.value c.at.ensures w.if-rotate_grid_index-point.false),
+        rw (w.keepers-is, w.k-is) (keeping-same d ps s.rotations.list.now s.point.p k (search rules) c.rotate_grid_index.ensures.value c.at.ensures w.if-rotate_grid_index-point.false),
       )
     ]
 
@@ -33,8 +33,8 @@ pub returns : goal.returns
 returns c =
     let s = c.args in
     let l = c.loop-i in
-    let d = sides s.g in
+    let d = sides s.point.g in
     let ps = vector_of s.ps.v in
     let e = le_antisymm l.auto.i-end c.loop-i-test.false ∙ c.count-i-end.ensures in
-    let r = keeping-end d ps s.rotations.list.now s.point (subst (λ i. Keeping d ps s.rotations.list.now s.point (length c.fill.new.self) i l.k l.keepers) e l.invariant.1) in
+    let r = keeping-end d ps s.rotations.list.now s.point.p (subst (λ i. Keeping d ps s.rotations.list.now s.point.p (length c.fill.new.self) i l.k l.keepers) e l.invariant.1) in
     (r.1, rw c.fill.ensures.len at r.0)

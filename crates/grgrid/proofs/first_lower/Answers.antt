@@ -18,16 +18,16 @@ carried : (d : Vec ℕ) (ps l : List ℤ) (p n : ℕ) {r : ℕ} {m : List (List 
 unfolding rotate
 carried d ps l p n e f g = e ∙ ap₂ (λ m a. index d (halve (matrix_of m ▹ vector_of a) (vector_of ps))) f g
 
-pub returns-then-q-p-clause-value : goal.returns-then-q-p-clause-value
-returns-then-q-p-clause-value c =
+pub returns-then-q-point-clause-value : goal.returns-then-q-point-clause-value
+returns-then-q-point-clause-value c =
     let s = c.args in
-    let e = carried (sides s.g) s.ps.v s.rotations.list.now s.p c.loop-n.n c.rotated_index-q.ensures.value c.at.ensures c.doubled_point-address.ensures in
+    let e = carried (sides s.point.g) s.ps.v s.rotations.list.now s.point.p c.loop-n.n c.rotated_index-q.ensures.value c.at.ensures c.doubled_point-address.ensures in
     let n = length s.rotations.list.now / 9 in
-    ap Some e ∙ sym (lower-here (rotate (sides s.g) (vector_of s.ps.v)) s.rotations.list.now s.p c.loop-n.n n (rw c.count-n-end.ensures at c.loop-n-test.true) (rw e at c.if-q-p.true)) ∙ c.loop-n.invariant
+    ap Some e ∙ sym (lower-here (rotate (sides s.point.g) (vector_of s.ps.v)) s.rotations.list.now s.point.p c.loop-n.n n (rw c.count-n-end.ensures at c.loop-n-test.true) (rw e at c.if-q-point.true)) ∙ c.loop-n.invariant
 
 pub loop-n-preserved : goal.loop-n-preserved
 loop-n-preserved c =
     let s = c.args in
-    let e = carried (sides s.g) s.ps.v s.rotations.list.now s.p c.loop-n.n c.rotated_index-q.ensures.value c.at.ensures c.doubled_point-address.ensures in
+    let e = carried (sides s.point.g) s.ps.v s.rotations.list.now s.point.p c.loop-n.n c.rotated_index-q.ensures.value c.at.ensures c.doubled_point-address.ensures in
     let n = length s.rotations.list.now / 9 in
-    sym (lower-on (rotate (sides s.g) (vector_of s.ps.v)) s.rotations.list.now s.p c.loop-n.n n (rw c.count-n-end.ensures at c.loop-n-test.true) (rw e at c.if-q-p.false)) ∙ c.loop-n.invariant
+    sym (lower-on (rotate (sides s.point.g) (vector_of s.ps.v)) s.rotations.list.now s.point.p c.loop-n.n n (rw c.count-n-end.ensures at c.loop-n-test.true) (rw e at c.if-q-point.false)) ∙ c.loop-n.invariant

@@ -11,5 +11,5 @@ use Rattle.grgrid.proofs.first_lower.Given as goal
 
 abbrev pub invariant-loop-n : goal.invariant-loop-n
 invariant-loop-n l =
-    let turn = rotate (sides l.g) (vector_of l.ps.v) in
-    lower_from turn l.rotations.list.now l.p l.n (length l.rotations.list.now / 9) ≡ first_lower (map turn (matrices l.rotations.list.now)) l.p
+    let turn = rotate (sides l.point.g) (vector_of l.ps.v) in
+    lower_from turn l.rotations.list.now l.point.p l.n (length l.rotations.list.now / 9) ≡ first_lower (map turn (matrices l.rotations.list.now)) l.point.p

@@ -9,4 +9,4 @@ pub returns-clause-value : goal.returns-clause-value
 unfolding rotate
 returns-clause-value c =
     let s = c.args in
-    c.rotated_index.ensures.value ∙ ap (λ l. index (sides s.g) (halve (matrix_of s.rotation.m ▹ vector_of l) (vector_of s.ps.v))) c.doubled_point.ensures
+    c.rotated_index.ensures.value ∙ ap (λ l. index (sides s.point.g) (halve (matrix_of s.rotation.m ▹ vector_of l) (vector_of s.ps.v))) c.doubled_point.ensures

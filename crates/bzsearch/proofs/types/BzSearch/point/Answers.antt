@@ -8,7 +8,7 @@ use Rattle.bzsearch.proofs.types.BzSearch.point.Goals as goal
 use Rattle.bzsearch.proofs.types.BzSearch.point.Goals.{After-split_reduced_coordinates-s}
 
 is : (c : After-split_reduced_coordinates-s) → c.grid_address_from_index-address.result.v ≡ items (address (search_of c.args.self).d c.args.i)
-is c = c.grid_address_from_index-address.ensures ∙ ap (λ d. items (address d c.args.i)) c.grid_of.ensures
+is c = c.grid_address_from_index-address.ensures ∙ ap (λ d. items (address d c.args.i)) c.grid_of-g.ensures
 
 split : (c : After-split_reduced_coordinates-s) → split_view c.split_reduced_coordinates-s.result ≡ split_reduced (search_of c.args.self) (address (search_of c.args.self).d c.args.i)
 split c = c.split_reduced_coordinates-s.ensures ∙ ap (λ l. split_reduced (search_of c.args.self) (vector_of l)) (is c)

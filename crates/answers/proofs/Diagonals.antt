@@ -4,8 +4,8 @@ use mathlib.Core.Bool.{Bool, true, false, ◌&&◌}
 use mathlib.Core.List.{List, [], ◌∷◌}
 use Prim.Native.Nat.{ℕ}
 use lib.Dec.{eqb}
-use lib.IntN.{ℤ, pos, negsuc}
-use lib.ListN.{length, replicate}
+use lib.IntN.{ℤ, pos}
+use lib.ListN.{length}
 use borrow.Author.Tests.{eqb-true}
 use Rattle.std.specs.Prelude.{Result}
 use Rattle.common.specs.declared.Refusal.{Refusal}
@@ -21,7 +21,7 @@ use Rattle.smith3x3.specs.Smith3x3.{smith3x3}
 use Rattle.smith3x3.specs.Written as smith
 use Rattle.answers.specs.Diagonals.{DiagonalTold, result_lengths, diagonal_lengths, diagonalisation, Snf3x3Told}
 use Rattle.answers.specs.Diagonals.{smith_lengths, smith_form, Smith3x3Told}
-use Rattle.answers.proofs.Lengths.{taken, left, both, three-lengths}
+use Rattle.answers.proofs.Lengths.{taken, left, both, three-lengths, unwritten}
 
 module _ (a d p q told : ℕ) (e : diagonal_lengths a d p q told ≡ true) where
   abbrev after : (eqb a 9 ≡ true) × (result_lengths d p q && eqb told 1 ≡ true)
@@ -42,9 +42,6 @@ module _ (a d p q : ℕ) (e : smith_lengths a d p q ≡ true) where
 
   pub smith-result-lengths : (d ≡ 3) × (p ≡ 9) × (q ≡ 9)
   smith-result-lengths = three-lengths d 3 p 9 q 9 (both (eqb a 9) (result_lengths d p q) e).1
-
-abbrev unwritten : ℕ → List ℤ
-unwritten n = replicate n (negsuc 0)
 
 -- d, P and Q by the test of the lengths
 module _ {A : Type 0} (of_d of_p of_q : A → List ℤ) {fit : Bool} (s : Result A Refusal) (nd np nq : ℕ) {r : ℤ} {d p q : List ℤ} where

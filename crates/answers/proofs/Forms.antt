@@ -4,8 +4,8 @@ use mathlib.Core.Bool.{true, false}
 use mathlib.Core.List.{List, []}
 use Prim.Native.Nat.{ℕ}
 use lib.Dec.{eqb}
-use lib.IntN.{ℤ, pos, negsuc}
-use lib.ListN.{length, replicate}
+use lib.IntN.{ℤ, pos}
+use lib.ListN.{length}
 use borrow.Author.Tests.{eqb-true}
 use Rattle.std.specs.Prelude.{Bool, Result}
 use Rattle.std.specs.declared.cmp.Ordering.{Ordering}
@@ -20,16 +20,13 @@ use Rattle.hermite3x3.specs.Hermite3x3.{hermite3x3}
 use Rattle.hermite3x3.specs.OrderForms.{order_forms}
 use Rattle.hermite3x3.specs.SameGrid.{same_grid}
 use Rattle.answers.specs.Forms.{form_lengths, form_answer, Hermite3x3Told, two_lengths, order_told, OrderFormsTold, same_told, comparison, SameGridTold}
-use Rattle.answers.proofs.Lengths.{taken, left, both, three-lengths}
+use Rattle.answers.proofs.Lengths.{taken, left, both, three-lengths, unwritten}
 
 pub form-lengths : (a h : ℕ) → form_lengths a h ≡ true → (a ≡ 9) × (h ≡ 9)
 form-lengths a h e = let f = both (eqb a 9) (eqb h 9) e in (eqb-true a 9 f.0, eqb-true h 9 f.1)
 
 abbrev wrong : ℤ
 wrong = pos (number_of WrongLength)
-
-abbrev unwritten : ℕ → List ℤ
-unwritten n = replicate n (negsuc 0)
 
 module _ (a : List ℤ) (n : ℕ) {r : ℤ} {h : List ℤ} where
   pub form-unsized : form_lengths (length a) n ≡ false → r ≡ wrong → h ≡ unwritten n → Hermite3x3Told a n r h

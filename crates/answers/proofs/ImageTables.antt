@@ -5,9 +5,9 @@ use mathlib.Core.List.{List, [], ◌∷◌}
 use Prim.Native.Nat.{ℕ, ◌*◌, ◌<◌}
 use native.Mathlib.Omega.{arith}
 use lib.Dec.{T, eqb, leb, leb→le}
-use lib.IntN.{ℤ, pos, negsuc}
+use lib.IntN.{ℤ, pos}
 use lib.Ieee.{Float}
-use lib.ListN.{length, replicate}
+use lib.ListN.{length}
 use borrow.Author.Tests.{eqb-true, eq-eqb, ne_eqb}
 use mir.Syntax.{w64}
 use mir.Val.{to_z}
@@ -27,10 +27,7 @@ use Rattle.bztable.specs.Rotate.{rotate_tests, rotate_read, rotate_answer}
 use Rattle.bztable.specs.Neighbours.{input_tests as neighbour_input, neighbours_read, neighbours_answer, neighbours_written}
 use Rattle.bztable.proofs.AcceptedCall.{call-accepted}
 use Rattle.answers.specs.Images.{image_lengths, images_told, Held, LengthsFit, BzGridAddressesTold, rotate_lengths, rotated_told, RotateTold, NeighboursTold}
-use Rattle.answers.proofs.Lengths.{taken, left, both, three-lengths}
-
-abbrev unwritten : ℕ → List ℤ
-unwritten n = replicate n (negsuc 0)
+use Rattle.answers.proofs.Lengths.{taken, left, both, three-lengths, unwritten}
 
 -- ---- image tables
 -- a length that a place holds

@@ -1,5 +1,4 @@
 pub mod Lengths
-pub mod Copied
 pub mod Grids
 pub mod ClassWeights
 pub mod GroupAnswers

@@ -2,8 +2,9 @@
 // comparison with the Rust's own. No part of the archive for the camera, zone_archive.
 #![tactic(auto)]
 
-mod floats;
-mod gcd;
+// Public modules: a function that stands in a private one is no value in another crate.
+pub mod floats;
+pub mod gcd;
 
 ghost use Rattle.std.specs.Prelude.{neg_ℤ, ◌+ℤ◌, ◌-ℤ◌, ◌*ℤ◌};
 ghost use Rattle.std.specs.Int.Signed.{quot_z, rem_z};

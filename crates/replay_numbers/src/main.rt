@@ -68,7 +68,6 @@ where
     )
 }
 
-// An export without a contract is called in a closure: by its name alone it is no value in another crate.
 fn main(rt: HostRuntime) -> io::Result<()> {
     checked(&rt, "checked_add", numbers_c::zone_checked_add)?;
     checked(&rt, "checked_sub", numbers_c::zone_checked_sub)?;
@@ -88,13 +87,13 @@ fn main(rt: HostRuntime) -> io::Result<()> {
     )?;
     checked(&rt, "checked_div", numbers_c::zone_checked_div)?;
     checked(&rt, "checked_rem", numbers_c::zone_checked_rem)?;
-    to_float(&rt, "round", |x| numbers_c::zone_round(x))?;
-    to_float(&rt, "floor", |x| numbers_c::zone_floor(x))?;
-    to_float(&rt, "ceil", |x| numbers_c::zone_ceil(x))?;
-    to_float(&rt, "abs", |x| numbers_c::zone_abs(x))?;
-    to_float(&rt, "sqrt", |x| numbers_c::zone_sqrt(x))?;
-    to_number(&rt, "to_i64", |x| numbers_c::zone_to_i64(x))?;
-    to_number(&rt, "nint", |x| numbers_c::zone_nint(x))?;
+    to_float(&rt, "round", numbers_c::zone_round)?;
+    to_float(&rt, "floor", numbers_c::zone_floor)?;
+    to_float(&rt, "ceil", numbers_c::zone_ceil)?;
+    to_float(&rt, "abs", numbers_c::zone_abs)?;
+    to_float(&rt, "sqrt", numbers_c::zone_sqrt)?;
+    to_number(&rt, "to_i64", numbers_c::zone_to_i64)?;
+    to_number(&rt, "nint", numbers_c::zone_nint)?;
     to_number(
         &rt,
         "is_finite",
@@ -102,11 +101,7 @@ fn main(rt: HostRuntime) -> io::Result<()> {
     )?;
     replay(&rt, "to_f64", &mut [0; LINE], floats::to_f64)?;
     replay(&rt, "extended_gcd", &mut [0; LINE], |n| {
-        of_two(
-            n,
-            &mut [UNWRITTEN; 4],
-            |a, b, told| numbers_c::zone_extended_gcd(a, b, told),
-        )
+        of_two(n, &mut [UNWRITTEN; 4], numbers_c::zone_extended_gcd)
     })?;
     checked(&rt, "control", numbers_c::zone_checked_div)
 }

@@ -1,4 +1,5 @@
 // The 125 candidates by their numbers, and the weights of the inner products in the squared length of each.
+// A bound of an index stays a clause: a type for it would be one more number.
 ghost use Rattle.std.specs.Prelude.{◌≡◌, ◌*◌, ◌≤◌, ◌<◌, pos, nat_abs, ◌+ℤ◌, ◌*ℤ◌, get_or};
 ghost use Rattle.common.specs.Array.{vector_of, items, Sized};
 ghost use Rattle.mark_candidates.specs.ScaledCoordinates.{position};

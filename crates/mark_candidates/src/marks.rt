@@ -28,8 +28,8 @@ fn rises(a: Entry, o: Entry) -> i64
     ensures small { nat_abs result ≤ 5153960755200000000 }
 {
     let mut sum = 0;
-    for k in 0..6 {
-        sum += rise(a.widths[k], o.widths[k]);
+    for (k, width) in a.widths.iter().enumerate() {
+        sum += rise(*width, o.widths[k]);
     }
     sum
 }
@@ -70,7 +70,7 @@ pub fn mark_all(t: &[Entry], out: &mut [i64])
     requires { length out.old ≡ length t.now }
     ensures { out.new ≡ map (mark_of (map entry_view t.now)) (map entry_view t.now) }
 {
-    for i in 0..t.len() {
-        out[i] = mark(t, t[i]);
+    for (i, a) in t.iter().enumerate() {
+        out[i] = mark(t, *a);
     }
 }

@@ -21,10 +21,9 @@ fn length_by(weights: Weights, g: [i64; 6]) -> i64
     ensures value { result ≡ length_by weights.w g }
     ensures small { nat_abs result ≤ 1288490188800000000 }
 {
-    let w = weights.w;
     let mut sum = 0;
-    for k in 0..6 {
-        sum += w[k] * g[k];
+    for (k, weight) in weights.w.iter().enumerate() {
+        sum += *weight * g[k];
     }
     sum
 }
@@ -35,8 +34,8 @@ fn entry(weights: Weights, r: Ranges) -> Entry
 {
     let w = weights.w;
     let mut widths = [0; 6];
-    for k in 0..6 {
-        widths[k] = w[k] * (r.highest[k] - r.lowest[k]);
+    for (k, width) in widths.iter_mut().enumerate() {
+        *width = w[k] * (r.highest[k] - r.lowest[k]);
     }
     Entry {
         widths,
@@ -51,8 +50,8 @@ pub fn table(s: Rests, r: Ranges) -> [Entry; 125]
     ensures { map entry_view result ≡ map (compared_at s.s.v s.points.n r) candidates125 }
 {
     let mut t = [entry(weights_at(s, 0), r); 125];
-    for i in 0..125 {
-        t[i] = entry(weights_at(s, i), r);
+    for (i, e) in t.iter_mut().enumerate() {
+        *e = entry(weights_at(s, i), r);
     }
     t
 }

@@ -4,6 +4,6 @@ use Rattle.mark_candidates.proofs.table.entry.Given as goal
 
 abbrev pub invariant-loop-k : goal.invariant-loop-k
 invariant-loop-k l = record {
-  places : length l.widths ≡ 6;
-  each : (i : ℕ) → i < l.k → get_or l.widths i (pos 0) ≡ width_at l.fn.weights.w l.r.lowest l.r.highest i;
+  places : length l.width-items ≡ 6;
+  each : (i : ℕ) → i < l.k → get_or l.width-items i (pos 0) ≡ width_at l.fn.weights.w l.r.lowest l.r.highest i;
 }

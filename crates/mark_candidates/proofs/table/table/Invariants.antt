@@ -7,6 +7,6 @@ use Rattle.mark_candidates.proofs.table.table.Given as goal
 
 abbrev pub invariant-loop-i : goal.invariant-loop-i
 invariant-loop-i l = record {
-  places : length l.t ≡ 125;
-  each : (k : ℕ) → k < l.i → get_or (map entry_view l.t) k nothing ≡ compared_at l.s.s.v l.s.points.n l.r (candidate_at k);
+  places : length l.e-items ≡ 125;
+  each : (k : ℕ) → k < l.i → get_or (map entry_view l.e-items) k nothing ≡ compared_at l.s.s.v l.s.points.n l.r (candidate_at k);
 }

@@ -26,17 +26,17 @@ use Rattle.bz_triplets.specs.BzTriplets.{State, read_each, places_of, mark_of, l
 use Rattle.bz_triplets.specs.TripletsView.{found_by, choice_view, state_of, step_place, Room}
 
 -- ---- the three places of a triplet, one after the other
-pub places-stored : (t : Triplet) (at : ℕ) (out : List ℤ) → at + 3 ≤ length out → {a b c : ℤ} → a ≡ step_place t.step t.choice.x → b ≡ step_place t.step t.choice.y → c ≡ step_place t.step t.choice.z
+pub places-stored : (t : Triplet) (at : ℕ) (out : List ℤ) → at + 3 ≤ length out → {a b c : ℤ} → a ≡ step_place t.step t.choice.x.at → b ≡ step_place t.step t.choice.y.at → c ≡ step_place t.step t.choice.z.at
     → (last : ℕ) → last ≡ at + 2 → set (set (set out at a) (at + 1) b) last c ≡ take at out ++ (places_of (state_of t) ++ drop (at + 3) out)
 places-stored t at out h ea eb ec last el = (λ i. set (set (set out at (ea i)) (add-one at i) (eb i)) ((el ∙ add-two at) i) (ec i)) ∙ go t.step
   where
     stored : (x y z : ℤ) → set (set (set out at x) (suc at) y) (suc (suc at)) z ≡ take at out ++ ((x ∷ y ∷ z ∷ []) ++ drop (at + 3) out)
     stored x y z = sets-eq (x ∷ y ∷ z ∷ []) out at h ∙ append_assoc (take at out) (x ∷ y ∷ z ∷ []) (drop (at + 3) out)
 
-    go : (s : Step) → set (set (set out at (step_place s t.choice.x)) (suc at) (step_place s t.choice.y)) (suc (suc at)) (step_place s t.choice.z) ≡ take at out ++ (places_of (found_by s (choice_view t.choice)) ++ drop (at + 3) out)
+    go : (s : Step) → set (set (set out at (step_place s t.choice.x.at)) (suc at) (step_place s t.choice.y.at)) (suc (suc at)) (step_place s t.choice.z.at) ≡ take at out ++ (places_of (found_by s (choice_view t.choice)) ++ drop (at + 3) out)
     go step.Empty = stored (negsuc 0) (negsuc 0) (negsuc 0)
-    go (step.Left x) = stored (pos t.choice.x) (pos t.choice.y) (pos t.choice.z)
-    go step.Closed = stored (pos t.choice.x) (pos t.choice.y) (pos t.choice.z)
+    go (step.Left x) = stored (pos t.choice.x.at) (pos t.choice.y.at) (pos t.choice.z.at)
+    go step.Closed = stored (pos t.choice.x.at) (pos t.choice.y.at) (pos t.choice.z.at)
 
 -- ---- points read one after the other
 module _ {A : Type 0} (f : ℕ → Read A) where

@@ -29,7 +29,7 @@ found_by (step.Left x) c = left x c
 found_by step.Closed c = closed c
 
 abbrev pub choice_view : Choice → Vec ℕ
-choice_view c = record { x = c.x; y = c.y; z = c.z }
+choice_view c = record { x = c.x.at; y = c.y.at; z = c.z.at }
 
 abbrev pub state_of : Triplet → State
 state_of t = found_by t.step (choice_view t.choice)
@@ -38,7 +38,7 @@ abbrev pub state_read : Read Triplet → Read State
 state_read r = r then λ t. got (state_of t)
 
 abbrev pub places_in : Places → List ℕ
-places_in r = listed (place_in r.first r.others) r.count
+places_in r = listed (place_in r.first.at r.others) r.count
 
 abbrev pub places_listed : Read Places → Read (List ℕ)
 places_listed r = r then λ p. got (places_in p)

@@ -7,7 +7,7 @@ ghost use Rattle.bz_triplets.specs.Choosing.{start, nested};
 ghost use Rattle.bz_triplets.specs.BzTriplets.{squared_distance, sum_of, is_zero, tried_sum, try_at, place_in};
 ghost use Rattle.bz_triplets.specs.TripletsView.{state_of, state_read, places_in, walk_by, shorter, is_closed, choice_view};
 
-use crate::places::{Choice, Places};
+use crate::places::{Choice, Place, Places};
 use bztable::reading;
 use bztable::reading::Table;
 use common::{Bounded, Refusal};
@@ -98,21 +98,22 @@ fn try_choice(table: &Table, t: Triplet, choice: Choice, m: Measure) -> Result<T
     requires { is_closed t.step ≡ false }
     ensures { state_read result ≡ try_at (walk_by m table.now.addresses.now) (got (state_of t)) (choice_view choice) }
 {
-    let a = reading::address_at(table.addresses, choice.x)?;
-    let b = reading::address_at(table.addresses, choice.y)?;
-    let c = reading::address_at(table.addresses, choice.z)?;
+    let a = reading::address_at(table.addresses, choice.x.at)?;
+    let b = reading::address_at(table.addresses, choice.y.at)?;
+    let c = reading::address_at(table.addresses, choice.z.at)?;
     Ok(with_sum(t, choice, add3(a, b, c), m))
 }
 
-fn place_in(r: Places, k: usize) -> usize
+fn place_in(r: Places, k: usize) -> Place
     requires { k < r.count }
-    ensures value { result ≡ place_in r.first r.others k }
-    ensures upper_bound { result < 9223372036854775808 }
+    ensures { result.at ≡ place_in r.first.at r.others k }
 {
     if k == 0 {
         return r.first;
     }
-    r.others + (k - 1)
+    Place {
+        at: r.others + (k - 1),
+    }
 }
 
 // A zero sum ends the walk.
@@ -132,9 +133,14 @@ pub fn search_choices(
 ) -> Result<Triplet, Refusal>
     ensures { state_read result ≡ nested (try_at (walk_by m table.now.addresses.now)) (got start) (record { x = places_in q0; y = places_in q1; z = places_in q2 }) }
 {
+    let none = Place { at: 0 };
     let mut found = Triplet {
         step: Step::Empty,
-        choice: Choice { x: 0, y: 0, z: 0 },
+        choice: Choice {
+            x: none,
+            y: none,
+            z: none,
+        },
     };
     if q0.count == 0 || q1.count == 0 || q2.count == 0 {
         return Ok(found);

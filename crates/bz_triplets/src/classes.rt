@@ -12,7 +12,7 @@ ghost use Rattle.bz_triplets.specs.TripletsView.{state_of, state_read, places_li
 
 use crate::choices;
 use crate::choices::{Measure, Step, Triplet};
-use crate::places::Places;
+use crate::places::{Place, Places};
 use bzgrid::GridType;
 use bztable::reading;
 use bztable::reading::Table;
@@ -22,13 +22,12 @@ use grgrid::Address;
 // ---- the images of a point
 
 // The first image at place p, the counts of the others after the doubled mesh.
-fn sparse_places(table: &Table, p: usize) -> Result<Places, Refusal>
-    requires { p < 9223372036854775808 }
-    ensures { places_listed result ≡ places_read Sparse table.now.map.now (size (sides table.now.g)) p }
+fn sparse_places(table: &Table, p: Place) -> Result<Places, Refusal>
+    ensures { places_listed result ≡ places_read Sparse table.now.map.now (size (sides table.now.g)) p.at }
 {
     let n = grgrid::points(table.g);
-    let s = reading::place_at(table.map, 8 * n + p)?;
-    let e = reading::place_at(table.map, 8 * n + p + 1)?;
+    let s = reading::place_at(table.map, 8 * n + p.at)?;
+    let e = reading::place_at(table.map, 8 * n + p.at + 1)?;
     Ok(Places {
         first: p,
         others: n + s,
@@ -36,22 +35,20 @@ fn sparse_places(table: &Table, p: usize) -> Result<Places, Refusal>
     })
 }
 
-fn dense_places(table: &Table, p: usize) -> Result<Places, Refusal>
-    requires { p < 9223372036854775808 }
-    ensures { places_listed result ≡ places_read Dense table.now.map.now (size (sides table.now.g)) p }
+fn dense_places(table: &Table, p: Place) -> Result<Places, Refusal>
+    ensures { places_listed result ≡ places_read Dense table.now.map.now (size (sides table.now.g)) p.at }
 {
-    let s = reading::place_at(table.map, p)?;
-    let e = reading::place_at(table.map, p + 1)?;
+    let s = reading::place_at(table.map, p.at)?;
+    let e = reading::place_at(table.map, p.at + 1)?;
     Ok(Places {
-        first: s,
+        first: Place { at: s },
         others: s + 1,
         count: e.saturating_sub(s),
     })
 }
 
-fn places_at(table: &Table, p: usize) -> Result<Places, Refusal>
-    requires { p < 9223372036854775808 }
-    ensures { places_listed result ≡ places_read table.now.t table.now.map.now (size (sides table.now.g)) p }
+fn places_at(table: &Table, p: Place) -> Result<Places, Refusal>
+    ensures { places_listed result ≡ places_read table.now.t table.now.map.now (size (sides table.now.g)) p.at }
 {
     match table.t {
         GridType::Sparse => sparse_places(table, p),
@@ -62,9 +59,8 @@ fn places_at(table: &Table, p: usize) -> Result<Places, Refusal>
 // ---- the triplet of a class
 
 #[tactic(auto, unfolding(crate::specs::BzTriplets::chosen))]
-fn chosen(table: &Table, q0: usize, q1: usize, q2: usize, m: Measure) -> Result<Triplet, Refusal>
-    requires { (q0 < 9223372036854775808) × (q1 < 9223372036854775808) × (q2 < 9223372036854775808) }
-    ensures { state_read result ≡ chosen table.now.t (size (sides table.now.g)) table.now.map.now (walk_by m table.now.addresses.now) q0 q1 q2 }
+fn chosen(table: &Table, q0: Place, q1: Place, q2: Place, m: Measure) -> Result<Triplet, Refusal>
+    ensures { state_read result ≡ chosen table.now.t (size (sides table.now.g)) table.now.map.now (walk_by m table.now.addresses.now) q0.at q1.at q2.at }
 {
     let x = places_at(table, q0)?;
     let y = places_at(table, q1)?;
@@ -87,15 +83,16 @@ fn first_of(table: &Table, q1: usize) -> Result<Address, Refusal>
 fn triplet_of(
     table: &Table,
     a0: Address,
-    q0: usize,
-    q1: usize,
+    q0: Place,
+    q1: Place,
     m: Measure,
 ) -> Result<Triplet, Refusal>
-    requires { (q0 < 9223372036854775808) × (q1 < 9223372036854775808) }
-    ensures { state_read result ≡ triplet_of table.now.t (sides table.now.g) table.now.map.now (walk_by m table.now.addresses.now) (vector_of a0.v) q0 q1 }
+    ensures { state_read result ≡ triplet_of table.now.t (sides table.now.g) table.now.map.now (walk_by m table.now.addresses.now) (vector_of a0.v) q0.at q1.at }
 {
-    let a1 = first_of(table, q1)?;
-    let q2 = grgrid::grid_index_from_address(triplet_grid::third(a0, a1), table.g);
+    let a1 = first_of(table, q1.at)?;
+    let q2 = Place {
+        at: grgrid::grid_index_from_address(triplet_grid::third(a0, a1), table.g),
+    };
     chosen(table, q0, q1, q2, m)
 }
 
@@ -121,12 +118,11 @@ fn length_of(t: Triplet) -> f64
     }
 }
 
-fn place_of(s: Step, place: usize) -> i64
-    requires { place < 9223372036854775808 }
-    ensures { result ≡ step_place s place }
+fn place_of(s: Step, place: Place) -> i64
+    ensures { result ≡ step_place s place.at }
 {
     match s {
-        Step::Closed | Step::Left(_) => place as i64,
+        Step::Closed | Step::Left(_) => place.at as i64,
         Step::Empty => -1,
     }
 }
@@ -147,23 +143,23 @@ fn store_places(out: &mut [i64], at: usize, t: Triplet)
 pub fn fill_triplets(
     table: &Table,
     a0: Address,
-    q0: usize,
+    q0: Place,
     m: Measure,
     class_map: &[i64],
     out: &mut [i64],
     left: &mut [i64],
     left_length: &mut [f64],
 ) -> Result<(), Refusal>
-    requires fact_1 { q0 < 9223372036854775808 }
-    requires fact_2 { Room class_map.now (length out.old) (length left.old) (length left_length.old) }
-    ensures out_after { giving result out.new ≡ (read_each (triplet_of table.now.t (sides table.now.g) table.now.map.now (walk_by m table.now.addresses.now) (vector_of a0.v) q0) (own_points class_map.now (length class_map.now)) then λ l. got (triplet_list l)) }
-    ensures left_after { giving result left.new ≡ (read_each (triplet_of table.now.t (sides table.now.g) table.now.map.now (walk_by m table.now.addresses.now) (vector_of a0.v) q0) (own_points class_map.now (length class_map.now)) then λ l. got (marks l)) }
-    ensures left_length_after { giving result left_length.new ≡ (read_each (triplet_of table.now.t (sides table.now.g) table.now.map.now (walk_by m table.now.addresses.now) (vector_of a0.v) q0) (own_points class_map.now (length class_map.now)) then λ l. got (lengths l)) }
+    requires { Room class_map.now (length out.old) (length left.old) (length left_length.old) }
+    ensures out_after { giving result out.new ≡ (read_each (triplet_of table.now.t (sides table.now.g) table.now.map.now (walk_by m table.now.addresses.now) (vector_of a0.v) q0.at) (own_points class_map.now (length class_map.now)) then λ l. got (triplet_list l)) }
+    ensures left_after { giving result left.new ≡ (read_each (triplet_of table.now.t (sides table.now.g) table.now.map.now (walk_by m table.now.addresses.now) (vector_of a0.v) q0.at) (own_points class_map.now (length class_map.now)) then λ l. got (marks l)) }
+    ensures left_length_after { giving result left_length.new ≡ (read_each (triplet_of table.now.t (sides table.now.g) table.now.map.now (walk_by m table.now.addresses.now) (vector_of a0.v) q0.at) (own_points class_map.now (length class_map.now)) then λ l. got (lengths l)) }
 {
     let mut at = 0;
+    // By index: q1 numbers a point too, and the proof says what was written by how far q1 has come.
     for q1 in 0..class_map.len() {
         if class_map[q1] == q1 as i64 {
-            let found = triplet_of(table, a0, q0, q1, m)?;
+            let found = triplet_of(table, a0, q0, Place { at: q1 }, m)?;
             store_places(&mut *out, at, found);
             left[at] = mark_of(found);
             left_length[at] = length_of(found);

@@ -27,6 +27,7 @@ use choices::Measure;
 pub use choices::Step;
 use common::Refusal;
 use grgrid::Grid;
+use places::Place;
 
 fn over_sides(a: [f64; 3], d: [f64; 3]) -> [f64; 3]
     ensures { result ≡ row_over a d }
@@ -168,10 +169,13 @@ fn triplet_tests(
         map,
     };
     let a0 = reading::address_of(addresses, q0)?;
+    let point = Place {
+        at: point_of(t, g, q0, a0.v),
+    };
     classes::fill_triplets(
         &table,
         a0,
-        point_of(t, g, q0, a0.v),
+        point,
         measure_of(lattice, q, d),
         class_map,
         out,

@@ -46,16 +46,18 @@ returns-in_err-a0-clause-value c =
     let p = err_from_is_err_and c.from_residual-in_err-a0.result c.from_residual-in_err-a0.ensures.1 in
     rw (p.1, p.2) (ap (λ x. x then λ _. Accepted) (read-from i c.in_ok-t.t (to_z-of_z c.ranges.q0) c.in_err-a0.ensures) ∙ tests-read i (to_z-of_z c.ranges.q0) (to_z-of_z c.ranges.bz_grid_type) c.in_ok-t.ensures)
 
-pub fill_triplets-requires-clause-fact_1 : goal.fill_triplets-requires-clause-fact_1
-fill_triplets-requires-clause-fact_1 c =
+pub invariant_of-point : goal.invariant_of-point
+invariant_of-point c =
     let s = c.args in
     let i : Input = record { q0 = s.q0; addresses = s.addresses.now; map = s.map.now; classes = s.class_map.now; d = s.d; q = s.q; lattice = s.lattice; t = s.bz_grid_type; n = length s.out.now; m = length s.left.now; l = length s.left_length.now } in
     let a = input-accepted i (to_z-of_z c.ranges.q0) (to_z-of_z c.ranges.bz_grid_type) c.in_ok-t.ensures in
-    rw c.point_of.ensures
-    (point-below (sides c.grid_of-g.result) (mesh-fits s.d a.grid c.grid_of-g.ensures).grid c.in_ok-t.t (whole_below c.ranges.q0 (asked-for s.addresses.now _ c.in_ok-a0.ensures)) (vector_of c.in_ok-a0.a0.v))
+    record {
+      fits = rw c.point_of.ensures
+          (point-below (sides c.grid_of-g.result) (mesh-fits s.d a.grid c.grid_of-g.ensures).grid c.in_ok-t.t (whole_below c.ranges.q0 (asked-for s.addresses.now _ c.in_ok-a0.ensures)) (vector_of c.in_ok-a0.a0.v));
+    }
 
-pub fill_triplets-requires-clause-fact_2 : goal.fill_triplets-requires-clause-fact_2
-fill_triplets-requires-clause-fact_2 c =
+pub fill_triplets-requires : goal.fill_triplets-requires
+fill_triplets-requires c =
     let s = c.args in
     let i : Input = record { q0 = s.q0; addresses = s.addresses.now; map = s.map.now; classes = s.class_map.now; d = s.d; q = s.q; lattice = s.lattice; t = s.bz_grid_type; n = length s.out.now; m = length s.left.now; l = length s.left_length.now } in
     let a = input-accepted i (to_z-of_z c.ranges.q0) (to_z-of_z c.ranges.bz_grid_type) c.in_ok-t.ensures in

@@ -17,7 +17,7 @@ try m t = try_at (walk_by m t.addresses.now)
 
 -- place k of the images
 abbrev place : Places → ℕ → ℕ
-place r = place_in r.first r.others
+place r = place_in r.first.at r.others
 
 pub returns-then-q0-eq0 : goal.returns-then-q0-eq0
 returns-then-q0-eq0 c =
@@ -36,40 +36,40 @@ returns-in_err-found c =
     let f = try s.m s.table.now in
     let p = err_from_is_err_and c.from_residual.result c.from_residual.ensures.1 in
     let keeps = refusal-stays (walk_by s.m s.table.now.addresses.now) c.in_err-found.field-0.0 in
-    let x = c.place_in-x.result in
-    let y = c.place_in-y.result in
-    let e = ended (inner f x y) (place s.q2) (got (state_of c.loop-j.found)) c.loop-k.k c.in_err-found.ensures c.loop-k.invariant.is c.place_in.ensures.value s.q2.count c.loop-k-test.true (inner-stays f keeps x y) in
-    let g = ended (middle f (places_in s.q2) x) (place s.q1) (got (state_of c.loop-i.found)) c.loop-j.j e c.loop-j.invariant.is c.place_in-y.ensures.value s.q1.count c.loop-j-test.true (middle-stays f keeps (places_in s.q2) x) in
-    rw (p.1, p.2) (ended (outer f (places_in s.q1) (places_in s.q2)) (place s.q0) (got start) c.loop-i.i g c.loop-i.invariant.is c.place_in-x.ensures.value s.q0.count c.loop-i-test.true (outer-stays f keeps (places_in s.q1) (places_in s.q2)))
+    let x = c.place_in-x.result.at in
+    let y = c.place_in-y.result.at in
+    let e = ended (inner f x y) (place s.q2) (got (state_of c.loop-j.found)) c.loop-k.k c.in_err-found.ensures c.loop-k.invariant.is c.place_in.ensures s.q2.count c.loop-k-test.true (inner-stays f keeps x y) in
+    let g = ended (middle f (places_in s.q2) x) (place s.q1) (got (state_of c.loop-i.found)) c.loop-j.j e c.loop-j.invariant.is c.place_in-y.ensures s.q1.count c.loop-j-test.true (middle-stays f keeps (places_in s.q2) x) in
+    rw (p.1, p.2) (ended (outer f (places_in s.q1) (places_in s.q2)) (place s.q0) (got start) c.loop-i.i g c.loop-i.invariant.is c.place_in-x.ensures s.q0.count c.loop-i-test.true (outer-stays f keeps (places_in s.q1) (places_in s.q2)))
 
 pub returns-then-is_closed : goal.returns-then-is_closed
 returns-then-is_closed c =
     let s = c.args in
     let f = try s.m s.table.now in
     let keeps = closed-stays (walk_by s.m s.table.now.addresses.now) c.in_ok-found.found (sym c.is_closed.ensures ∙ c.if-is_closed.true) in
-    let x = c.place_in-x.result in
-    let y = c.place_in-y.result in
-    let e = ended (inner f x y) (place s.q2) (got (state_of c.loop-j.found)) c.loop-k.k c.in_ok-found.ensures c.loop-k.invariant.is c.place_in.ensures.value s.q2.count c.loop-k-test.true (inner-stays f keeps x y) in
-    let g = ended (middle f (places_in s.q2) x) (place s.q1) (got (state_of c.loop-i.found)) c.loop-j.j e c.loop-j.invariant.is c.place_in-y.ensures.value s.q1.count c.loop-j-test.true (middle-stays f keeps (places_in s.q2) x) in
-    ended (outer f (places_in s.q1) (places_in s.q2)) (place s.q0) (got start) c.loop-i.i g c.loop-i.invariant.is c.place_in-x.ensures.value s.q0.count c.loop-i-test.true (outer-stays f keeps (places_in s.q1) (places_in s.q2))
+    let x = c.place_in-x.result.at in
+    let y = c.place_in-y.result.at in
+    let e = ended (inner f x y) (place s.q2) (got (state_of c.loop-j.found)) c.loop-k.k c.in_ok-found.ensures c.loop-k.invariant.is c.place_in.ensures s.q2.count c.loop-k-test.true (inner-stays f keeps x y) in
+    let g = ended (middle f (places_in s.q2) x) (place s.q1) (got (state_of c.loop-i.found)) c.loop-j.j e c.loop-j.invariant.is c.place_in-y.ensures s.q1.count c.loop-j-test.true (middle-stays f keeps (places_in s.q2) x) in
+    ended (outer f (places_in s.q1) (places_in s.q2)) (place s.q0) (got start) c.loop-i.i g c.loop-i.invariant.is c.place_in-x.ensures s.q0.count c.loop-i-test.true (outer-stays f keeps (places_in s.q1) (places_in s.q2))
 
 -- ---- else each walk goes on
 pub loop-k-preserved : goal.loop-k-preserved
 loop-k-preserved c =
     let s = c.args in
-    reached-next (inner (try s.m s.table.now) c.place_in-x.result c.place_in-y.result) (place s.q2) (got (state_of c.loop-j.found)) c.loop-k.k c.loop-k.invariant.is c.place_in.ensures.value
+    reached-next (inner (try s.m s.table.now) c.place_in-x.result.at c.place_in-y.result.at) (place s.q2) (got (state_of c.loop-j.found)) c.loop-k.k c.loop-k.invariant.is c.place_in.ensures
     (record { on = sym c.is_closed.ensures ∙ c.if-is_closed.false; is = c.in_ok-found.ensures })
 
 pub loop-j-preserved : goal.loop-j-preserved
 loop-j-preserved c =
     let s = c.args in
     let f = try s.m s.table.now in
-    let v = reached-end (inner f c.place_in-x.result c.place_in-y.result) (place s.q2) (got (state_of c.loop-j.found)) {k = c.loop-k.k} {n = s.q2.count} c.loop-k.invariant (search rules) (search rules) in
-    reached-next (middle f (places_in s.q2) c.place_in-x.result) (place s.q1) (got (state_of c.loop-i.found)) c.loop-j.j c.loop-j.invariant.is c.place_in-y.ensures.value v
+    let v = reached-end (inner f c.place_in-x.result.at c.place_in-y.result.at) (place s.q2) (got (state_of c.loop-j.found)) {k = c.loop-k.k} {n = s.q2.count} c.loop-k.invariant (search rules) (search rules) in
+    reached-next (middle f (places_in s.q2) c.place_in-x.result.at) (place s.q1) (got (state_of c.loop-i.found)) c.loop-j.j c.loop-j.invariant.is c.place_in-y.ensures v
 
 pub loop-i-preserved : goal.loop-i-preserved
 loop-i-preserved c =
     let s = c.args in
     let f = try s.m s.table.now in
-    let v = reached-end (middle f (places_in s.q2) c.place_in-x.result) (place s.q1) (got (state_of c.loop-i.found)) {k = c.loop-j.j} {n = s.q1.count} c.loop-j.invariant (search rules) (search rules) in
-    reached-next (outer f (places_in s.q1) (places_in s.q2)) (place s.q0) (got start) c.loop-i.i c.loop-i.invariant.is c.place_in-x.ensures.value v
+    let v = reached-end (middle f (places_in s.q2) c.place_in-x.result.at) (place s.q1) (got (state_of c.loop-i.found)) {k = c.loop-j.j} {n = s.q1.count} c.loop-j.invariant (search rules) (search rules) in
+    reached-next (outer f (places_in s.q1) (places_in s.q2)) (place s.q0) (got start) c.loop-i.i c.loop-i.invariant.is c.place_in-x.ensures v

@@ -8,10 +8,10 @@ use Rattle.bz_triplets.proofs.Walking.{inner, middle, outer, Reached}
 use Rattle.bz_triplets.proofs.choices.search_choices.Given as goal
 
 abbrev pub invariant-loop-i : goal.invariant-loop-i
-invariant-loop-i l = Reached (foldl (outer (try_at (walk_by l.m l.table.addresses.now)) (places_in l.q1) (places_in l.q2)) (got start) (listed (place_in l.q0.first l.q0.others) l.i)) l.found
+invariant-loop-i l = Reached (foldl (outer (try_at (walk_by l.m l.table.addresses.now)) (places_in l.q1) (places_in l.q2)) (got start) (listed (place_in l.q0.first.at l.q0.others) l.i)) l.found
 
 abbrev pub invariant-loop-j : goal.invariant-loop-j
-invariant-loop-j l = Reached (foldl (middle (try_at (walk_by l.m l.table.addresses.now)) (places_in l.q2) l.x) (got (state_of l.initial.found)) (listed (place_in l.q1.first l.q1.others) l.j)) l.found
+invariant-loop-j l = Reached (foldl (middle (try_at (walk_by l.m l.table.addresses.now)) (places_in l.q2) l.x.at) (got (state_of l.initial.found)) (listed (place_in l.q1.first.at l.q1.others) l.j)) l.found
 
 abbrev pub invariant-loop-k : goal.invariant-loop-k
-invariant-loop-k l = Reached (foldl (inner (try_at (walk_by l.m l.table.addresses.now)) l.x l.y) (got (state_of l.initial.found)) (listed (place_in l.q2.first l.q2.others) l.k)) l.found
+invariant-loop-k l = Reached (foldl (inner (try_at (walk_by l.m l.table.addresses.now)) l.x.at l.y.at) (got (state_of l.initial.found)) (listed (place_in l.q2.first.at l.q2.others) l.k)) l.found

@@ -25,7 +25,7 @@ returns-in_err-found-clause-out_after c =
     let whole : SFits w64 z = search rules in
     let own = entry_place z c.loop-q1.q1 (entry-is z c.loop-q1.q1 whole.sfits (omega arith) c.if-class_map-q1.true) in
     let p = err_from_is_err_and c.from_residual.result c.from_residual.ensures.1 in
-    rw (p.1, p.2) (filled-refused (triplet s.table.now s.m s.a0.v s.q0) s.class_map.now c.loop-q1.invariant (λ l. got (triplet_list l)) c.loop-q1-test.true own (sym c.in_err-found.ensures))
+    rw (p.1, p.2) (filled-refused (triplet s.table.now s.m s.a0.v s.q0.at) s.class_map.now c.loop-q1.invariant (λ l. got (triplet_list l)) c.loop-q1-test.true own (sym c.in_err-found.ensures))
 
 pub returns-in_err-found-clause-left_after : goal.returns-in_err-found-clause-left_after
 returns-in_err-found-clause-left_after c =
@@ -34,7 +34,7 @@ returns-in_err-found-clause-left_after c =
     let whole : SFits w64 z = search rules in
     let own = entry_place z c.loop-q1.q1 (entry-is z c.loop-q1.q1 whole.sfits (omega arith) c.if-class_map-q1.true) in
     let p = err_from_is_err_and c.from_residual.result c.from_residual.ensures.1 in
-    rw (p.1, p.2) (filled-refused (triplet s.table.now s.m s.a0.v s.q0) s.class_map.now c.loop-q1.invariant (λ l. got (marks l)) c.loop-q1-test.true own (sym c.in_err-found.ensures))
+    rw (p.1, p.2) (filled-refused (triplet s.table.now s.m s.a0.v s.q0.at) s.class_map.now c.loop-q1.invariant (λ l. got (marks l)) c.loop-q1-test.true own (sym c.in_err-found.ensures))
 
 pub returns-in_err-found-clause-left_length_after : goal.returns-in_err-found-clause-left_length_after
 returns-in_err-found-clause-left_length_after c =
@@ -43,7 +43,7 @@ returns-in_err-found-clause-left_length_after c =
     let whole : SFits w64 z = search rules in
     let own = entry_place z c.loop-q1.q1 (entry-is z c.loop-q1.q1 whole.sfits (omega arith) c.if-class_map-q1.true) in
     let p = err_from_is_err_and c.from_residual.result c.from_residual.ensures.1 in
-    rw (p.1, p.2) (filled-refused (triplet s.table.now s.m s.a0.v s.q0) s.class_map.now c.loop-q1.invariant (λ l. got (lengths l)) c.loop-q1-test.true own (sym c.in_err-found.ensures))
+    rw (p.1, p.2) (filled-refused (triplet s.table.now s.m s.a0.v s.q0.at) s.class_map.now c.loop-q1.invariant (λ l. got (lengths l)) c.loop-q1-test.true own (sym c.in_err-found.ensures))
 
 pub store_places-requires : goal.store_places-requires
 store_places-requires c =
@@ -51,13 +51,13 @@ store_places-requires c =
     let z = get_or s.class_map.now c.loop-q1.q1 (pos 0) in
     let whole : SFits w64 z = search rules in
     let own = entry_place z c.loop-q1.q1 (entry-is z c.loop-q1.q1 whole.sfits (omega arith) c.if-class_map-q1.true) in
-    filled-room (triplet s.table.now s.m s.a0.v s.q0) s.class_map.now c.loop-q1.invariant c.loop-q1-test.true own
+    filled-room (triplet s.table.now s.m s.a0.v s.q0.at) s.class_map.now c.loop-q1.invariant c.loop-q1-test.true own
 
 pub loop-q1-preserved : goal.loop-q1-preserved
 loop-q1-preserved c =
     let s = c.args in
     let l = c.loop-q1 in
-    let f = triplet s.table.now s.m s.a0.v s.q0 in
+    let f = triplet s.table.now s.m s.a0.v s.q0.at in
     elim c.if-class_map-q1.branch [
       | then-class_map-q1+in_ok-found w ↦
           let z = get_or s.class_map.now c.loop-q1.q1 (pos 0) in

@@ -8,7 +8,7 @@ ghost use Rattle.zone_steps.specs.StepsView.{rooms, lists, Listed};
 ghost use Rattle.zone.specs.ChainView.{job};
 
 use common::Refusal;
-use zone_steps::Given;
+use zone_steps::Input;
 
 // The diagonal and the number of classes.
 #[derive(Clone, Copy)]
@@ -61,7 +61,7 @@ fn run_chain(
     let s = snf3x3::snf3x3(a)?;
     let d = s.d_diag;
     let q = s.q;
-    let g = Given {
+    let input = Input {
         d,
         q: integer_matrix::nested(q),
         rotations,
@@ -72,7 +72,7 @@ fn run_chain(
         q0,
     };
     zone_steps::list_in_basis(
-        &g,
+        &input,
         ps,
         addresses,
         map,

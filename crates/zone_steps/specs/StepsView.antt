@@ -4,7 +4,7 @@ use Rattle.common.specs.declared.Refusal.{Refusal}
 use Rattle.common.specs.Tested.{Tested}
 use Rattle.grgrid.specs.Own.{own_places}
 use Rattle.bz_triplets.specs.BzTriplets.{bz_triplets_answer, triplets_written, left_written, left_length_written}
-use Rattle.zone_steps.specs.declared.grid.Given.{Given}
+use Rattle.zone_steps.specs.declared.grid.Input.{Input}
 use Rattle.zone_steps.specs.Steps.{Rooms, Grid, Lists, transformed, image_addresses, image_map, image_grg, grid_lists}
 
 -- ---- records from the parts that the code holds
@@ -20,11 +20,11 @@ grid d q rotations lattice time_reversal swappable type q0 = record {
   q0 = q0;
 }
 
-abbrev pub given_grid : Given → Grid
-given_grid g = grid g.d g.q g.rotations.now g.lattice g.is_time_reversal g.swappable g.bz_grid_type g.q0
+abbrev pub input_grid : Input → Grid
+input_grid g = grid g.d g.q g.rotations.now g.lattice g.is_time_reversal g.swappable g.bz_grid_type g.q0
 
 -- with its rotations in its basis
-abbrev pub turned_grid : Given → Grid
+abbrev pub turned_grid : Input → Grid
 turned_grid g = grid g.d g.q (transformed g.rotations.now g.is_time_reversal g.d g.q) g.lattice g.is_time_reversal g.swappable g.bz_grid_type g.q0
 
 abbrev pub lists : (classes points triplets left : List ℤ) → List Float → Lists

@@ -9,14 +9,14 @@ ghost use Rattle.grgrid.specs.Grid.{size};
 ghost use Rattle.bzgrid.specs.BzGridAddresses.{grid_type_of};
 ghost use Rattle.triplet_grid.specs.IrTriplets.{triplet_tests, map_triplets_written, map_qwritten};
 ghost use Rattle.zone_steps.specs.Steps.{start_of, list_tests, lists_of};
-ghost use Rattle.zone_steps.specs.StepsView.{given_grid, lists, Roomy, Chosen};
+ghost use Rattle.zone_steps.specs.StepsView.{input_grid, lists, Roomy, Chosen};
 
 use bzgrid::GridType;
 use common::Refusal;
 
 // A grid, and what is asked of it. The rotations have nine numbers each.
 #[derive(Clone, Copy)]
-pub struct Given<'a> {
+pub struct Input<'a> {
     pub d: [i64; 3],
     pub q: [[i64; 3]; 3],
     pub rotations: &'a [i64],
@@ -122,7 +122,7 @@ pub fn wipe_lists(
 
 // Classes and triplets of n points, from tables that were built. A refusal may leave anything in the outputs.
 pub fn list_classes(
-    g: &Given,
+    input: &Input,
     addresses: &[i64],
     map: &[i64],
     n: usize,
@@ -132,10 +132,10 @@ pub fn list_classes(
     left: &mut [i64],
     lengths: &mut [f64],
 ) -> Result<(), Refusal>
-    requires fact_1 { n ≡ size (sides_of g.now.d) }
+    requires fact_1 { n ≡ size (sides_of input.now.d) }
     requires fact_2 { Roomy n (length classes.old) (length points.old) (length triplets.old) (length left.old) (length lengths.old) }
-    ensures value { result ≡ list_tests (given_grid g.now) addresses.now map.now }
-    ensures lengths_after { result ≡ Accepted → lists classes.new points.new triplets.new left.new lengths.new ≡ lists_of (given_grid g.now) addresses.now map.now (length classes.old) }
+    ensures value { result ≡ list_tests (input_grid input.now) addresses.now map.now }
+    ensures lengths_after { result ≡ Accepted → lists classes.new points.new triplets.new left.new lengths.new ≡ lists_of (input_grid input.now) addresses.now map.now (length classes.old) }
 {
     wipe_lists(
         &mut *classes,
@@ -145,25 +145,25 @@ pub fn list_classes(
         &mut *lengths,
     );
     number_classes(
-        g.q0,
-        g.d,
-        g.rotations,
-        g.is_time_reversal,
-        g.swappable,
+        input.q0,
+        input.d,
+        input.rotations,
+        input.is_time_reversal,
+        input.swappable,
         n,
         &mut *classes,
         &mut *points,
     )?;
-    let start = start_of(g.bz_grid_type, map, g.q0);
+    let start = start_of(input.bz_grid_type, map, input.q0);
     choose_triplets(
         start,
         addresses,
         map,
         &classes[0..n],
-        g.d,
-        g.q,
-        g.lattice,
-        g.bz_grid_type,
+        input.d,
+        input.q,
+        input.lattice,
+        input.bz_grid_type,
         triplets,
         left,
         lengths,

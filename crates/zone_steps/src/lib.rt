@@ -5,5 +5,5 @@ mod basis;
 mod grid;
 mod tables;
 
-pub use grid::{Given, wipe_lists};
+pub use grid::{Input, wipe_lists};
 pub use tables::list_in_basis;

@@ -3,15 +3,15 @@ ghost use Rattle.std.specs.Prelude.{◌≡◌, T, length};
 ghost use Rattle.common.specs.Limits.{diagonal_fits};
 ghost use Rattle.common.specs.Tested.{after, Accepted};
 ghost use Rattle.zone_steps.specs.Steps.{rotation_tests, grid_tests};
-ghost use Rattle.zone_steps.specs.StepsView.{given_grid, turned_grid, rooms, lists, Agreed, Listed};
+ghost use Rattle.zone_steps.specs.StepsView.{input_grid, turned_grid, rooms, lists, Agreed, Listed};
 
-use crate::grid::Given;
+use crate::grid::Input;
 use crate::{basis, grid};
 use common::Refusal;
 
 // Images, classes and triplets, of rotations in the basis of the grid. A refusal may leave anything in the outputs.
 fn list_grid(
-    g: &Given,
+    input: &Input,
     ps: [i64; 3],
     addresses: &mut [i64],
     map: &mut [i64],
@@ -22,33 +22,33 @@ fn list_grid(
     left: &mut [i64],
     lengths: &mut [f64],
 ) -> Result<(), Refusal>
-    requires fact_1 { T (diagonal_fits g.now.d) }
+    requires fact_1 { T (diagonal_fits input.now.d) }
     requires fact_2 { Agreed (length classes.old) (length points.old) (length triplets.old) (length left.old) (length lengths.old) }
-    ensures value { result ≡ grid_tests (given_grid g.now) ps (rooms (length addresses.old) (length map.old) (length grg.old) (length classes.old) (length points.old) (length triplets.old) (length left.old) (length lengths.old)) }
-    ensures listed { result ≡ Accepted → Listed (given_grid g.now) ps (rooms (length addresses.old) (length map.old) (length grg.old) (length classes.old) (length points.old) (length triplets.old) (length left.old) (length lengths.old)) addresses.new map.new grg.new (lists classes.new points.new triplets.new left.new lengths.new) }
+    ensures value { result ≡ grid_tests (input_grid input.now) ps (rooms (length addresses.old) (length map.old) (length grg.old) (length classes.old) (length points.old) (length triplets.old) (length left.old) (length lengths.old)) }
+    ensures listed { result ≡ Accepted → Listed (input_grid input.now) ps (rooms (length addresses.old) (length map.old) (length grg.old) (length classes.old) (length points.old) (length triplets.old) (length left.old) (length lengths.old)) addresses.new map.new grg.new (lists classes.new points.new triplets.new left.new lengths.new) }
 {
-    let n = grgrid::points(grgrid::grid_of(g.d));
+    let n = grgrid::points(grgrid::grid_of(input.d));
     if classes.len() < n {
         return Err(Refusal::WrongLength);
     }
     bzgrid::bz_grid_addresses(
-        g.d,
-        g.q,
+        input.d,
+        input.q,
         ps,
-        g.lattice,
-        g.bz_grid_type,
+        input.lattice,
+        input.bz_grid_type,
         &mut *addresses,
         &mut *map,
         &mut *grg,
     )?;
     grid::list_classes(
-        g, addresses, map, n, classes, points, triplets, left, lengths,
+        input, addresses, map, n, classes, points, triplets, left, lengths,
     )
 }
 
 // Of rotations as they stand.
 pub fn list_in_basis(
-    g: &Given,
+    input: &Input,
     ps: [i64; 3],
     addresses: &mut [i64],
     map: &mut [i64],
@@ -60,23 +60,29 @@ pub fn list_in_basis(
     lengths: &mut [f64],
 ) -> Result<(), Refusal>
     requires { Agreed (length classes.old) (length points.old) (length triplets.old) (length left.old) (length lengths.old) }
-    ensures value { result ≡ after (rotation_tests g.now.rotations.now g.now.is_time_reversal g.now.d g.now.q) (grid_tests (turned_grid g.now) ps (rooms (length addresses.old) (length map.old) (length grg.old) (length classes.old) (length points.old) (length triplets.old) (length left.old) (length lengths.old))) }
-    ensures listed { result ≡ Accepted → Listed (turned_grid g.now) ps (rooms (length addresses.old) (length map.old) (length grg.old) (length classes.old) (length points.old) (length triplets.old) (length left.old) (length lengths.old)) addresses.new map.new grg.new (lists classes.new points.new triplets.new left.new lengths.new) }
+    ensures value { result ≡ after (rotation_tests input.now.rotations.now input.now.is_time_reversal input.now.d input.now.q) (grid_tests (turned_grid input.now) ps (rooms (length addresses.old) (length map.old) (length grg.old) (length classes.old) (length points.old) (length triplets.old) (length left.old) (length lengths.old))) }
+    ensures listed { result ≡ Accepted → Listed (turned_grid input.now) ps (rooms (length addresses.old) (length map.old) (length grg.old) (length classes.old) (length points.old) (length triplets.old) (length left.old) (length lengths.old)) addresses.new map.new grg.new (lists classes.new points.new triplets.new left.new lengths.new) }
 {
     let mut turned = [0; 432];
-    let n = basis::turn_rotations(g.rotations, g.is_time_reversal, g.d, g.q, &mut turned)?;
-    let turned_given = Given {
-        d: g.d,
-        q: g.q,
+    let n = basis::turn_rotations(
+        input.rotations,
+        input.is_time_reversal,
+        input.d,
+        input.q,
+        &mut turned,
+    )?;
+    let turned_input = Input {
+        d: input.d,
+        q: input.q,
         rotations: &turned[0..n * 9],
-        lattice: g.lattice,
-        is_time_reversal: g.is_time_reversal,
-        swappable: g.swappable,
-        bz_grid_type: g.bz_grid_type,
-        q0: g.q0,
+        lattice: input.lattice,
+        is_time_reversal: input.is_time_reversal,
+        swappable: input.swappable,
+        bz_grid_type: input.bz_grid_type,
+        q0: input.q0,
     };
     list_grid(
-        &turned_given,
+        &turned_input,
         ps,
         addresses,
         map,

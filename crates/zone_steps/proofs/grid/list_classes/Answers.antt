@@ -11,30 +11,30 @@ use Rattle.std.specs.Prelude.{Err}
 use Rattle.integer.proofs.Fits.{held}
 use Rattle.bzgrid.specs.BzGridAddresses.{grid_type_of}
 use Rattle.zone_steps.specs.Steps.{start_of, points_of}
-use Rattle.zone_steps.specs.StepsView.{given_grid}
+use Rattle.zone_steps.specs.StepsView.{input_grid}
 use Rattle.zone_steps.proofs.ListedClasses.{list-refused, list-tested, lists-left, passed-classes, class-tests, class-map, point-map, classes-front, chosen-for}
 use Rattle.zone_steps.proofs.grid.list_classes.Goals as goal
 
 pub returns-in_err-number_classes-clause-value : goal.returns-in_err-number_classes-clause-value
 returns-in_err-number_classes-clause-value c =
     let s = c.args in
-    let g = given_grid s.g.now in
+    let g = input_grid s.input.now in
     let e : c.from_residual.result ≡ Err c.in_err-number_classes.field-0.0 = search rules in
     e ∙ list-refused g s.addresses.now s.map.now (class-tests g (search rules) c.requires.fact_1 c.number_classes.ensures.value) c.in_err-number_classes.was
 
 pub start_of-start-requires : goal.start_of-start-requires
 start_of-start-requires c =
     let s = c.args in
-    (passed-classes (held s.g.now.q0) s.g.now.d s.g.now.rotations.now s.g.now.is_time_reversal s.n s.n (sym c.number_classes.ensures.value ∙ c.in_ok-number_classes.was)).sign
+    (passed-classes (held s.input.now.q0) s.input.now.d s.input.now.rotations.now s.input.now.is_time_reversal s.n s.n (sym c.number_classes.ensures.value ∙ c.in_ok-number_classes.was)).sign
 
 pub returns-clause-value : goal.returns-clause-value
 returns-clause-value c =
     let s = c.args in
-    let g = given_grid s.g.now in
+    let g = input_grid s.input.now in
     let m = length s.classes.now in
     let n = c.number_classes.ensures in
-    let ei : to_z w64 (of_z w64 s.g.now.q0) ≡ s.g.now.q0 = search rules in
-    let eu : to_z w64 (of_z w64 s.g.now.bz_grid_type) ≡ s.g.now.bz_grid_type = search rules in
+    let ei : to_z w64 (of_z w64 s.input.now.q0) ≡ s.input.now.q0 = search rules in
+    let eu : to_z w64 (of_z w64 s.input.now.bz_grid_type) ≡ s.input.now.bz_grid_type = search rules in
     let fits : points_of g ≤ m = subst (λ k. k ≤ m) c.requires.fact_1 c.requires.fact_2.fits in
     let wx = class-map g ei c.requires.fact_1 c.wipe_lists.new.classes n.classes_after in
     let kx : length c.number_classes.new.classes ≡ m = search rules in
@@ -45,12 +45,12 @@ returns-clause-value c =
 pub returns-clause-lengths_after : goal.returns-clause-lengths_after
 returns-clause-lengths_after c k =
     let s = c.args in
-    let g = given_grid s.g.now in
+    let g = input_grid s.input.now in
     let m = length s.classes.now in
     let w = c.wipe_lists.ensures in
     let n = c.number_classes.ensures in
-    let ei : to_z w64 (of_z w64 s.g.now.q0) ≡ s.g.now.q0 = search rules in
-    let eu : to_z w64 (of_z w64 s.g.now.bz_grid_type) ≡ s.g.now.bz_grid_type = search rules in
+    let ei : to_z w64 (of_z w64 s.input.now.q0) ≡ s.input.now.q0 = search rules in
+    let eu : to_z w64 (of_z w64 s.input.now.bz_grid_type) ≡ s.input.now.bz_grid_type = search rules in
     let fits : points_of g ≤ m = subst (λ k. k ≤ m) c.requires.fact_1 c.requires.fact_2.fits in
     let agreed = c.requires.fact_2.agreed in
     let wx = class-map g ei c.requires.fact_1 c.wipe_lists.new.classes n.classes_after in

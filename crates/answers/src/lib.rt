@@ -39,7 +39,8 @@ pub fn number(answer: Result<(), Refusal>) -> i64
     }
 }
 
-// What is told beside: the numbers of an accepted call, or -1 in every place.
+// What is told beside: the numbers of an accepted call, or -1 in every place. Callers match and do not `map`: of an array that a
+// closure without clauses returns, a proof knows nothing.
 pub fn tell<const N: usize>(answer: Result<[i64; N], Refusal>, told: &mut [i64]) -> i64
     requires { length told.old ≡ N }
     ensures value { result ≡ answer_of answer.entry }
@@ -58,6 +59,14 @@ pub fn tell<const N: usize>(answer: Result<[i64; N], Refusal>, told: &mut [i64])
 }
 
 // Slices of other lengths: -1 in every place of the outputs.
+pub fn refuse(out: &mut [i64]) -> i64
+    ensures value { result ≡ pos (number_of WrongLength) }
+    ensures out_after { out.new ≡ replicate (length out.old) (negsuc 0) }
+{
+    out.fill(-1);
+    Refusal::WrongLength.answer()
+}
+
 pub fn refuse_three(a: &mut [i64], b: &mut [i64], c: &mut [i64]) -> i64
     ensures value { result ≡ pos (number_of WrongLength) }
     ensures a_after { a.new ≡ replicate (length a.old) (negsuc 0) }
@@ -66,8 +75,7 @@ pub fn refuse_three(a: &mut [i64], b: &mut [i64], c: &mut [i64]) -> i64
 {
     a.fill(-1);
     b.fill(-1);
-    c.fill(-1);
-    Refusal::WrongLength.answer()
+    refuse(c)
 }
 
 pub fn refuse_four(a: &mut [i64], b: &mut [i64], c: &mut [i64], d: &mut [i64]) -> i64

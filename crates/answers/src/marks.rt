@@ -22,10 +22,7 @@ pub fn ranges_at(lowest: &[i64], highest: &[i64]) -> Ranges
     ensures lowest_value { result.lowest ≡ six_of lowest.now }
     ensures highest_value { result.highest ≡ six_of highest.now }
 {
-    let low = six_at(lowest);
-    let high = six_at(highest);
-    Ranges {
-        lowest: low,
-        highest: high,
-    }
+    let lowest = six_at(lowest);
+    let highest = six_at(highest);
+    Ranges { lowest, highest }
 }

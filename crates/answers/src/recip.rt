@@ -3,7 +3,7 @@ ghost use Rattle.std.specs.Prelude.{◌≤◌, length};
 ghost use Rattle.recip_rotations.specs.PointGroup.{count_of};
 ghost use Rattle.answers.specs.PointGroupTold.{PointGroupTold};
 
-use crate::tell;
+use crate::{refuse, tell};
 use common::Refusal;
 
 pub fn tell_group(answer: Result<usize, Refusal>, out: &mut [i64], told: &mut [i64]) -> i64
@@ -12,8 +12,7 @@ pub fn tell_group(answer: Result<usize, Refusal>, out: &mut [i64], told: &mut [i
 {
     if told.len() != 1 {
         out.fill(-1);
-        told.fill(-1);
-        return Refusal::WrongLength.answer();
+        return refuse(told);
     }
     match answer {
         Ok(n) => tell(Ok([n as i64]), told),

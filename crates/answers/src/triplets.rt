@@ -6,7 +6,7 @@ ghost use Rattle.common.specs.declared.Refusal.TheVariants.{WrongLength};
 ghost use Rattle.common.specs.Refusal.{number_of};
 ghost use Rattle.answers.specs.Triplets.{triplet_class_lengths, triplet_lengths};
 
-use common::Refusal;
+use crate::refuse;
 
 pub fn triplet_class_lengths(d: usize, told: usize) -> bool
     ensures { result ≡ triplet_class_lengths d told }
@@ -26,8 +26,7 @@ pub fn refuse_triplets(out: &mut [i64], left: &mut [i64], left_length: &mut [f64
     ensures left_after { left.new ≡ replicate (length left.old) (negsuc 0) }
     ensures left_length_after { left_length.new ≡ replicate (length left_length.old) (of_int binary64 (negsuc 0)) }
 {
-    out.fill(-1);
-    left.fill(-1);
     left_length.fill(-1.0);
-    Refusal::WrongLength.answer()
+    left.fill(-1);
+    refuse(out)
 }

@@ -7,5 +7,5 @@ use Rattle.answers.proofs.triplets.refuse_triplets.Goals as goal
 
 pub returns-clause-left_length_after : goal.returns-clause-left_length_after
 returns-clause-left_length_after c =
-    let e : c.fill-3.new.self ≡ replicate (length c.args.left_length.now) (neg (of_bits binary64 0x3ff0000000000000)) = search rules in
+    let e : c.fill.new.self ≡ replicate (length c.args.left_length.now) (neg (of_bits binary64 0x3ff0000000000000)) = search rules in
     e ∙ ap (replicate (length c.args.left_length.now)) minus-one-literal

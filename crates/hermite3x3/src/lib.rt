@@ -26,10 +26,8 @@ pub fn hermite3x3(a: [[i64; 3]; 3]) -> Result<[i64; 9], Refusal>
     if integer_matrix::det_i(a) == 0 {
         return Err(Refusal::Singular);
     }
-    let Some(h) = steps::steps(a) else {
-        return Err(Refusal::Overflow);
-    };
-    Ok(integer_matrix::flat(h))
+    let h = steps::steps(a).ok_or(Refusal::Overflow)?;
+    Ok(common::flat(h))
 }
 
 // The first place that differs decides.

@@ -1,7 +1,7 @@
 // Rust's operations on i64 with the contracts that the modules cite: whether the exact number fits, the number, or why there is none.
 #![tactic(auto)]
 
-ghost use Rattle.std.specs.Prelude.{◌≡◌, ℤ, nat_abs, neg_ℤ, ◌+ℤ◌, ◌-ℤ◌, ◌*ℤ◌};
+ghost use Rattle.std.specs.Prelude.{◌≡◌, ℤ, neg_ℤ, ◌+ℤ◌, ◌-ℤ◌, ◌*ℤ◌};
 ghost use Rattle.std.specs.Int.Signed.{quot_z, rem_z};
 ghost use Rattle.integer.specs.Checked.{fits64, checked, divided};
 ghost use Rattle.integer.specs.Division.{div_euclid, rem_euclid, Divisible};
@@ -42,13 +42,6 @@ pub fn checked_neg(a: i64) -> Result<i64, ArithmeticError>
     a.checked_neg().ok_or(ArithmeticError::Overflow)
 }
 
-// The size; that of the least i64 fits only an unsigned number.
-pub fn unsigned_abs(a: i64) -> u64
-    ensures { result ≡ nat_abs a }
-{
-    a.unsigned_abs()
-}
-
 pub fn mul_fits(a: i64, b: i64) -> bool
     ensures { result ≡ fits64 (a *ℤ b) }
 {
@@ -59,13 +52,6 @@ pub fn checked_mul(a: i64, b: i64) -> Result<i64, ArithmeticError>
     ensures { result ≡ checked (a *ℤ b) }
 {
     a.checked_mul(b).ok_or(ArithmeticError::Overflow)
-}
-
-// Only the least i64 over -1 has a quotient that does not fit.
-pub fn quot_fits(a: i64, d: i64) -> bool
-    ensures { result ≡ fits64 (quot_z a d) }
-{
-    d != -1 || a != i64::MIN
 }
 
 pub fn checked_div(a: i64, d: i64) -> Result<i64, ArithmeticError>
@@ -84,13 +70,6 @@ pub fn checked_rem(a: i64, d: i64) -> Result<i64, ArithmeticError>
         return Err(ArithmeticError::ZeroDivisor);
     }
     a.checked_rem(d).ok_or(ArithmeticError::Overflow)
-}
-
-pub fn div_euclid(a: i64, d: i64) -> i64
-    requires { Divisible a d }
-    ensures { result ≡ div_euclid a d }
-{
-    a.div_euclid(d)
 }
 
 pub fn rem_euclid(a: i64, d: i64) -> i64

@@ -3,18 +3,12 @@
 
 ghost use Rattle.std.specs.Prelude.{◌≡◌, ◌&&◌, ◌*◌, T, leb, neg_ℤ, ◌+ℤ◌, ◌-ℤ◌};
 ghost use Rattle.integer.specs.Checked.{fits64};
-ghost use Rattle.common.specs.Matrix.{all_axes, transpose, negate, ◌·◌, det, vector};
+ghost use Rattle.common.specs.Matrix.{all_axes, negate, ◌·◌, det, vector};
 ghost use Rattle.common.specs.Limits.{matrix_within};
 ghost use Rattle.common.specs.Array.{along, items, matrix_of, rows};
 ghost use Rattle.common.specs.IntegerMatrix.{products_fit, dot_fits, product_fits, cross_fits, expand_fits, minors_fit, det_fits, negation_fits, largest_of, largest};
 
 pub use common::{flat, nested};
-
-pub fn transpose_i(m: [[i64; 3]; 3]) -> [[i64; 3]; 3]
-    ensures { result ≡ rows (transpose (matrix_of m)) }
-{
-    common::transpose(m)
-}
 
 fn row_negation_fits(a: [i64; 3]) -> bool
     ensures { result ≡ all_axes (λ k. fits64 (neg_ℤ (along a k))) }

@@ -10,7 +10,6 @@ ghost use Rattle.snf3x3.specs.Written.{written};
 ghost use Rattle.snf3x3.specs.FewRounds.{RoundsWithin};
 
 use common::Refusal;
-use integer_matrix::{flat, transpose_i};
 use snf_steps::stages::{Outcome, Triple};
 use snf_steps::{finalize, stages};
 
@@ -40,8 +39,8 @@ fn answer(s: Triple, n: usize) -> Snf
     ensures { Ok result ≡ written (walk.answer n (Some (three_of s))) }
 {
     let a = s.a;
-    let p = flat(s.p);
-    let q = flat(transpose_i(s.q));
+    let p = common::flat(s.p);
+    let q = common::flat(common::transpose(s.q));
     Snf {
         d_diag: [a[0][0], a[1][1], a[2][2]],
         p,
@@ -55,13 +54,9 @@ fn rounds(s: Triple) -> Result<Snf, Refusal>
 {
     let mut t = s;
     for n in 0..100 {
-        let Some(o) = round(t) else {
-            return Err(Refusal::Overflow);
-        };
+        let o = round(t).ok_or(Refusal::Overflow)?;
         if o.done {
-            let Some(f) = finalize::finalize(o.left) else {
-                return Err(Refusal::Overflow);
-            };
+            let f = finalize::finalize(o.left).ok_or(Refusal::Overflow)?;
             return Ok(answer(f, n + 1));
         }
         t = o.left;

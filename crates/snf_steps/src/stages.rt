@@ -35,7 +35,7 @@ fn rows_of(s: Triple) -> Pair
 fn columns_of(s: Triple) -> Pair
     ensures { matrices_of result ≡ stages.columns_of (three_of s) }
 {
-    let a = integer_matrix::transpose_i(s.a);
+    let a = common::transpose(s.a);
     let p = s.q;
     Pair { a, p }
 }
@@ -51,7 +51,7 @@ fn with_rows(s: Triple, u: Pair) -> Triple
 fn with_columns(s: Triple, u: Pair) -> Triple
     ensures { three_of result ≡ stages.with_columns (three_of s) (matrices_of u) }
 {
-    let a = integer_matrix::transpose_i(u.a);
+    let a = common::transpose(u.a);
     let p = s.p;
     let q = u.p;
     Triple { a, p, q }

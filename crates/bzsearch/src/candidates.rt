@@ -31,7 +31,7 @@ fn upwards(s: Span) -> Numbers
         a: s.lo,
         low: n,
         b: 0,
-        n: n,
+        n,
     }
 }
 
@@ -73,7 +73,7 @@ fn fft_order(s: Span) -> Numbers
     let low = count(p.lo, p.hi);
     Numbers {
         a: p.lo,
-        low: low,
+        low,
         b: s.lo,
         n: low + count(q.lo, q.hi),
     }
@@ -137,7 +137,7 @@ pub fn boxes_of(r: Range) -> Boxes
     let rest = if is_near(r) { None } else { Some(whole_box(r)) };
     Boxes {
         first: first_box(r),
-        rest: rest,
+        rest,
     }
 }
 
@@ -215,7 +215,12 @@ impl BzSearch {
     pub fn bound(self, s0: [f64; 3], b: Boxes) -> f64
         ensures { result ≡ bound (search_of self) (float_vector s0) (candidates_of b) }
     {
-        let first = self.least_box(s0, b.first, false, self.distance(s0, Candidate { v: [0, 0, 0] }));
+        let first = self.least_box(
+            s0,
+            b.first,
+            false,
+            self.distance(s0, Candidate { v: [0, 0, 0] }),
+        );
         let least = match b.rest {
             None => first,
             Some(whole) => self.least_box(s0, whole, true, first),

@@ -8,6 +8,4 @@ mod types;
 
 pub use lattice::{bz_tolerance, is_singular, lattice_fits};
 pub use search::{is_unimodular, length_squared};
-pub use types::{
-    Axes, Basis, Boxes, BzSearch, Candidate, Numbers, Point, Range, Span, Split,
-};
+pub use types::{Axes, Basis, Boxes, BzSearch, Candidate, Numbers, Point, Range, Span, Split};

@@ -127,7 +127,7 @@ fn span_of(s0: f64, half_width: f64) -> Span
 {
     let lo = float::to_i64(float::ceil(-s0 - half_width));
     let hi = float::to_i64(float::floor(-s0 + half_width));
-    Span { lo: lo, hi: hi }
+    Span { lo, hi }
 }
 
 impl BzSearch {
@@ -138,12 +138,7 @@ impl BzSearch {
     // Bound of the size of each number of the candidates that come first.
     pub const SEARCH_FIRST: i64 = 2;
 
-    pub fn new(
-        d_diag: [i64; 3],
-        ps: Shift,
-        q: Basis,
-        rec_lattice: [[f64; 3]; 3],
-    ) -> BzSearch
+    pub fn new(d_diag: [i64; 3], ps: Shift, q: Basis, rec_lattice: [[f64; 3]; 3]) -> BzSearch
         requires diagonal { T (diagonal_fits d_diag) }
         requires unimodular { T (unimodular (matrix_of q.m)) }
         ensures { search_of result ≡ new_search (sides_of d_diag) (vector_of ps.v) (matrix_of q.m) (float_matrix rec_lattice) }
@@ -181,10 +176,7 @@ impl BzSearch {
     pub fn split_reduced_coordinates(self, address: Address) -> Split
         ensures { split_view result ≡ split_reduced (search_of self) (vector_of address.v) }
     {
-        split_whole(float_matrix::matvec_id(
-            self.q.m,
-            self.grid_coordinates(address),
-        ))
+        split_whole(float_matrix::matvec_id(self.q.m, self.grid_coordinates(address)))
     }
 
     // Squared length of `rec_lattice (s0 + m)`.

@@ -2,12 +2,15 @@
 use mathlib.Core.Path.{◌≡◌, refl, sym, ◌∙◌, ap, ap₂}
 use mathlib.Core.Bool.{Bool, true, false}
 use mathlib.Core.List.{List, [], ◌∷◌, ◌++◌, append_assoc, append-nil}
-use Prim.Native.Nat.{ℕ, zero, suc, ◌+◌, ◌*◌, ◌-◌, ◌≤◌}
+use Prim.Native.Nat.{ℕ, zero, suc, ◌+◌, ◌*◌, ◌-◌, ◌≤◌, ◌<◌}
 use native.Mathlib.Numerals.{add-one}
 use native.Mathlib.Omega.{arith}
 use lib.IntN.{ℤ, pos, negsuc}
-use lib.ListN.{length, get_or, set, drop, replicate, length-append, length-drop, length-replicate, length-set}
-use lib.Seq.{get_or-drop, drop-drop, drop_at}
+use lib.ListN.{length, get_or, set, take, drop, replicate, length-append, length-drop, length-replicate, length-set}
+use lib.Seq.{get_or-drop, drop-drop, drop_at, length-take-le}
+use Rattle.std.proofs.lemmas.List.{get_or-take}
+use Rattle.std.specs.Prelude.{◌/◌}
+use native.Mathlib.Nat.{le_refl}
 use Rattle.integer.specs.Checked.{pick}
 use Rattle.common.specs.Matrix.{Vec}
 use Rattle.common.specs.Array.{vector_of, row_at}
@@ -63,6 +66,22 @@ placed-flat d (x ∷ xs) l r k map e =
     ap (λ n. placed_flat (doubled d) l n map) {x = k + suc (length xs)} {y = suc k + length xs} (omega arith)
     ∙ placed-flat d xs l r (suc k) map (ap (λ n. drop n l) {x = 3 * suc k} {y = 3 * k + 3} (omega arith) ∙ sym (drop-drop 3 (3 * k) l) ∙ ap (drop 3) e)
     ∙ ap (λ v. placed d (suc k) xs (set (placed_flat (doubled d) l k map) (index (doubled d) v) (pos k))) (ap vector_of (row l (3 * k) x.address.x x.address.y x.address.z (address_list xs ++ r) e))
+
+-- they are the first m of an output
+pub placed-front : (d : Vec ℕ) (l map : List ℤ) (m k : ℕ) → k ≤ m → placed_flat d (take (3 * m) l) k map ≡ placed_flat d l k map
+placed-front d l map m zero h = refl
+placed-front d l map m (suc k) h =
+    let at : (j : ℕ) → 3 * k + j < 3 * m → get_or (take (3 * m) l) (3 * k + j) (pos 0) ≡ get_or l (3 * k + j) (pos 0) = λ j h. get_or-take (3 * m) l (3 * k + j) (pos 0) h in
+    λ i. set (placed-front d l map m k (omega arith) i) (index d (vector_of (get_or-take (3 * m) l (3 * k) (pos 0) (omega arith) i ∷ at 1 (omega arith) i ∷ at 2 (omega arith) i ∷ []))) (pos k)
+
+pub mesh-front : (sparse : Bool) (d : Vec ℕ) (l map : List ℤ) (m : ℕ) → 3 * m ≤ length l
+    → with_mesh sparse d (take (3 * m) l) (length (take (3 * m) l) / 3) map ≡ with_mesh sparse d l m map
+mesh-front sparse d l map m h =
+    ap (λ k. with_mesh sparse d (take (3 * m) l) k map) count
+    ∙ ap (λ r. pick sparse (r ++ drop (size d) map) map) (placed-front d l (replicate (size d) (pos (size d))) m m (le_refl m))
+  where
+    count : length (take (3 * m) l) / 3 ≡ m
+    count = omega (arith, length-take-le (3 * m) l h)
 
 pub length-placed : (d : Vec ℕ) (xs : List Image) (k : ℕ) (map : List ℤ) → length (placed d k xs map) ≡ length map
 length-placed d [] k map = refl

@@ -3,7 +3,7 @@
 
 mod tables;
 
-ghost use Rattle.std.specs.Prelude.{◌≡◌, true, false, ◌+◌, ◌*◌, ◌≤◌, ◌<◌, T, pos, negsuc, length, replicate};
+ghost use Rattle.std.specs.Prelude.{◌≡◌, true, false, ◌+◌, ◌*◌, ◌/◌, ◌≤◌, ◌<◌, T, pos, negsuc, length, replicate};
 ghost use Rattle.grgrid.specs.Grid.{size};
 ghost use Rattle.grgrid.specs.Sides.{sides};
 ghost use Rattle.bzgrid.specs.Table.{images_at, doubled};
@@ -125,27 +125,23 @@ pub fn doubled(g: Grid) -> Grid
 }
 
 // The map over the doubled mesh: the place of the last image that falls at each of its points.
-fn fill_mesh(addresses: &[i64], m: usize, g: Grid, map: &mut [i64])
-    requires fact_1 { length map.old ≡ size (sides g) }
-    requires fact_2 { 3 * m ≤ length addresses.now }
-    requires fact_3 { m < 1099511627776 }
-    ensures { map.new ≡ placed_flat (sides g) addresses.now m (replicate (size (sides g)) (pos (size (sides g)))) }
+fn fill_mesh(addresses: &[i64], g: Grid, map: &mut [i64])
+    requires { length map.old ≡ size (sides g) }
+    ensures { map.new ≡ placed_flat (sides g) addresses.now (length addresses.now / 3) (replicate (size (sides g)) (pos (size (sides g)))) }
 {
     let empty = map.len() as i64;
     map.fill(empty);
-    tables::place_images(addresses, m, g, map);
+    tables::place_images(addresses, g, map);
 }
 
 // In a sparse table the map begins with the doubled mesh, whose grid is g.
-fn add_mesh(sparse: bool, addresses: &[i64], m: usize, g: Grid, map: &mut [i64])
-    requires fact_1 { if_sparse sparse (size (sides g)) ≤ length map.old }
-    requires fact_2 { 3 * m ≤ length addresses.now }
-    requires fact_3 { m < 1099511627776 }
-    ensures { map.new ≡ with_mesh sparse (sides g) addresses.now m map.old }
+fn add_mesh(sparse: bool, addresses: &[i64], g: Grid, map: &mut [i64])
+    requires { if_sparse sparse (size (sides g)) ≤ length map.old }
+    ensures { map.new ≡ with_mesh sparse (sides g) addresses.now (length addresses.now / 3) map.old }
 {
     if sparse {
         let e = grgrid::points(g);
-        fill_mesh(addresses, m, g, &mut map[0..e]);
+        fill_mesh(addresses, g, &mut map[0..e]);
     }
 }
 
@@ -167,7 +163,7 @@ fn finish(
     if !has_room(l, addresses.len(), map.len(), c) {
         return Err(Refusal::WrongLength);
     }
-    add_mesh(sparse, addresses, m, doubled(g), map);
+    add_mesh(sparse, &addresses[0..l.addresses], doubled(g), map);
     Ok(l)
 }
 
@@ -204,17 +200,16 @@ fn fill_tables(
     let d = s.d_diag;
     let g = grgrid::grid_of(d);
     let sparse = is_sparse(t);
-    match walk_points(
+    let m = walk_points(
         s,
         sparse,
         grgrid::points(g),
         &mut *addresses,
         &mut *map,
         grg,
-    ) {
-        None => Err(Refusal::SearchFailed),
-        Some(m) => finish(sparse, g, m, addresses, map, grg.len()),
-    }
+    )
+    .ok_or(Refusal::SearchFailed)?;
+    finish(sparse, g, m, addresses, map, grg.len())
 }
 
 // The same, with -1 in every place where they are refused.

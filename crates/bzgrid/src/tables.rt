@@ -1,5 +1,5 @@
 // Image tables: a walk over the points that writes the images of each, for both layouts.
-ghost use Rattle.std.specs.Prelude.{◌≡◌, [], ◌∷◌, ◌+◌, ◌*◌, ◌<◌, ◌≤◌, T, pos, length, Option};
+ghost use Rattle.std.specs.Prelude.{◌≡◌, [], ◌∷◌, ◌+◌, ◌/◌, ◌<◌, ◌≤◌, T, pos, length, Option};
 ghost use Rattle.integer.specs.Checked.{pick};
 ghost use Rattle.common.specs.Array.{vector_of, items, Sized};
 ghost use Rattle.grgrid.specs.Grid.{size};
@@ -24,19 +24,17 @@ pub struct Cursor {
 
 // The at-th three places of out, where there is room.
 fn put_address(out: &mut [i64], at: usize, a: [i64; 3])
-    requires { at < 1099511627776 }
     ensures { out.new ≡ put_at 3 out.old at (items (vector_of a)) }
 {
-    let i = 3 * at;
-    if i + 3 <= out.len() {
+    if at < out.len() / 3 {
+        let i = 3 * at;
         out[i..i + 3].copy_from_slice(&a);
     }
 }
 
 // The at-th place of out, where there is one.
 fn put_count(out: &mut [i64], at: usize, n: usize)
-    requires fact_1 { at < 1099511627776 }
-    requires fact_2 { n < 1099511627776 }
+    requires { n < 1099511627776 }
     ensures { out.new ≡ put_at 1 out.old at (pos n ∷ []) }
 {
     if at < out.len() {
@@ -66,6 +64,7 @@ pub fn if_sparse(sparse: bool, n: usize) -> usize
     if sparse { n } else { 0 }
 }
 
+// Room is asked for at each step and is no ghost field of Cursor: a step leaves room for one image less than it was given.
 fn store(i: usize, a: [i64; 3], addresses: &mut [i64], grg: &mut [i64], c: Cursor) -> Cursor
     requires { (i < 65536) × (c.next < 1099511627776) }
     ensures { tables addresses.new grg.new result.at result.next ≡ store (tables addresses.old grg.old c.at c.next) (image_of i (vector_of a)) }
@@ -161,8 +160,8 @@ fn write_point(bz: BzSearch, i: usize, addresses: &mut [i64], grg: &mut [i64], c
     }
     let b = candidates::boxes_of(r);
     let keeping = Keeping {
-        bz: bz,
-        p: p,
+        bz,
+        p,
         bound: bz.bound(p.s0, b),
     };
     let t = keeping.keep_box(b.first, false, &mut *addresses, &mut *grg, c);
@@ -204,14 +203,12 @@ pub fn write_table(
     Some(k)
 }
 
-// Each of the first m addresses at its place on the doubled mesh; the last one wins.
-pub fn place_images(addresses: &[i64], m: usize, g: Grid, map: &mut [i64])
-    requires fact_1 { length map.old ≡ size (sides g) }
-    requires fact_2 { 3 * m ≤ length addresses.now }
-    requires fact_3 { m < 1099511627776 }
-    ensures { map.new ≡ placed_flat (sides g) addresses.now m map.old }
+// Each address at its place on the doubled mesh; the last one wins.
+pub fn place_images(addresses: &[i64], g: Grid, map: &mut [i64])
+    requires { length map.old ≡ size (sides g) }
+    ensures { map.new ≡ placed_flat (sides g) addresses.now (length addresses.now / 3) map.old }
 {
-    for k in 0..m {
+    for k in 0..addresses.len() / 3 {
         let at = grgrid::grid_index_from_address(common::row_at(addresses, 3 * k), g);
         map[at] = k as i64;
     }

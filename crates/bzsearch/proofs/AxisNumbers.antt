@@ -3,18 +3,18 @@ use mathlib.Core.Path.{◌≡◌, refl, sym, ◌∙◌, ap}
 use mathlib.Core.Logic.{◌⊎◌, inl, inr, ⊎_elim}
 use mathlib.Core.Bool.{Bool, true, false}
 use Prim.Native.Nat.{ℕ, ◌+◌, ◌-◌, ◌≤◌, ◌<◌, zero-le}
-use native.Mathlib.Nat.{not-suc-le-zero, le_of_suc-le-suc, add-le-add}
+use native.Mathlib.Nat.{not-suc-le-zero, add-le-add}
 use native.Mathlib.Omega.{arith}
 use lib.Dec.{T, ltb}
 use lib.IntN.{ℤ, pos, negsuc, nat_abs, ◌+ℤ◌, ◌-ℤ◌}
-use lib.Signed.{◌≤ℤ◌, ◌<ℤ◌, le_z, lt_z, le_z_yes, lt_z_yes, lt_z_no}
+use lib.Signed.{◌≤ℤ◌, ◌<ℤ◌, lt_z, lt_z_yes, lt_z_no}
 use borrow.Author.Tests.{ltb-true, ltb-false, lt-ltb, le-ltb}
 use Rattle.integer.specs.Parts.{up, dn}
 use Rattle.integer.specs.Checked.{pick}
 use Rattle.integer.proofs.Parts.{ints, eq-parts, sum, difference}
 use Rattle.integer.proofs.Order.{slack, nonneg-dn}
-use Rattle.integer.proofs.Size.{abs-between}
-use Rattle.integer.proofs.Test.{pick-cases, holds, fails, and_l, and_r}
+use Rattle.integer.proofs.Test.{pick-cases, holds, fails}
+use Rattle.bzsearch.proofs.Spans.{within-16, span-low, span-high}
 use Rattle.bzsearch.specs.Search.{Span, Numbers, number_at, max_z, min_z, to_nat, count, count_of, upwards, from_zero, below_zero, fft_order, nearby, clipped, span_fits}
 
 -- ---- one of two
@@ -192,17 +192,11 @@ clipped-few r =
 
 -- within -16..16
 module _ (r : Span) (t : T (span_fits r)) where
-  above-16 : negsuc 15 ≤ℤ r.lo
-  above-16 = le_z_yes (and_l (le_z (negsuc 15) r.lo) (le_z r.hi (pos 16)) t)
-
-  below-16 : r.hi ≤ℤ pos 16
-  below-16 = le_z_yes (and_r (le_z (negsuc 15) r.lo) (le_z r.hi (pos 16)) t)
-
   pub upwards-few : (upwards r).n ≤ 33
-  upwards-few = count-mono (negsuc 15) (pos 16) r.lo r.hi above-16 below-16
+  upwards-few = count-mono (negsuc 15) (pos 16) r.lo r.hi (span-low r t) (span-high r t)
 
   pub span-size : (z : ℤ) → InSpan r z → nat_abs z ≤ 16
   span-size z s =
-      let low : negsuc 15 ≤ℤ z = omega (arith, ints, above-16, s.low) in
-      let high : z ≤ℤ pos 16 = omega (arith, ints, below-16, s.high) in
-      le_of_suc-le-suc (abs-between z 17 (omega (arith, ints), omega (arith, ints)))
+      let low : negsuc 15 ≤ℤ z = omega (arith, ints, span-low r t, s.low) in
+      let high : z ≤ℤ pos 16 = omega (arith, ints, span-high r t, s.high) in
+      within-16 z low high

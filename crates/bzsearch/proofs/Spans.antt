@@ -48,17 +48,17 @@ module _ (lo hi : ℤ) where
   below-count k h = omega (arith, ints, sum lo (pos k), reach-parts, to_nat-below reach h)
 
 -- ---- numbers within -16..16
-within-16 : (z : ℤ) → negsuc 15 ≤ℤ z → z ≤ℤ pos 16 → nat_abs z ≤ 16
+pub within-16 : (z : ℤ) → negsuc 15 ≤ℤ z → z ≤ℤ pos 16 → nat_abs z ≤ 16
 within-16 z l h = omega (arith, abs-between z 17 (omega (arith, ints)))
 
 run-size : (lo hi : ℤ) → negsuc 15 ≤ℤ lo → hi ≤ℤ pos 16 → (k : ℕ) → k < count lo hi → nat_abs (lo +ℤ pos k) ≤ 16
 run-size lo hi l h k o = let b = below-count lo hi k o in within-16 (lo +ℤ pos k) (omega (arith, ints, sum lo (pos k))) (omega (arith, ints, sum lo (pos k)))
 
 module _ (r : Span) (t : T (span_fits r)) where
-  span-low : negsuc 15 ≤ℤ r.lo
+  pub span-low : negsuc 15 ≤ℤ r.lo
   span-low = le_z_yes (and_l (le_z (negsuc 15) r.lo) (le_z r.hi (pos 16)) t)
 
-  span-high : r.hi ≤ℤ pos 16
+  pub span-high : r.hi ≤ℤ pos 16
   span-high = le_z_yes (and_r (le_z (negsuc 15) r.lo) (le_z r.hi (pos 16)) t)
 
   -- ---- from 0 on, and below 0
@@ -85,7 +85,6 @@ module _ (r : Span) (t : T (span_fits r)) where
     each = fft-size;
     few = omega (arith, count_most from.lo r.hi 17 (omega (arith, ints, reach-parts from.lo r.hi, from_low, span-high)), count_most r.lo below.hi 16 (omega (arith, ints, reach-parts r.lo below.hi, below-high, span-low)));
   }
-  -- ---- clipped
 
 -- ---- the numbers as the code puts them together, from ends that its locals hold
 pub fft-of : (r : Span) {f b : Span} {flo fhi blo bhi lo : ℤ} {n m : ℕ} → f ≡ from_zero r → b ≡ below_zero r → flo ≡ f.lo → fhi ≡ f.hi → blo ≡ b.lo → bhi ≡ b.hi → lo ≡ r.lo

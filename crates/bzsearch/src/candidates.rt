@@ -31,7 +31,7 @@ fn upwards(s: Span) -> Numbers
         a: s.lo,
         low: n,
         b: 0,
-        n: n,
+        n,
     }
 }
 
@@ -73,7 +73,7 @@ fn fft_order(s: Span) -> Numbers
     let low = count(p.lo, p.hi);
     Numbers {
         a: p.lo,
-        low: low,
+        low,
         b: s.lo,
         n: low + count(q.lo, q.hi),
     }

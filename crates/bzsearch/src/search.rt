@@ -127,7 +127,7 @@ fn span_of(s0: f64, half_width: f64) -> Span
 {
     let lo = float::to_i64(float::ceil(-s0 - half_width));
     let hi = float::to_i64(float::floor(-s0 + half_width));
-    Span { lo: lo, hi: hi }
+    Span { lo, hi }
 }
 
 impl BzSearch {

@@ -15,8 +15,8 @@ pub use array::{flat, matrix_at, nested, row_at, transpose};
 pub use bounded::{Bounded, BoundedMatrix, Rotations, Shift, shift};
 pub use entry::Entry;
 pub use limits::{
-    all_within, diagonal_fits, is_thrice, matrix_within, point_fits, rotations_fit, row_within,
-    shift_fits, whole_matrices, within,
+    all_within, diagonal_fits, is_product, is_thrice, matrix_within, point_fits, rotations_fit,
+    row_within, shift_fits, whole_matrices, within,
 };
 
 // Why a call gives no result. The Rust's own errors have the Rust's names.

@@ -28,10 +28,17 @@ pub fn matrix_within(m: [[i64; 3]; 3], k: u64) -> bool
     row_within(m[0], k) && row_within(m[1], k) && row_within(m[2], k)
 }
 
+// Whether n is a·b.
+pub fn is_product(n: usize, a: usize, b: usize) -> bool
+    ensures { result ≡ eqb n (a * b) }
+{
+    a.checked_mul(b) == Some(n)
+}
+
 pub fn is_thrice(n: usize, k: usize) -> bool
     ensures { result ≡ eqb n (k * 3) }
 {
-    k.checked_mul(3) == Some(n)
+    is_product(n, k, 3)
 }
 
 pub fn whole_matrices(list: &[i64]) -> bool

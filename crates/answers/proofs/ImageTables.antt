@@ -12,7 +12,7 @@ use borrow.Author.Tests.{eqb-true, eq-eqb, ne_eqb}
 use mir.Syntax.{w64}
 use mir.Val.{to_z}
 use mir.Facts.{to_z_pos}
-use Rattle.std.specs.Prelude.{Result}
+use Rattle.std.specs.Prelude.{Result, Ok, Err, IfOk}
 use Rattle.common.specs.declared.Refusal.{Refusal}
 use Rattle.common.specs.Tested.{Tested, answer_of}
 use Rattle.integer.proofs.Test.{and_l, and_r}
@@ -26,7 +26,7 @@ use Rattle.bzgrid.specs.BzGridAddresses.{has_room, input_tests, bz_answer, addre
 use Rattle.bztable.specs.Rotate.{rotate_tests, rotate_read, rotate_answer}
 use Rattle.bztable.specs.Neighbours.{input_tests as neighbour_input, neighbours_read, neighbours_answer, neighbours_written}
 use Rattle.bztable.proofs.AcceptedCall.{call-accepted}
-use Rattle.answers.specs.Images.{image_lengths, images_told, Held, LengthsFit, BzGridAddressesTold, rotate_lengths, rotated_told, RotateTold, NeighboursTold}
+use Rattle.answers.specs.Images.{image_lengths, images_told, Held, BzGridAddressesTold, rotate_lengths, rotated_told, RotateTold, NeighboursTold}
 use Rattle.answers.proofs.Lengths.{taken, left, both, three-lengths, unwritten}
 
 -- ---- image tables
@@ -49,8 +49,8 @@ module _ (d q ps lattice told : ℕ) (e : image_lengths d q ps lattice told ≡ 
 
 -- the lengths are those of slices, for 8 bytes each
 module _ (d : List ℤ) (q : List (List ℤ)) (ps : List ℤ) (lattice : List (List Float)) (t : ℤ) (na nm ng : ℕ) where
-  pub lengths-fit : {a : Result Lengths Refusal} → na * 8 < 0x8000000000000000 → nm * 8 < 0x8000000000000000 → ng * 8 < 0x8000000000000000 → a ≡ bz_answer d q ps lattice t na nm ng → LengthsFit a
-  lengths-fit ha hm hg e = record { held = λ l p. held l (call-accepted d q ps lattice t na nm ng l (sym e ∙ p)).room }
+  pub lengths-fit : (a : Result Lengths Refusal) → na * 8 < 0x8000000000000000 → nm * 8 < 0x8000000000000000 → ng * 8 < 0x8000000000000000 → a ≡ bz_answer d q ps lattice t na nm ng → IfOk a Held
+  lengths-fit (Ok l) ha hm hg e = held l (call-accepted d q ps lattice t na nm ng l (sym e)).room
     where
       held : (l : Lengths) → T (has_room l na nm ng) → Held l
       held l r =
@@ -60,6 +60,7 @@ module _ (d : List ℤ) (q : List (List ℤ)) (ps : List ℤ) (lattice : List (L
             map = omega (arith, leb→le l.map nm (and_l (leb l.map nm) (leb l.grg ng) s));
             grg = omega (arith, leb→le l.grg ng (and_r (leb l.map nm) (leb l.grg ng) s));
           }
+  lengths-fit (Err r) ha hm hg e = tt
 
 module _ (d q ps : List ℤ) (lattice : List Float) (t : ℤ) (na nm ng nt : ℕ) where
   abbrev a : Result Lengths Refusal

@@ -6,7 +6,7 @@ use native.Mathlib.Omega.{arith}
 use lib.IntN.{ℤ, pos, negsuc}
 use lib.ListN.{replicate}
 use borrow.Author.Tests.{eq-eqb, ne_eqb}
-use Rattle.std.specs.Prelude.{Result, Ok, Err}
+use Rattle.std.specs.Prelude.{Result, Ok, Err, IfOk}
 use Rattle.common.specs.declared.Refusal.{Refusal}
 use Rattle.common.specs.declared.Refusal.TheVariants.{WrongLength}
 use Rattle.common.specs.Refusal.{number_of}
@@ -18,7 +18,7 @@ use Rattle.worst_pair.proofs.Limit.{limit-of}
 use Rattle.answers.specs.WorstPairs.{pair_told, PairFits, WorstPairTold}
 use Rattle.answers.proofs.Lengths.{taken, left}
 
-pub pair_fits : (limit : ℤ) (w : Result WorstPair Refusal) → Answers limit w → PairFits w
+pub pair_fits : (limit : ℤ) (w : Result WorstPair Refusal) → Answers limit w → IfOk w PairFits
 pair_fits limit (Ok w) h =
     let high = (limit-of limit h.0).high in
     let u = h.1.0.worst.up_to in

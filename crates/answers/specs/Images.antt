@@ -1,5 +1,5 @@
 -- What the exports of bzgrid answer and leave in their outputs.
-use Rattle.std.specs.Prelude.{◌≡◌, Bool, ◌&&◌, List, [], ◌∷◌, ℕ, ◌<◌, eqb, ℤ, pos, negsuc, Float, length, replicate, Result, Ok}
+use Rattle.std.specs.Prelude.{◌≡◌, Bool, ◌&&◌, List, [], ◌∷◌, ℕ, ◌<◌, eqb, ℤ, pos, negsuc, Float, length, replicate, Result}
 use Rattle.common.specs.declared.Refusal.{Refusal}
 use Rattle.common.specs.Tested.{answer_of, told_of}
 use Rattle.integer.specs.Checked.{pick}
@@ -24,9 +24,6 @@ pub record Held (l : Lengths) : Type 0 where
   pub addresses : l.addresses < 0x8000000000000000
   pub map : l.map < 0x8000000000000000
   pub grg : l.grg < 0x8000000000000000
-
-pub record LengthsFit (a : Result Lengths Refusal) : Type 0 where
-  pub held : (l : Lengths) → a ≡ Ok l → Held l
 
 -- of d, Q, ps, the lattice and `told`
 abbrev pub image_lengths : ℕ → ℕ → ℕ → ℕ → ℕ → Bool

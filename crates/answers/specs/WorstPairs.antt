@@ -1,5 +1,5 @@
 -- What the export of the worst pair answers and leaves in its output.
-use Rattle.std.specs.Prelude.{◌≡◌, List, [], ◌∷◌, ℕ, ◌<◌, eqb, ℤ, pos, negsuc, replicate, Result, Ok, Err}
+use Rattle.std.specs.Prelude.{◌≡◌, List, [], ◌∷◌, ℕ, ◌<◌, eqb, ℤ, pos, negsuc, replicate, Result}
 use Rattle.integer.specs.Checked.{pick}
 use Rattle.common.specs.declared.Refusal.{Refusal}
 use Rattle.common.specs.declared.Refusal.TheVariants.{WrongLength}
@@ -13,9 +13,8 @@ abbrev pub pair_told : Result WorstPair Refusal → List ℤ
 pair_told = told_of (λ w. pos w.a ∷ pos w.b ∷ pos w.steps ∷ []) 3
 
 -- they fit into its places
-abbrev pub PairFits : Result WorstPair Refusal → Type 0
-PairFits (Ok w) = (w.a < 0x8000000000000000) × (w.b < 0x8000000000000000) × (w.steps < 0x8000000000000000)
-PairFits (Err r) = Unit {0}
+abbrev pub PairFits : WorstPair → Type 0
+PairFits w = (w.a < 0x8000000000000000) × (w.b < 0x8000000000000000) × (w.steps < 0x8000000000000000)
 
 -- the answer r and `told`, which had n places, for the pair that the call answers
 pub record WorstPairTold (limit : ℤ) (n : ℕ) (r : ℤ) (told : List ℤ) : Type 0 where

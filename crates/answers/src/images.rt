@@ -1,9 +1,9 @@
 // Of the image tables, the rotation of an image and its neighbours.
-ghost use Rattle.std.specs.Prelude.{◌≡◌, length};
+ghost use Rattle.std.specs.Prelude.{◌≡◌, length, IfOk};
 ghost use Rattle.common.specs.Tested.{answer_of};
 ghost use Rattle.common.specs.Array.{rows};
 ghost use Rattle.bzsearch.specs.SearchView.{float_nine};
-ghost use Rattle.answers.specs.Images.{image_lengths, images_told, LengthsFit, rotate_lengths, rotated_told};
+ghost use Rattle.answers.specs.Images.{image_lengths, images_told, Held, rotate_lengths, rotated_told};
 
 use crate::tell;
 use bzgrid::Lengths;
@@ -26,7 +26,7 @@ pub fn image_lengths(d: usize, q: usize, ps: usize, lattice: usize, told: usize)
 
 pub fn tell_lengths(answer: Result<Lengths, Refusal>, told: &mut [i64]) -> i64
     requires fact_1 { length told.old ≡ 3 }
-    requires fact_2 { LengthsFit answer }
+    requires fact_2 { IfOk answer Held }
     ensures value { result ≡ answer_of answer }
     ensures told_after { told.new ≡ images_told answer }
 {

@@ -24,7 +24,7 @@ pub use grid::{class_lengths, tell_classes};
 pub use images::{image_lengths, lattice_at, rotate_lengths, tell_lengths, tell_rotated};
 pub use marks::{mark_lengths, ranges_at};
 pub use pair::tell_pair;
-pub use recip::tell_group;
+pub use recip::{tell_count, tell_group};
 pub use transform::transform_lengths;
 pub use triplets::{refuse_triplets, triplet_class_lengths, triplet_lengths};
 pub use weights::{tell_weights, weight_lengths};

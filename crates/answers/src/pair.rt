@@ -1,5 +1,5 @@
 // Of the worst pair.
-ghost use Rattle.std.specs.Prelude.{◌≡◌, length};
+ghost use Rattle.std.specs.Prelude.{◌≡◌, length, IfOk};
 ghost use Rattle.common.specs.Tested.{answer_of};
 ghost use Rattle.answers.specs.WorstPairs.{pair_told, PairFits};
 
@@ -10,7 +10,7 @@ use worst_pair::WorstPair;
 // The first number, the second, and their steps.
 pub fn tell_pair(answer: Result<WorstPair, Refusal>, told: &mut [i64]) -> i64
     requires fact_1 { length told.old ≡ 3 }
-    requires fact_2 { PairFits answer }
+    requires fact_2 { IfOk answer PairFits }
     ensures value { result ≡ answer_of answer }
     ensures told_after { told.new ≡ pair_told answer }
 {

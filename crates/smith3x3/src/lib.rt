@@ -7,8 +7,8 @@ ghost use Rattle.common.specs.Matrix.{diagonal};
 ghost use Rattle.smith3x3.specs.Smith3x3 as smith;
 ghost use Rattle.smith3x3.specs.Written.{written, product_of, Promised};
 
-use common::Refusal;
-use integer_matrix::{flat, matmul_i, nested, product_fits};
+use common::{Refusal, flat, nested};
+use integer_matrix::{matmul_i, product_fits};
 use snf3x3::Snf;
 
 // P.A.Q is the diagonal matrix of `d_diag`.
@@ -34,12 +34,8 @@ fn product(l: [i64; 9], r: [i64; 9]) -> Option<[i64; 9]>
 fn multiplied(first: Snf, second: Snf) -> Result<Smith, Refusal>
     ensures { result ≡ written (smith.multiplied (vector_of second.d_diag) (matrix_at first.p 0) (matrix_at first.q 0) (matrix_at second.p 0) (matrix_at second.q 0)) }
 {
-    let Some(p) = product(second.p, first.p) else {
-        return Err(Refusal::Overflow);
-    };
-    let Some(q) = product(first.q, second.q) else {
-        return Err(Refusal::Overflow);
-    };
+    let p = product(second.p, first.p).ok_or(Refusal::Overflow)?;
+    let q = product(first.q, second.q).ok_or(Refusal::Overflow)?;
     let d_diag = second.d_diag;
     Ok(Smith { d_diag, p, q })
 }

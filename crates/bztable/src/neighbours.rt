@@ -97,13 +97,6 @@ fn fill_rows(table: &Table, points: &[i64], offsets: &[i64], out: &mut [i64]) ->
     Ok(())
 }
 
-// Whether n is a·b.
-fn is_product(n: usize, a: usize, b: usize) -> bool
-    ensures { result ≡ eqb n (a * b) }
-{
-    a.checked_mul(b) == Some(n)
-}
-
 #[tactic(auto, unfolding(crate::specs::Neighbours::input_tests))]
 fn input_tests(
     points: usize,
@@ -120,7 +113,7 @@ fn input_tests(
     if !reading::whole_addresses(addresses) {
         return Err(Refusal::WrongLength);
     }
-    if !is_product(places, points, offsets.len() / 3) {
+    if !common::is_product(places, points, offsets.len() / 3) {
         return Err(Refusal::WrongLength);
     }
     if !common::diagonal_fits(d) {

@@ -26,7 +26,7 @@ pub fn whole_addresses(list: &[i64]) -> bool
     list.len() % 3 == 0
 }
 
-// 0 to 2^40.
+// 0 to 2^40. The bound is a clause and not of a type: each reader of a place reckons with the bare number at once.
 fn place_of(n: i64) -> Result<usize, Refusal>
     ensures value { result ≡ place_of n }
     ensures below { IfOk result (λ p. p < 2199023255552) }

@@ -62,6 +62,7 @@ fn signed_words(bytes: &[u8], at: usize, out: &mut [i64])
     requires { at + 4 * length out.old ≤ length bytes.now }
     ensures { out.new ≡ signed_words bytes.now at (length out.old) }
 {
+    // By index: of places that an iterator lends, a proof knows no element afterwards.
     for k in 0..out.len() {
         out[k] = signed(word(bytes, at + 4 * k));
     }
@@ -71,6 +72,7 @@ fn floats(bytes: &[u8], at: usize, out: &mut [f64])
     requires { at + 8 * length out.old ≤ length bytes.now }
     ensures { out.new ≡ floats bytes.now at (length out.old) }
 {
+    // By index: of places that an iterator lends, a proof knows no element afterwards.
     for k in 0..out.len() {
         out[k] = float(bytes, at + 8 * k);
     }

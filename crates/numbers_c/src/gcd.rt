@@ -8,12 +8,11 @@ use snf_steps::gcd;
 pub fn zone_extended_gcd(a: i64, b: i64, told: &mut [i64]) -> i64
     ensures { GcdTold a b (length told.old) result told.new }
 {
+    told.fill(-1);
     if told.len() != 4 {
-        told.fill(-1);
         return Refusal::WrongLength.answer();
     }
     let Some(c) = gcd::counted_gcd(a, b) else {
-        told.fill(-1);
         return Refusal::Overflow.answer();
     };
     told.copy_from_slice(&[c.last.r, c.last.s, c.last.t, c.count as i64]);

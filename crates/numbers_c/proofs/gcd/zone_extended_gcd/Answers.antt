@@ -21,4 +21,4 @@ returns c =
     let s : held g.last.s ≡ g.last.s = search rules in
     let t : held g.last.t ≡ g.last.t = search rules in
     let n = to_z_pos w64 {n = g.count} (count_fits a.a a.b c.ranges.b g.last g.count known) in
-    gcd-told a.a a.b (length a.told.now) c.if-told-ne4.false known refl (c.copy_from_slice.ensures.after ∙ (λ j. r j ∷ s j ∷ t j ∷ n j ∷ []))
+    gcd-told a.a a.b (length a.told.now) (search rules) known refl (c.copy_from_slice.ensures.after ∙ (λ j. r j ∷ s j ∷ t j ∷ n j ∷ []))

@@ -6,7 +6,7 @@ use Prim.Native.Nat.{ℕ, ◌≤◌, ◌<◌}
 use native.Mathlib.Nat.{lt_of_le_of_lt}
 use lib.Dec.{leb, leb→le}
 use lib.ListN.{length}
-use Rattle.std.specs.Prelude.{Result, Ok, Err}
+use Rattle.std.specs.Prelude.{Result, Ok, Err, IfOk}
 use Rattle.integer.proofs.Test.{holds}
 use Rattle.common.specs.declared.Refusal.{Refusal}
 use Rattle.common.specs.declared.Refusal.TheVariants.{WrongLength}
@@ -14,7 +14,6 @@ use Rattle.common.specs.Tested.{require, after, giving, Tested, Accepted, withou
 use Rattle.common.proofs.Tests.{same-ok, refused-not-ok}
 use Rattle.zone_steps.specs.Steps.{Rooms}
 use Rattle.zone_list.specs.List.{finished, text, list_tests, list_answer}
-use Rattle.zone_c.specs.Lists.{BytesFit}
 
 -- ---- a listing that was printed had room
 bytes_below : (job : List ℕ) (r : Rooms) (n m : ℕ) → list_answer job r n ≡ Ok m → m ≤ n
@@ -26,5 +25,6 @@ bytes_below job r n m e = go (without_value (finished job r)) (leb (length (text
     go (Ok _) false p e = absurd (refused-not-ok e)
     go (Err r) b p e = absurd (refused-not-ok e)
 
-pub bytes_fit : (job : List ℕ) (r : Rooms) (n : ℕ) {a : Result ℕ Refusal} → n < 0x8000000000000000 → a ≡ list_answer job r n → BytesFit a
-bytes_fit job r n h e = record { held = λ m p. lt_of_le_of_lt (bytes_below job r n m (sym e ∙ p)) h }
+pub bytes_fit : (job : List ℕ) (r : Rooms) (n : ℕ) (a : Result ℕ Refusal) → n < 0x8000000000000000 → a ≡ list_answer job r n → IfOk a (λ m. m < 0x8000000000000000)
+bytes_fit job r n (Ok m) h e = lt_of_le_of_lt (bytes_below job r n m (sym e)) h
+bytes_fit job r n (Err x) h e = tt

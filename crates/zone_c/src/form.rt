@@ -2,14 +2,11 @@
 ghost use Rattle.std.specs.Prelude.{length};
 ghost use Rattle.answers.specs.Forms.{Hermite3x3Told, OrderFormsTold, SameGridTold};
 
-use common::Refusal;
-
 pub fn zone_hermite3x3(a: &[i64], h: &mut [i64]) -> i64
     ensures { Hermite3x3Told a.now (length h.old) result h.new }
 {
     if !answers::form_lengths(a.len(), h.len()) {
-        h.fill(-1);
-        return Refusal::WrongLength.answer();
+        return answers::refuse(h);
     }
     answers::tell(hermite3x3::hermite3x3(common::matrix_at(a, 0)), h)
 }
@@ -19,8 +16,7 @@ pub fn zone_order_forms(g: &[i64], h: &[i64], told: &mut [i64]) -> i64
     ensures { OrderFormsTold g.now h.now (length told.old) result told.new }
 {
     if g.len() != 9 || h.len() != 9 || told.len() != 1 {
-        told.fill(-1);
-        return Refusal::WrongLength.answer();
+        return answers::refuse(told);
     }
     let first = integer_matrix::flat(common::matrix_at(g, 0));
     let second = integer_matrix::flat(common::matrix_at(h, 0));
@@ -31,8 +27,7 @@ pub fn zone_same_grid(a: &[i64], b: &[i64], told: &mut [i64]) -> i64
     ensures { SameGridTold a.now b.now (length told.old) result told.new }
 {
     if a.len() != 9 || b.len() != 9 || told.len() != 1 {
-        told.fill(-1);
-        return Refusal::WrongLength.answer();
+        return answers::refuse(told);
     }
     answers::tell_same(
         hermite3x3::same_grid(common::matrix_at(a, 0), common::matrix_at(b, 0)),

@@ -2,8 +2,6 @@
 ghost use Rattle.std.specs.Prelude.{length};
 ghost use Rattle.answers.specs.Grids.{IrGridMapTold, AddressesTold};
 
-use common::Refusal;
-
 pub fn zone_ir_grid_map(
     rotations: &[i64],
     d: &[i64],
@@ -15,8 +13,7 @@ pub fn zone_ir_grid_map(
 {
     if !answers::class_lengths(d.len(), ps.len(), told.len()) {
         map.fill(-1);
-        told.fill(-1);
-        return Refusal::WrongLength.answer();
+        return answers::refuse(told);
     }
     answers::tell_classes(
         grgrid::ir_grid_map(rotations, common::row_at(d, 0), common::row_at(ps, 0), map),
@@ -28,8 +25,7 @@ pub fn zone_all_grid_addresses(d: &[i64], out: &mut [i64]) -> i64
     ensures { AddressesTold d.now (length out.old) result out.new }
 {
     if d.len() != 3 {
-        out.fill(-1);
-        return Refusal::WrongLength.answer();
+        return answers::refuse(out);
     }
     answers::number(grgrid::all_grid_addresses(common::row_at(d, 0), out))
 }

@@ -2,8 +2,6 @@
 ghost use Rattle.std.specs.Prelude.{length};
 ghost use Rattle.answers.specs.Images.{BzGridAddressesTold, RotateTold, NeighboursTold};
 
-use common::Refusal;
-
 pub fn zone_bz_grid_addresses(
     d: &[i64],
     q: &[i64],
@@ -48,8 +46,7 @@ pub fn zone_rotate_bz_grid_index(
     ensures { RotateTold index rotation.now addresses.now map.now d.now ps.now bz_grid_type (length told.old) result told.new }
 {
     if !answers::rotate_lengths(rotation.len(), d.len(), ps.len(), told.len()) {
-        told.fill(-1);
-        return Refusal::WrongLength.answer();
+        return answers::refuse(told);
     }
     answers::tell_rotated(
         bztable::rotate_bz_grid_index(
@@ -77,8 +74,7 @@ pub fn zone_neighboring_grid_points(
     ensures { NeighboursTold points.now offsets.now addresses.now map.now d.now bz_grid_type (length out.old) result out.new }
 {
     if d.len() != 3 {
-        out.fill(-1);
-        return Refusal::WrongLength.answer();
+        return answers::refuse(out);
     }
     answers::number(bztable::neighboring_grid_points_many(
         points,

@@ -1,11 +1,11 @@
 // The export of a job's listing.
 ghost use Rattle.std.specs.Prelude.{◌≡◌, length};
 ghost use Rattle.zone_list.specs.List.{list_rooms, list_answer, list_text};
-ghost use Rattle.zone_c.specs.Lists.{listing_number, listing_told, BytesFit, ZoneListTold};
+ghost use Rattle.zone_c.specs.Lists.{ZoneListTold};
 
 use common::Refusal;
 
-// In arrays for 256 points and 1,024 images.
+// In arrays for 256 points and 1,024 images. Fixed arrays: no heap.
 fn list_job(job: &[u8], text: &mut [u8]) -> Result<usize, Refusal>
     ensures value { result ≡ list_answer job.now list_rooms (length text.old) }
     ensures text_after { text.new ≡ list_text job.now list_rooms (length text.old) }
@@ -32,31 +32,12 @@ fn list_job(job: &[u8], text: &mut [u8]) -> Result<usize, Refusal>
     )
 }
 
-fn tell_listing(answer: Result<usize, Refusal>, told: &mut [i64]) -> i64
-    requires fact_1 { length told.old ≡ 1 }
-    requires fact_2 { BytesFit answer }
-    ensures value { result ≡ listing_number answer }
-    ensures told_after { told.new ≡ listing_told answer }
-{
-    match answer {
-        Ok(n) => {
-            told[0] = n as i64;
-            0
-        }
-        Err(r) => {
-            told[0] = -1;
-            r.answer()
-        }
-    }
-}
-
 pub fn zone_list(job: &[u8], text: &mut [u8], told: &mut [i64]) -> i64
     ensures { ZoneListTold job.now (length text.old) (length told.old) result text.new told.new }
 {
     if told.len() != 1 {
         text.fill(0);
-        told.fill(-1);
-        return Refusal::WrongLength.answer();
+        return answers::refuse(told);
     }
-    tell_listing(list_job(job, text), told)
+    answers::tell_count(list_job(job, text), told)
 }

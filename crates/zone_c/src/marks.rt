@@ -2,8 +2,6 @@
 ghost use Rattle.std.specs.Prelude.{length};
 ghost use Rattle.answers.specs.Marks.{MarkCandidatesTold};
 
-use common::Refusal;
-
 pub fn zone_mark_candidates(
     d: &[i64],
     q: &[i64],
@@ -17,8 +15,7 @@ pub fn zone_mark_candidates(
         out (length marks.old) result marks.new }
 {
     if !answers::mark_lengths(d.len(), q.len(), ps.len(), lowest.len(), highest.len()) {
-        marks.fill(-1);
-        return Refusal::WrongLength.answer();
+        return answers::refuse(marks);
     }
     answers::number(mark_candidates::mark_candidates(
         common::row_at(d, 0),

@@ -14,7 +14,7 @@ lattice_at-requires c = let s = c.args in (image-lengths (length s.d.now) (lengt
 
 pub tell_lengths-requires-clause-fact_2 : goal.tell_lengths-requires-clause-fact_2
 tell_lengths-requires-clause-fact_2 c =
-    lengths-fit _ _ _ _ _ _ _ _ (search rules) (search rules) (search rules) c.bz_grid_addresses.ensures.value
+    lengths-fit _ _ _ _ _ _ _ _ _ (search rules) (search rules) (search rules) c.bz_grid_addresses.ensures.value
 
 pub returns : goal.returns
 returns c =

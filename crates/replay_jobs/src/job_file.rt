@@ -45,8 +45,7 @@ pub fn printed(line: &[i64]) -> Option<Verdict> {
     let mut lengths = [UNWRITTEN_FLOAT; 256];
     let mut text = [UNWRITTEN_BYTE; 8192];
     let count = zone_print::print_job(
-        &held,
-        size,
+        &held[..size],
         &mut addresses,
         &mut map,
         &mut grg,

@@ -1,7 +1,7 @@
 // The program's one call, from the bytes that it read to the text that it prints.
 #![tactic(auto)]
 
-ghost use Rattle.std.specs.Prelude.{◌≡◌, ◌≤◌, length, take};
+ghost use Rattle.std.specs.Prelude.{◌≡◌, ◌≤◌, length};
 ghost use Rattle.job.specs.Listing.{refusal};
 ghost use Rattle.job.specs.Writing.{printed};
 ghost use Rattle.zone_steps.specs.StepsView.{lists};
@@ -17,43 +17,10 @@ fn print_refused(r: Refusal, text: &mut [u8; 8192]) -> usize
     job::print_refusal(r, text).unwrap_or(0)
 }
 
-// Of a job in the bytes.
-fn print_bytes(
-    bytes: &[u8],
-    addresses: &mut [i64; 3072],
-    map: &mut [i64; 2305],
-    grg: &mut [i64; 1024],
-    classes: &mut [i64; 256],
-    points: &mut [i64; 256],
-    triplets: &mut [i64; 768],
-    left: &mut [i64; 256],
-    lengths: &mut [f64; 256],
-    text: &mut [u8; 8192],
-) -> usize
-    ensures { let l = lists classes.new points.new triplets.new left.new lengths.new in
-        let o : PrintedJob = record {
-          bytes = result;
-          text = text.new;
-          addresses = addresses.new;
-          map = map.new;
-          grg = grg.new;
-          lists = l;
-        } in
-        o ≡ printed_job bytes.entry.now }
-{
-    match zone_list::list(
-        bytes, addresses, map, grg, classes, points, triplets, left, lengths, &mut *text,
-    ) {
-        Ok(n) => n,
-        Err(r) => print_refused(r, text),
-    }
-}
-
-// What zonelist prints of the n bytes that it read, and how many bytes that is. It holds one byte more than a job may have, so
-// that a longer one is refused.
+// What zonelist prints of the bytes that it read, and how many bytes that is. Outputs as slices: see docs/DECISIONS.md,
+// 'Output slices'.
 pub fn print_job(
-    held: &[u8; 8193],
-    n: usize,
+    job: &[u8],
     addresses: &mut [i64; 3072],
     map: &mut [i64; 2305],
     grg: &mut [i64; 1024],
@@ -73,11 +40,13 @@ pub fn print_job(
           grg = grg.new;
           lists = l;
         } in
-        o ≡ printed_job (take n held.now) }
+        o ≡ printed_job job.now }
     ensures upper_bound { result ≤ length text.new }
 {
-    let bytes = &held[..n.min(held.len())];
-    print_bytes(
-        bytes, addresses, map, grg, classes, points, triplets, left, lengths, text,
-    )
+    match zone_list::list(
+        job, addresses, map, grg, classes, points, triplets, left, lengths, &mut *text,
+    ) {
+        Ok(n) => n,
+        Err(r) => print_refused(r, text),
+    }
 }

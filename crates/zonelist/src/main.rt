@@ -22,6 +22,7 @@ fn read_full(input: &mut impl Read, held: &mut [u8]) -> io::Result<usize>
     Ok(done)
 }
 
+// It holds one byte more than a job may have, so that a longer one is refused. Fixed arrays: no heap.
 fn main(rt: HostRuntime) -> io::Result<()> {
     let mut held = [0u8; 8193];
     let n = read_full(&mut rt.reader(), &mut held)?;
@@ -35,8 +36,7 @@ fn main(rt: HostRuntime) -> io::Result<()> {
     let mut lengths = [0.0; 256];
     let mut text = [0u8; 8192];
     let bytes = zone_print::print_job(
-        &held,
-        n,
+        &held[..n],
         &mut addresses,
         &mut map,
         &mut grg,

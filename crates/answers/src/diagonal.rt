@@ -26,6 +26,7 @@ pub fn smith_lengths(a: usize, d: usize, p: usize, q: usize) -> bool
     a == 9 && result_lengths(d, p, q)
 }
 
+// Its twin is `tell_smith`: to tell one through the other takes a local for each array field.
 pub fn tell_diagonal(
     answer: Result<Snf, Refusal>,
     d: &mut [i64],
@@ -56,6 +57,7 @@ pub fn tell_diagonal(
     }
 }
 
+// Its twin is `tell_diagonal`: see there.
 pub fn tell_smith(
     answer: Result<Smith, Refusal>,
     d: &mut [i64],

@@ -10,7 +10,7 @@ use bzgrid::Lengths;
 use bztable::Rotated;
 use common::Refusal;
 
-// Nine numbers by rows.
+// Nine numbers by rows. Of f64 alone, as `common::matrix_at` is of i64: a generic callee would ask of every caller that sizes fit.
 pub fn lattice_at(l: &[f64]) -> [[f64; 3]; 3]
     requires { length l.now ≡ 9 }
     ensures { result ≡ rows (float_nine l.now) }

@@ -67,6 +67,7 @@ pub fn refuse(out: &mut [i64]) -> i64
     Refusal::WrongLength.answer()
 }
 
+// Three outputs: see docs/DECISIONS.md, 'Output slices'.
 pub fn refuse_three(a: &mut [i64], b: &mut [i64], c: &mut [i64]) -> i64
     ensures value { result ≡ pos (number_of WrongLength) }
     ensures a_after { a.new ≡ replicate (length a.old) (negsuc 0) }
@@ -78,6 +79,7 @@ pub fn refuse_three(a: &mut [i64], b: &mut [i64], c: &mut [i64]) -> i64
     refuse(c)
 }
 
+// Four outputs: see docs/DECISIONS.md, 'Output slices'.
 pub fn refuse_four(a: &mut [i64], b: &mut [i64], c: &mut [i64], d: &mut [i64]) -> i64
     ensures value { result ≡ pos (number_of WrongLength) }
     ensures a_after { a.new ≡ replicate (length a.old) (negsuc 0) }

@@ -20,6 +20,7 @@ pub fn triplet_lengths(d: usize, q: usize, lattice: usize) -> bool
     d == 3 && q == 9 && lattice == 9
 }
 
+// Three outputs: see docs/DECISIONS.md, 'Output slices'.
 pub fn refuse_triplets(out: &mut [i64], left: &mut [i64], left_length: &mut [f64]) -> i64
     ensures value { result ≡ pos (number_of WrongLength) }
     ensures out_after { out.new ≡ replicate (length out.old) (negsuc 0) }

@@ -5,7 +5,7 @@ ghost use Rattle.common.specs.Array.{rows, row_at, matrix_at, matrix_or, matrix_
 
 use crate::entry::Entry;
 
-// Three numbers of a lent list.
+// Three numbers of a lent list. Of i64 alone, as `matrix_at` is: a generic callee would ask of every caller that sizes fit.
 pub fn row_at(list: &[i64], at: usize) -> [i64; 3]
     requires { at + 3 ≤ length list.now }
     ensures { result ≡ row_at list.now at }

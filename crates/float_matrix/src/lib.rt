@@ -11,7 +11,7 @@ pub fn row_to_d(a: [i64; 3]) -> [f64; 3]
     a.map(float::to_f64)
 }
 
-// Row by row: with `m.map(row_to_d)` a matvec_id took 23 ns, and so 14.
+// Row by row a matvec_id takes 14 ns, with `m.map(row_to_d)` 23.
 pub fn mat_i_to_d(m: [[i64; 3]; 3]) -> [[f64; 3]; 3]
     ensures { result ≡ rows (to_floats m) }
 {

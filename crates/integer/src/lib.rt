@@ -1,9 +1,10 @@
 // Rust's operations on i64 with the contracts that the modules cite: whether the exact number fits, the number, or why there is none.
 #![tactic(auto)]
 
-ghost use Rattle.std.specs.Prelude.{◌≡◌, ℤ, neg_ℤ, ◌+ℤ◌, ◌-ℤ◌, ◌*ℤ◌};
+ghost use Rattle.std.specs.Prelude.{◌≡◌, ℤ, neg_ℤ, ◌+ℤ◌, ◌-ℤ◌, ◌*ℤ◌, Err, ok_or};
 ghost use Rattle.std.specs.Int.Signed.{quot_z, rem_z};
-ghost use Rattle.integer.specs.Checked.{fits64, checked, divided};
+ghost use Rattle.integer.specs.Checked.{fits64, is_zero, pick, checked, divided};
+ghost use Rattle.integer.specs.declared.ArithmeticError.TheVariants.{Overflow, ZeroDivisor};
 ghost use Rattle.integer.specs.Division.{div_euclid, rem_euclid, Divisible};
 
 #[derive(Clone, Copy, Debug, PartialEq, Eq)]
@@ -54,22 +55,26 @@ pub fn checked_mul(a: i64, b: i64) -> Result<i64, ArithmeticError>
     a.checked_mul(b).ok_or(ArithmeticError::Overflow)
 }
 
-pub fn checked_div(a: i64, d: i64) -> Result<i64, ArithmeticError>
-    ensures { result ≡ divided d (quot_z a d) (quot_z a d) }
+// A quotient or a remainder by d, or why there is none.
+fn divided(d: i64, quotient: Option<i64>) -> Result<i64, ArithmeticError>
+    ensures { result ≡ pick (is_zero d) (Err ZeroDivisor) (ok_or quotient Overflow) }
 {
     if d == 0 {
         return Err(ArithmeticError::ZeroDivisor);
     }
-    a.checked_div(d).ok_or(ArithmeticError::Overflow)
+    quotient.ok_or(ArithmeticError::Overflow)
+}
+
+pub fn checked_div(a: i64, d: i64) -> Result<i64, ArithmeticError>
+    ensures { result ≡ divided d (quot_z a d) (quot_z a d) }
+{
+    divided(d, a.checked_div(d))
 }
 
 pub fn checked_rem(a: i64, d: i64) -> Result<i64, ArithmeticError>
     ensures { result ≡ divided d (quot_z a d) (rem_z a d) }
 {
-    if d == 0 {
-        return Err(ArithmeticError::ZeroDivisor);
-    }
-    a.checked_rem(d).ok_or(ArithmeticError::Overflow)
+    divided(d, a.checked_rem(d))
 }
 
 pub fn rem_euclid(a: i64, d: i64) -> i64
@@ -82,17 +87,11 @@ pub fn rem_euclid(a: i64, d: i64) -> i64
 pub fn checked_div_euclid(a: i64, d: i64) -> Result<i64, ArithmeticError>
     ensures { result ≡ divided d (div_euclid a d) (div_euclid a d) }
 {
-    if d == 0 {
-        return Err(ArithmeticError::ZeroDivisor);
-    }
-    a.checked_div_euclid(d).ok_or(ArithmeticError::Overflow)
+    divided(d, a.checked_div_euclid(d))
 }
 
 pub fn checked_rem_euclid(a: i64, d: i64) -> Result<i64, ArithmeticError>
     ensures { result ≡ divided d (div_euclid a d) (rem_euclid a d) }
 {
-    if d == 0 {
-        return Err(ArithmeticError::ZeroDivisor);
-    }
-    a.checked_rem_euclid(d).ok_or(ArithmeticError::Overflow)
+    divided(d, a.checked_rem_euclid(d))
 }

@@ -1,6 +1,7 @@
 // What the programs that replay vectors share: the cases of a file are judged and counted, and the counts printed.
 #![tactic(auto)]
 
+ghost use Rattle.std.specs.Prelude.{◌≤◌, length};
 ghost use Rattle.vectors.specs.Line.{Front};
 
 use std::fs::File;
@@ -27,7 +28,9 @@ fn read_full(file: &mut impl Read, text: &mut [u8]) -> usize
 
 // The file, read into `text`; nothing where there is none or it has no room, which is told. A failed write of
 // that is left to the counts, which are printed next.
-fn read_vectors<'a>(rt: &(impl Files + Print), name: &str, text: &'a mut [u8]) -> &'a [u8] {
+fn read_vectors<'a>(rt: &(impl Files + Print), name: &str, text: &'a mut [u8]) -> &'a [u8]
+    ensures { length result.now ≤ length text.old }
+{
     let Ok(mut file) = File::open(rt, name) else {
         let _ = print!(rt; "no vectors: ");
         return &[];

@@ -7,7 +7,7 @@ ghost use Rattle.snf_steps.specs.Settled.{divides, in_order, off_diagonal_zero, 
 ghost use Rattle.snf_steps.specs.StagesView.{three_of, triple_of, on_diagonal};
 
 use crate::elementary::{
-    elementary_add_rows, elementary_flip_sign_row, elementary_swap_rows, is_multiple,
+    checked_is_multiple, elementary_add_rows, elementary_flip_sign_row, elementary_swap_rows,
 };
 use crate::stages::{Triple, both_zero, first, on_columns, on_rows, second};
 
@@ -61,7 +61,7 @@ fn finalize_disturb(i: usize, j: usize, s: Triple) -> Option<Triple>
     requires { (i < 3) × (j < 3) }
     ensures { triple_of result ≡ finalize.finalize_disturb i j (on_diagonal s i) (on_diagonal s j) (three_of s) }
 {
-    if is_multiple(s.a[j][j], s.a[i][i])? {
+    if checked_is_multiple(s.a[j][j], s.a[i][i])? {
         return Some(s);
     }
     on_columns(elementary_add_rows(i, j, 1), s)
@@ -96,7 +96,7 @@ fn flip_pq(s: Triple) -> Option<Triple>
 fn divides(x: i64, y: i64) -> bool
     ensures { result ≡ divides x y }
 {
-    is_multiple(y, x).unwrap_or(false)
+    checked_is_multiple(y, x).unwrap_or(false)
 }
 
 fn sorted(x: i64, y: i64, z: i64) -> bool

@@ -8,7 +8,9 @@ ghost use Rattle.snf_steps.specs.Stages as stages;
 ghost use Rattle.snf_steps.specs.StagesView.{three_of, triple_of, outcome_of};
 
 use crate::columns::{Pair, first_column, multiply, second_column};
-use crate::elementary::{below_first, checked_neg_quotient, elementary_add_rows, is_multiple};
+use crate::elementary::{
+    below_first, checked_is_multiple, checked_neg_quotient, elementary_add_rows,
+};
 
 // a, P and the transpose of Q.
 #[derive(Clone, Copy)]
@@ -105,7 +107,7 @@ fn first_tests(d: i64, y: i64, z: i64, s: Triple) -> Option<Outcome>
             done: true,
         });
     }
-    if is_multiple(y, d)? && is_multiple(z, d)? {
+    if checked_is_multiple(y, d)? && checked_is_multiple(z, d)? {
         return first_finalize(d, y, z, s);
     }
     Some(Outcome {
@@ -158,7 +160,7 @@ fn second_tests(d: i64, z: i64, s: Triple) -> Option<Outcome>
             done: true,
         });
     }
-    if is_multiple(z, d)? {
+    if checked_is_multiple(z, d)? {
         return second_finalize(d, z, s);
     }
     Some(Outcome {

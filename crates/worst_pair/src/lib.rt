@@ -29,6 +29,7 @@ fn neighbours(limit: usize) -> WorstPair
     let mut a: usize = 1;
     let mut b: usize = 1;
     let mut steps: usize = 1;
+    // A `while`: Fibonacci's row has no index and no list to go over.
     while a + b <= limit {
         let next = a + b;
         a = b;

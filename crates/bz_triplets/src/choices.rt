@@ -145,6 +145,7 @@ pub fn search_choices(
     if q0.count == 0 || q1.count == 0 || q2.count == 0 {
         return Ok(found);
     }
+    // Three loops, as in bzsearch's least_box.
     for i in 0..q0.count {
         let x = place_in(q0, i);
         for j in 0..q1.count {

@@ -156,9 +156,8 @@ pub fn fill_triplets(
     ensures left_length_after { giving result left_length.new ≡ (read_each (triplet_of table.now.t (sides table.now.g) table.now.map.now (walk_by m table.now.addresses.now) (vector_of a0.v) q0.at) (own_points class_map.now (length class_map.now)) then λ l. got (lengths l)) }
 {
     let mut at = 0;
-    // By index: q1 numbers a point too, and the proof says what was written by how far q1 has come.
-    for q1 in 0..class_map.len() {
-        if class_map[q1] == q1 as i64 {
+    for (q1, class) in class_map.iter().enumerate() {
+        if *class == q1 as i64 {
             let found = triplet_of(table, a0, q0, Place { at: q1 }, m)?;
             store_places(&mut *out, at, found);
             left[at] = mark_of(found);

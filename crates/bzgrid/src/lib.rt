@@ -100,7 +100,7 @@ fn has_room(l: Lengths, a: usize, b: usize, c: usize) -> bool
     l.addresses <= a && l.map <= b && l.grg <= c
 }
 
-// Of m images of n points.
+// Of m images of n points. A bool here and below: the specs pick by one, and the enum would be a bool again at each use.
 fn lengths_of(sparse: bool, n: usize, m: usize) -> Lengths
     requires { (n ≤ 65536) × (m < 1099511627776) }
     ensures { result ≡ lengths_for sparse n m }

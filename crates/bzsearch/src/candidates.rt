@@ -1,6 +1,7 @@
 // The candidates of a search, box by box, in the order of the Rust's `for_each_candidate`.
-ghost use Rattle.std.specs.Prelude.{◌≡◌, ◌&&◌, ◌||◌, ◌≤◌, ◌<◌, T, pos, negsuc, nat_abs, neg_ℤ};
+ghost use Rattle.std.specs.Prelude.{◌≡◌, ◌&&◌, ◌||◌, ◌≤◌, ◌<◌, T, pos, negsuc, nat_abs, neg_ℤ, None, Some, option_map};
 ghost use Rattle.std.specs.Int.Signed.{le_z};
+ghost use Rattle.integer.specs.Checked.{pick};
 ghost use Rattle.common.specs.Matrix.{side, all_axes};
 ghost use Rattle.common.specs.Array.{vector_of, Sized};
 ghost use Rattle.common.specs.FloatMatrix.{float_vector};
@@ -133,7 +134,9 @@ fn whole_box(r: Range) -> Axes
 #[tactic(auto, unfolding(crate::specs::Search::candidates))]
 pub fn boxes_of(r: Range) -> Boxes
     requires { T (range_fits (range_view r)) }
-    ensures { candidates_of result ≡ candidates (range_view r) }
+    ensures value { candidates_of result ≡ candidates (range_view r) }
+    ensures first { axes_view result.first ≡ first_box (range_view r) }
+    ensures rest { option_map axes_view result.rest ≡ pick (near (range_view r)) None (Some (whole_box (range_view r))) }
 {
     let rest = if is_near(r) { None } else { Some(whole_box(r)) };
     Boxes {
@@ -190,6 +193,7 @@ impl BzSearch {
         self.lower(s0, m, least)
     }
 
+    // `rest` is no field of Axes: which of the two boxes it is, Boxes says by its own fields.
     // bzgrid's keep_box has the same three loops. A walk that takes a closure can only ask that it may be called in any state, and keeping may only while
     // there is room; a trait that says so is longer than the loops.
     fn least_box(self, s0: [f64; 3], b: Axes, rest: bool, from: f64) -> f64

@@ -45,6 +45,7 @@ pub fn bz_tolerance(m: [[f64; 3]; 3], d: [i64; 3]) -> f64
     larger(larger(larger(0.0, x), y), z) * BzSearch::TOLERANCE_FACTOR
 }
 
+// The vector product. The middle one of common's `minors` has the other sign.
 fn cross(a: [f64; 3], b: [f64; 3]) -> [f64; 3]
     ensures { result ≡ items (cross_d (side (float_vector a)) (side (float_vector b))) }
 {
@@ -89,6 +90,7 @@ pub fn is_singular(m: [[f64; 3]; 3]) -> bool
     det == 0.0 || !float::is_finite(det)
 }
 
+// At f64, where a size is compared as IEEE 754 does; common's `within`, `row_within` and `matrix_within` are of whole numbers.
 fn entry_fits(x: f64) -> bool
     ensures { result ≡ le (abs_of x) (of_int binary64 (pos 1000000)) }
 {

@@ -24,7 +24,7 @@ fn cofactor_over(a: i64, b: i64, c: i64, d: i64, det: i64) -> i64
     det * (a * d - b * c)
 }
 
-// A row of the inverse, from the two columns after its number.
+// A row of the inverse, from the two columns after its number. The middle one of common's `minors` has the other sign.
 fn inverse_row(a: [i64; 3], b: [i64; 3], det: i64) -> [i64; 3]
     requires fact_1 { Sized 1000 a }
     requires fact_2 { Sized 1000 b }
@@ -87,11 +87,12 @@ fn shift(s0: [f64; 3], m: Candidate) -> [f64; 3]
     ]
 }
 
+// A row of the nine numbers, which begins at place i.
 fn row_times(l: [f64; 9], i: usize, v: [f64; 3]) -> f64
     requires { i < 7 }
     ensures { result ≡ row_times l i v }
 {
-    l[i] * v[0] + l[i + 1] * v[1] + l[i + 2] * v[2]
+    common::dot([l[i], l[i + 1], l[i + 2]], v)
 }
 
 fn sum_of_squares(x: f64, y: f64, z: f64) -> f64
@@ -229,14 +230,12 @@ impl BzSearch {
         let address = grgrid::grid_address_from_index(GridPoint { p: i, g });
         let s = self.split_reduced_coordinates(address);
         let s0 = s.s0;
-        let n = s.nint;
-        let a = address.v;
-        let nint = Bounded { v: n };
-        let address = Bounded { v: a };
+        let nint = s.nint;
+        let address = address.v;
         Point {
             s0,
-            nint,
-            address,
+            nint: Bounded { v: nint },
+            address: Bounded { v: address },
             index: i,
         }
     }

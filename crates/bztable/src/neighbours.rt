@@ -73,9 +73,9 @@ fn fill_row(table: &Table, base: Address, offsets: &[i64], out: &mut [i64]) -> R
     requires fact_2 { length out.old ≡ length offsets.now / 3 }
     ensures { giving result out.new ≡ neighbours_from table.now.t (sides table.now.g) offsets.now table.now.addresses.now table.now.map.now (vector_of base.v) }
 {
-    for j in 0..out.len() {
+    for (j, at) in out.iter_mut().enumerate() {
         let b = moved(base, common::row_at(offsets, 3 * j));
-        out[j] = neighbour(table, b)? as i64;
+        *at = neighbour(table, b)? as i64;
     }
     Ok(())
 }

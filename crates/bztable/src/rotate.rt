@@ -75,6 +75,7 @@ fn among_sparse(table: &Table, a: [i64; 3], p: usize, n: usize) -> Result<Option
     among_range(table, a, 8 * n + p, n)
 }
 
+// A clause bounds p: a GridPoint has a grid of its own, which would have to be the table's.
 fn among_images(table: &Table, a: [i64; 3], p: usize) -> Result<Option<usize>, Refusal>
     requires { p < size (sides table.now.g) }
     ensures value { result ≡ among_images table.now.addresses.now table.now.map.now (vector_of a) table.now.t p (size (sides table.now.g)) }

@@ -18,13 +18,13 @@ pub struct Count {
     ghost few: { n ≤ 65536 },
 }
 
-// A grid with its shift and its basis.
+// A point of a grid, with the grid's shift and its basis.
 #[derive(Clone, Copy)]
 pub struct Mesh {
-    pub g: Grid,
+    pub point: GridPoint,
     pub ps: Shift,
     pub q: Basis,
-    pub ghost few: { size (sides g) ≤ 65536 },
+    pub ghost few: { size (sides point.g) ≤ 65536 },
 }
 
 // What is left of a point's coordinates, times 2N, and N.
@@ -94,26 +94,23 @@ fn scaled_grid(a: [i64; 3], g: Grid) -> [i64; 3]
 }
 
 impl Mesh {
-    fn scaled(self, p: usize) -> [i64; 3]
-        requires { p < size (sides self.g) }
-        ensures { result ≡ items (scaled (sides self.g) (vector_of self.ps.v) (matrix_of self.q.m) p) }
+    fn scaled(self) -> [i64; 3]
+        ensures { result ≡ items (scaled (sides self.point.g) (vector_of self.ps.v) (matrix_of self.q.m) self.point.p) }
     {
-        let point = GridPoint { p, g: self.g };
-        let address = grgrid::grid_address_from_index(point);
+        let address = grgrid::grid_address_from_index(self.point);
         let a = grgrid::double_grid_address(address, self.ps);
-        common::matvec_ii(self.q.m, scaled_grid(a.v, self.g))
+        common::matvec_ii(self.q.m, scaled_grid(a.v, self.point.g))
     }
 
-    pub fn rests_of(self, p: usize) -> Rests
-        requires { p < size (sides self.g) }
-        ensures s { result.s.v ≡ items (rests (sides self.g) (vector_of self.ps.v) (matrix_of self.q.m) p) }
-        ensures points { result.points.n ≡ size (sides self.g) }
+    pub fn rests(self) -> Rests
+        ensures s { result.s.v ≡ items (rests (sides self.point.g) (vector_of self.ps.v) (matrix_of self.q.m) self.point.p) }
+        ensures points { result.points.n ≡ size (sides self.point.g) }
     {
         let points = Count {
-            n: grgrid::points(self.g),
+            n: grgrid::points(self.point.g),
         };
         Rests {
-            s: points.rests(self.scaled(p)),
+            s: points.rests(self.scaled()),
             points,
         }
     }

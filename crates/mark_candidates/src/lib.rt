@@ -18,6 +18,7 @@ ghost use Rattle.mark_candidates.specs.MarkCandidates.{ranges_of, grid_fits, wit
 use bzsearch::Basis;
 use common::Refusal;
 use coordinates::Mesh;
+use grgrid::GridPoint;
 pub use table::Ranges;
 
 fn ordered_at(r: Ranges, k: usize) -> bool
@@ -49,7 +50,7 @@ struct Call {
     ps: [i64; 3],
     r: Ranges,
     point: i64,
-    // So is any i64, which a proof knows of a parameter only.
+    // fits64 holds of every i64; a proof knows it of a parameter and not of a field.
     ghost in_range: { T (fits64 point) },
 }
 
@@ -92,12 +93,16 @@ impl Call {
         ensures { out.new ≡ marks self.d self.q self.ps self.r.lowest self.r.highest self.point }
     {
         let q = self.q;
-        let mesh = Mesh {
+        let point = GridPoint {
+            p: self.point as usize,
             g: grgrid::grid_of(self.d),
+        };
+        let mesh = Mesh {
+            point,
             ps: common::shift(self.ps),
             q: Basis { m: q },
         };
-        let table = table::table(mesh.rests_of(self.point as usize), self.r);
+        let table = table::table(mesh.rests(), self.r);
         marks::mark_all(&table, out);
     }
 }

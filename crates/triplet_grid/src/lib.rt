@@ -76,6 +76,7 @@ fn number_classes(group: &mut [i64], q0: GridPoint, map_q: &mut [i64])
 }
 
 // The class number of q1, which is its own, or that of its partner if it is lower.
+// A clause bounds q1: a GridPoint has a grid of its own, which would have to be that of `classes`.
 fn swapped_number(classes: &Classes<'_>, address0: Address, q1: usize) -> i64
     requires { q1 < size (sides classes.now.q0.g) }
     ensures { let d = sides classes.now.q0.g in
@@ -190,15 +191,9 @@ fn fill_maps(
 {
     triplet_tests(q0, d, rotations, map_triplets.len(), map_q.len())?;
     let g = grgrid::grid_of(d);
-    let point = GridPoint {
-        p: q0 as usize,
-        g: g,
-    };
+    let point = GridPoint { p: q0 as usize, g };
     classes_at(point, rotations, is_time_reversal, &mut *map_q)?;
-    let classes = Classes {
-        map_q: map_q,
-        q0: point,
-    };
+    let classes = Classes { map_q, q0: point };
     Ok(number_triplets(swappable, &classes, map_triplets))
 }
 

@@ -13,7 +13,7 @@ use Rattle.bz_triplets.specs.BzTriplets.{State, triplet_of, triplet_list, marks,
 use Rattle.bz_triplets.specs.TripletsView.{state_of, walk_by}
 use Rattle.bz_triplets.proofs.ByClass.{filled-as, filled_on, filled-room, filled_more, filled-refused}
 use Rattle.bz_triplets.proofs.classes.fill_triplets.Goals as goal
-use Rattle.bz_triplets.proofs.classes.fill_triplets.Goals.{then-class_map-q1+in_ok-found, else-class_map-q1}
+use Rattle.bz_triplets.proofs.classes.fill_triplets.Goals.{then-class-q1+in_ok-found, else-class-q1}
 
 abbrev triplet : Table → Measure → List ℤ → ℕ → ℕ → Read State
 triplet t m a0 = triplet_of t.t (sides t.g) t.map.now (walk_by m t.addresses.now) (vector_of a0)
@@ -23,7 +23,7 @@ returns-in_err-found-clause-out_after c =
     let s = c.args in
     let z = get_or s.class_map.now c.loop-q1.q1 (pos 0) in
     let whole : SFits w64 z = search rules in
-    let own = entry_place z c.loop-q1.q1 (entry-is z c.loop-q1.q1 whole.sfits (omega arith) c.if-class_map-q1.true) in
+    let own = entry_place z c.loop-q1.q1 (entry-is z c.loop-q1.q1 whole.sfits (omega arith) c.if-class-q1.true) in
     let p = err_from_is_err_and c.from_residual.result c.from_residual.ensures.1 in
     rw (p.1, p.2) (filled-refused (triplet s.table.now s.m s.a0.v s.q0.at) s.class_map.now c.loop-q1.invariant (λ l. got (triplet_list l)) c.loop-q1-test.true own (sym c.in_err-found.ensures))
 
@@ -32,7 +32,7 @@ returns-in_err-found-clause-left_after c =
     let s = c.args in
     let z = get_or s.class_map.now c.loop-q1.q1 (pos 0) in
     let whole : SFits w64 z = search rules in
-    let own = entry_place z c.loop-q1.q1 (entry-is z c.loop-q1.q1 whole.sfits (omega arith) c.if-class_map-q1.true) in
+    let own = entry_place z c.loop-q1.q1 (entry-is z c.loop-q1.q1 whole.sfits (omega arith) c.if-class-q1.true) in
     let p = err_from_is_err_and c.from_residual.result c.from_residual.ensures.1 in
     rw (p.1, p.2) (filled-refused (triplet s.table.now s.m s.a0.v s.q0.at) s.class_map.now c.loop-q1.invariant (λ l. got (marks l)) c.loop-q1-test.true own (sym c.in_err-found.ensures))
 
@@ -41,7 +41,7 @@ returns-in_err-found-clause-left_length_after c =
     let s = c.args in
     let z = get_or s.class_map.now c.loop-q1.q1 (pos 0) in
     let whole : SFits w64 z = search rules in
-    let own = entry_place z c.loop-q1.q1 (entry-is z c.loop-q1.q1 whole.sfits (omega arith) c.if-class_map-q1.true) in
+    let own = entry_place z c.loop-q1.q1 (entry-is z c.loop-q1.q1 whole.sfits (omega arith) c.if-class-q1.true) in
     let p = err_from_is_err_and c.from_residual.result c.from_residual.ensures.1 in
     rw (p.1, p.2) (filled-refused (triplet s.table.now s.m s.a0.v s.q0.at) s.class_map.now c.loop-q1.invariant (λ l. got (lengths l)) c.loop-q1-test.true own (sym c.in_err-found.ensures))
 
@@ -50,7 +50,7 @@ store_places-requires c =
     let s = c.args in
     let z = get_or s.class_map.now c.loop-q1.q1 (pos 0) in
     let whole : SFits w64 z = search rules in
-    let own = entry_place z c.loop-q1.q1 (entry-is z c.loop-q1.q1 whole.sfits (omega arith) c.if-class_map-q1.true) in
+    let own = entry_place z c.loop-q1.q1 (entry-is z c.loop-q1.q1 whole.sfits (omega arith) c.if-class-q1.true) in
     filled-room (triplet s.table.now s.m s.a0.v s.q0.at) s.class_map.now c.loop-q1.invariant c.loop-q1-test.true own
 
 pub loop-q1-preserved : goal.loop-q1-preserved
@@ -58,13 +58,13 @@ loop-q1-preserved c =
     let s = c.args in
     let l = c.loop-q1 in
     let f = triplet s.table.now s.m s.a0.v s.q0.at in
-    elim c.if-class_map-q1.branch [
-      | then-class_map-q1+in_ok-found w ↦
+    elim c.if-class-q1.branch [
+      | then-class-q1+in_ok-found w ↦
           let z = get_or s.class_map.now c.loop-q1.q1 (pos 0) in
           let whole : SFits w64 z = search rules in
-          let own = entry_place z c.loop-q1.q1 (entry-is z c.loop-q1.q1 whole.sfits (omega arith) w.if-class_map-q1.true) in
+          let own = entry_place z c.loop-q1.q1 (entry-is z c.loop-q1.q1 whole.sfits (omega arith) w.if-class-q1.true) in
           let d = filled_more f s.class_map.now l.invariant c.loop-q1-test.true own (state_of w.in_ok-found.found) (sym w.in_ok-found.ensures) in
           let m : to_z w64 (of_z w64 w.mark_of.result) ≡ w.mark_of.result = search rules in
           filled-as w.at-is (w.out-is ∙ w.store_places.ensures) (w.left-is ∙ ap (set l.left l.at) (m ∙ w.mark_of.ensures)) (w.left_length-is ∙ ap (set l.left_length l.at) w.length_of.ensures) d
-      | else-class_map-q1 w ↦ filled-as w.at-is w.out-is w.left-is w.left_length-is (filled_on f s.class_map.now l.invariant (entry_other (get_or s.class_map.now l.q1 (pos 0)) l.q1 w.if-class_map-q1.false))
+      | else-class-q1 w ↦ filled-as w.at-is w.out-is w.left-is w.left_length-is (filled_on f s.class_map.now l.invariant (entry_other (get_or s.class_map.now l.q1 (pos 0)) l.q1 w.if-class-q1.false))
     ]

@@ -29,7 +29,7 @@ all c e =
     let p = c.point-p.ensures in
     let t = tables a.addresses.now a.grg.now a.c.at a.c.next in
     let fits : range_fits (range_view c.search_range-r.result) ≡ true = sym c.range_fits.ensures ∙ c.if-not-range_fits.false in
-    e ∙ all-kept (search_of a.bz) a.i (ap vector_of p.address_value) p.result_value c.search_range-r.ensures fits c.boxes_of-b.ensures c.bound.ensures p.index_value t
+    e ∙ all-kept (search_of a.bz) a.i (ap vector_of p.address_value) p.result_value c.search_range-r.ensures fits c.boxes_of-b.ensures.value c.bound.ensures p.index_value t
 
 pub returns-in-None-clause-next_after : goal.returns-in-None-clause-next_after
 returns-in-None-clause-next_after c =

@@ -26,18 +26,18 @@ moved-b-requires c =
     let small = entry-within 1000 c.args.offsets.now c.requires.fact_1 in
     rw c.row_at.ensures (sized-items _ (small _) (small _) (small _))
 
-pub returns-in_err-out : goal.returns-in_err-out
-returns-in_err-out c =
+pub returns-in_err-at : goal.returns-in_err-at
+returns-in_err-at c =
     let t = c.args.table.now in
     let l = c.args.offsets.now in
     let p = err_from_is_err_and c.from_residual.result c.from_residual.ensures.1 in
-    let e = along (image_at t) l c.args.base.v c.loop-j.j c.row_at.ensures c.moved-b.ensures c.in_err-out.ensures.value in
+    let e = along (image_at t) l c.args.base.v c.loop-j.j c.row_at.ensures c.moved-b.ensures c.in_err-at.ensures.value in
     rw (p.1, p.2) (rows-refused (rows t l c.args.base.v) c.loop-j.j (length l / 3) (omega (arith, c.requires.fact_2, c.loop-j-test.true)) c.loop-j.invariant e)
 
 pub loop-j-preserved : goal.loop-j-preserved
 loop-j-preserved c =
     let t = c.args.table.now in
     let l = c.args.offsets.now in
-    let e = along (image_at t) l c.args.base.v c.loop-j.j c.row_at.ensures c.moved-b.ensures c.in_ok-out.ensures.value in
-    let z = to_z_pos w64 (lt_trans c.in_ok-out.ensures.below (lit< tt)) in
-    rows-set (rows t l c.args.base.v) c.loop-j.j c.loop-j.j c.loop-j.out c.loop-j.invariant (to_z w64 c.in_ok-out.field-0) (omega (arith, c.loop-j-test.true, c.loop-j.auto.out)) (e ∙ ap (λ z. got (z ∷ [])) (sym z))
+    let e = along (image_at t) l c.args.base.v c.loop-j.j c.row_at.ensures c.moved-b.ensures c.in_ok-at.ensures.value in
+    let z = to_z_pos w64 (lt_trans c.in_ok-at.ensures.below (lit< tt)) in
+    rows-set (rows t l c.args.base.v) c.loop-j.j c.loop-j.j c.loop-j.out c.loop-j.invariant (to_z w64 c.in_ok-at.field-0) (omega (arith, c.loop-j-test.true, c.loop-j.auto.out)) (e ∙ ap (λ z. got (z ∷ [])) (sym z))

@@ -34,19 +34,19 @@ grid_of-requires c = (within (goal.at.grid_of-requires c).Start).grid
 pub shift-requires : goal.shift-requires
 shift-requires c = (within (goal.at.shift-requires c).Start).shift
 
+pub invariant_of-point : goal.invariant_of-point
+invariant_of-point c =
+    let a = c.args.self in
+    record { inside = rw (held_of {v = a.point} refl a.in_range) (subst (λ d. nat_abs a.point < size d) (sym c.grid_of.ensures) (point (goal.at.invariant_of-point c).Start).1) }
+
 pub invariant_of-mesh : goal.invariant_of-mesh
 invariant_of-mesh c = record { within = (within (goal.at.invariant_of-mesh c).Start).entries }
 
-pub overflow_cast-self : goal.overflow_cast-self
-overflow_cast-self c = held-natural (fits-of refl c.args.self.in_range) (point (goal.at.overflow_cast-self c).Start).0
+pub overflow_cast-point : goal.overflow_cast-point
+overflow_cast-point c = held-natural (fits-of refl c.args.self.in_range) (point (goal.at.overflow_cast-point c).Start).0
 
 pub invariant_of-mesh-2 : goal.invariant_of-mesh-2
 invariant_of-mesh-2 c = record { few = subst (λ d. size d ≤ 65536) (sym c.grid_of.ensures) (few (goal.at.invariant_of-mesh-2 c).Start) }
-
-pub rests_of-requires : goal.rests_of-requires
-rests_of-requires c =
-    let a = c.args.self in
-    rw (held_of {v = a.point} refl a.in_range) (subst (λ d. nat_abs a.point < size d) (sym c.grid_of.ensures) (point (goal.at.rests_of-requires c).Start).1)
 
 pub table-table-requires : goal.table-table-requires
 table-table-requires c = let s = (goal.at.table-table-requires c).Start in ranges-fit c.args.self.r (within s).lows (within s).highs
@@ -63,8 +63,8 @@ returns c =
     let a = c.args.self in
     let x = goal.at.returns c in
     let e = c.grid_of.ensures in
-    let r = c.rests_of.ensures.s ∙ (λ i. items (rests (e i) (vector_of (c.shift.ensures i)) (matrix_of a.q) (nat_abs (held_of {v = a.point} refl a.in_range i)))) in
+    let r = c.rests.ensures.s ∙ (λ i. items (rests (e i) (vector_of (c.shift.ensures i)) (matrix_of a.q) (nat_abs (held_of {v = a.point} refl a.in_range i)))) in
     c.mark_all.ensures
     ∙ ap (λ t. map (mark_of t) t) c.table-table.ensures
-    ∙ marks-are c.rests_of.result.s.v c.rests_of.result.points.n a.r (passes x.Start).ranges
-    ∙ ap₂ (λ n s. map (mark (ranges_of a.r.lowest a.r.highest) (position n (vector_of s)) candidates125) candidates125) (c.rests_of.ensures.points ∙ ap size e) r
+    ∙ marks-are c.rests.result.s.v c.rests.result.points.n a.r (passes x.Start).ranges
+    ∙ ap₂ (λ n s. map (mark (ranges_of a.r.lowest a.r.highest) (position n (vector_of s)) candidates125) candidates125) (c.rests.ensures.points ∙ ap size e) r

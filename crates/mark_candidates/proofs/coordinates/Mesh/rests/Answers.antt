@@ -5,12 +5,12 @@ use Rattle.grgrid.specs.Sides.{sides}
 use Rattle.grgrid.proofs.Sizes.{sides-small}
 use Rattle.mark_candidates.specs.ScaledCoordinates.{rest, rests}
 use Rattle.mark_candidates.proofs.PointSizes.{scaled_small}
-use Rattle.mark_candidates.proofs.coordinates.Mesh.rests_of.Goals as goal
+use Rattle.mark_candidates.proofs.coordinates.Mesh.rests.Goals as goal
 
 pub rests-requires : goal.rests-requires
 rests-requires c =
     let m = c.args.self in
-    rw c.scaled.ensures (scaled_small (sides m.g) (sides-small m.g) m.few c.args.p c.requires m.ps.sized (matrix_of m.q.m) m.q.within)
+    rw c.scaled.ensures (scaled_small (sides m.point.g) (sides-small m.point.g) m.few m.point.p m.point.inside m.ps.sized (matrix_of m.q.m) m.q.within)
 
 pub returns-clause-s : goal.returns-clause-s
 unfolding rests

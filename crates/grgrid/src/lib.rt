@@ -169,6 +169,7 @@ fn first_lower(rotations: Rotations<'_>, point: GridPoint, ps: Shift) -> Option<
     ensures lower { IfSome result (λ q. q < point.p) }
 {
     let address = doubled_point(point, ps);
+    // A loop: with `map` and `find` the proof would be of two closures.
     for n in 0..rotations.count() {
         let q = rotated_index(address, rotations.at(n), point.g, ps);
         if q < point.p {
@@ -183,6 +184,7 @@ pub fn number_points(rotations: Rotations<'_>, g: Grid, ps: Shift, out: &mut [i6
     requires { length out.old ≡ size (sides g) }
     ensures { out.new ≡ map pos (class_map_of (sides g) (vector_of ps.v) (matrices rotations.entry.list.now)) }
 {
+    // By index: a turn reads a lower place of the same list.
     for p in 0..out.len() {
         out[p] = match first_lower(rotations, GridPoint { p, g }, ps) {
             Some(lower) => out[lower],
@@ -272,7 +274,7 @@ fn next(r: Remainders, g: Grid) -> Remainders
     }
 }
 
-// By index: of places that an iterator lends, a proof knows no element afterwards.
+// By index: of what `chunks_exact_mut` lends, a proof knows only the length afterwards.
 fn write_addresses(g: Grid, out: &mut [i64])
     requires { length out.old ≡ size (sides g) * 3 }
     ensures { out.new ≡ addresses (sides g) (size (sides g)) }

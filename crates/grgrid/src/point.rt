@@ -5,7 +5,7 @@ ghost use Rattle.grgrid.specs.Sides.{sides};
 
 use crate::grid::Grid;
 
-// By its number.
+// A point by its number, which is below the number of points.
 #[derive(Clone, Copy)]
 pub struct GridPoint {
     pub p: usize,

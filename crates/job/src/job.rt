@@ -16,7 +16,7 @@ pub struct Job {
     pub q0: i64,
 }
 
-// n bytes from place `at` on, the lowest first.
+// n bytes from place `at` on, the lowest first. `from_le_bytes` takes arrays, of 4 and of 8 bytes: this serves both.
 fn little_endian(bytes: &[u8], at: usize, n: usize) -> u64
     requires { (at + n ≤ length bytes.now) × (n ≤ 8) }
     ensures value { result ≡ little_endian bytes.now at n }
@@ -62,9 +62,8 @@ fn signed_words(bytes: &[u8], at: usize, out: &mut [i64])
     requires { at + 4 * length out.old ≤ length bytes.now }
     ensures { out.new ≡ signed_words bytes.now at (length out.old) }
 {
-    // By index: of places that an iterator lends, a proof knows no element afterwards.
-    for k in 0..out.len() {
-        out[k] = signed(word(bytes, at + 4 * k));
+    for (k, x) in out.iter_mut().enumerate() {
+        *x = signed(word(bytes, at + 4 * k));
     }
 }
 
@@ -72,9 +71,8 @@ fn floats(bytes: &[u8], at: usize, out: &mut [f64])
     requires { at + 8 * length out.old ≤ length bytes.now }
     ensures { out.new ≡ floats bytes.now at (length out.old) }
 {
-    // By index: of places that an iterator lends, a proof knows no element afterwards.
-    for k in 0..out.len() {
-        out[k] = float(bytes, at + 8 * k);
+    for (k, x) in out.iter_mut().enumerate() {
+        *x = float(bytes, at + 8 * k);
     }
 }
 

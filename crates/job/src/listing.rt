@@ -1,4 +1,5 @@
 // The text that a job prints, written into a lent slice.
+// No Display: what is written and the count are one equation, and without room nothing is.
 ghost use Rattle.std.specs.Prelude.{◌≡◌, ◌/◌, length, Some};
 ghost use Rattle.bzsearch.specs.Search.{rows};
 ghost use Rattle.job.specs.Listing.{decimal, number, spaced, line, triplet_line, listing, refusal};

@@ -53,6 +53,7 @@ fn transpose_at(list: &mut [i64], at: usize)
 }
 
 // Rotation n after the first `found` matrices of the output, unless it is among them: how many there are then.
+// At most 48: the output has 48 times nine places.
 fn keep(rotations: &[i64], n: usize, out: &mut [i64; 432], found: usize) -> Result<usize, Refusal>
     requires { (n * 9 + 9 ≤ length rotations.now) × (found ≤ 48) }
     ensures { let list = kept (matrices_from out.old 0 found) (matrix_at rotations.now n) in
@@ -76,6 +77,7 @@ fn collect(rotations: &[i64], out: &mut [i64; 432]) -> Result<usize, Refusal>
         Grouped (few list) list out.old out.new result }
 {
     let mut found = 0;
+    // By index: `keep` asks for the place of a matrix, as `contains` does.
     for n in 0..rotations.len() / 9 {
         found = keep(rotations, n, out, found)?;
     }
@@ -88,7 +90,7 @@ fn turn(out: &mut [i64; 432], count: usize, is_transpose: bool)
     ensures { out.new ≡ laid (turned is_transpose (matrices_from out.old 0 count)) out.old }
 {
     if is_transpose {
-        // By index: of places that an iterator lends, a proof knows no element afterwards.
+        // By index: of what `chunks_exact_mut` lends, a proof knows only the length afterwards.
         for k in 0..count {
             transpose_at(out, k * 9);
         }
@@ -102,7 +104,7 @@ fn negatives(out: &mut [i64; 432], count: usize)
     ensures { out.new ≡ paste out.old (count * 9) (map neg_ℤ out.old) (count * 9) }
 {
     let half = count * 9;
-    // By index: of places that an iterator lends, a proof knows no element afterwards.
+    // By index: a turn reads one place and writes another of the same list.
     for i in 0..half {
         out[half + i] = -out[i];
     }

@@ -54,7 +54,7 @@ fn place(rotations: Rotations<'_>, m: usize, n: usize) -> Option<usize>
 }
 
 // Matrix m keeps the list: so do its products with those that are known to.
-// `short` is a clause, and no type: only this and its caller need it, that each of the list has a place in `known`.
+// `short` is a clause, and no type: `Rotations` bounds no length, and only here must each of the list have a place in `known`.
 fn mark(rotations: Rotations<'_>, m: usize, known: &mut [bool; 192])
     requires number { m < length rotations.list.now / 9 }
     requires inside { T (row_inside (matrices rotations.list.now) (matrix_at rotations.list.now m)) }

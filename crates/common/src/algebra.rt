@@ -24,7 +24,7 @@ pub fn apply<N: Entry>(m: [[N; 3]; 3], v: [N; 3]) -> [N; 3]
     [dot(x, v), dot(y, v), dot(z, v)]
 }
 
-// At i64, where every number on the way fits.
+// At i64, where every number on the way fits; the Rust's name for it.
 pub fn matvec_ii(a: [[i64; 3]; 3], b: [i64; 3]) -> [i64; 3]
     requires { T (apply_fits (matrix_of a) (vector_of b)) }
     ensures { result ≡ items (matrix_of a ▹ vector_of b) }

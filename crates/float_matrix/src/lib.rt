@@ -25,6 +25,7 @@ pub fn matvec_id(a: [[i64; 3]; 3], b: [f64; 3]) -> [f64; 3]
     common::apply(mat_i_to_d(a), b)
 }
 
+// The Rust's names for products and determinants at f64.
 pub fn matmul_d(a: [[f64; 3]; 3], b: [[f64; 3]; 3]) -> [[f64; 3]; 3]
     ensures { result ≡ matmul_d a b }
 {

@@ -130,7 +130,7 @@ fn point_of(t: GridType, g: Grid, q0: i64, a0: [i64; 3]) -> usize
     }
 }
 
-// With the tests of the input. A refusal may leave anything in the outputs.
+// With the tests of the input. A refusal may leave anything in the outputs, which are slices: see docs/DECISIONS.md, 'Output slices'.
 fn triplet_tests(
     q0: i64,
     addresses: &[i64],

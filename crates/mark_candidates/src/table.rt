@@ -8,7 +8,7 @@ use crate::candidates::{Weights, weights_at};
 use crate::coordinates::Rests;
 use crate::entry::Entry;
 
-// The lowest and highest of the six inner products 00, 01, 02, 11, 12, 22.
+// The lowest and highest of the six inner products 00, 01, 02, 11, 12, 22: two lists, as the export is lent them.
 #[derive(Clone, Copy)]
 pub struct Ranges {
     pub lowest: [i64; 6],

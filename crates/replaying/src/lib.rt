@@ -45,6 +45,7 @@ fn read_vectors<'a>(rt: &(impl Files + Print), name: &str, text: &'a mut [u8]) -
 
 // Counts the cases by what is judged of each, as they stand or with another last number. A line that begins
 // with # is a comment.
+// That `judge` may be called is a clause: it is of a type parameter.
 fn tally<F: Fn(&[i64]) -> Option<Verdict>>(
     lines: &[u8],
     altered: bool,

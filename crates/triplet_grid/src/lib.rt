@@ -148,6 +148,7 @@ fn classes_at(
     ensures value { result ≡ room_tests (matrices rotations.now) is_time_reversal false }
     ensures map_q_after { result ≡ Accepted → map_q.new ≡ map pos (classes_at q0.p (sides q0.g) (matrices rotations.now) is_time_reversal) }
 {
+    // A fixed array: no heap.
     let mut group = [0; 432];
     let count = recip_rotations::get_reciprocal_point_group(
         rotations,

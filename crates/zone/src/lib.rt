@@ -27,7 +27,7 @@ fn rooms_agree(classes: usize, points: usize, triplets: usize, left: usize, leng
         && lengths == classes
 }
 
-// A refusal may leave anything in the outputs.
+// A refusal may leave anything in the outputs. Parameters as those of `finished_list`, outputs as slices: see docs/DECISIONS.md, 'Output slices'.
 fn run_chain(
     a: [[i64; 3]; 3],
     rotations: &[i64],

@@ -10,7 +10,7 @@ ghost use Rattle.zone_list.specs.List.{chain_job, finished, text_of, room_tests,
 use common::Refusal;
 use zone::Finished;
 
-// A refusal may leave anything in the outputs.
+// A refusal may leave anything in the outputs. Outputs as slices: see docs/DECISIONS.md, 'Output slices'. A fixed array for the rotations: no heap.
 fn run_job(
     bytes: &[u8],
     addresses: &mut [i64],

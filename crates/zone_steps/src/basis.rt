@@ -18,6 +18,7 @@ pub fn turn_rotations(
     ensures result_value { without_value result ≡ rotation_tests rotations.now is_time_reversal d q }
     ensures turned_into { TurnedInto (transformed rotations.now is_time_reversal d q) out.new result }
 {
+    // A fixed array: no heap.
     let mut group = [0; 432];
     let n = rotation_group::reciprocal_group(rotations, is_time_reversal, &mut group)?;
     transform_rotations::transform_rotations(&group[0..n * 9], d, q, &mut out[0..n * 9])?;

@@ -23,6 +23,7 @@ pub struct Input<'a> {
     pub lattice: [[f64; 3]; 3],
     pub is_time_reversal: bool,
     pub swappable: bool,
+    // Any number: a call refuses one that is no grid type.
     pub bz_grid_type: i64,
     pub q0: i64,
 }
@@ -120,7 +121,8 @@ pub fn wipe_lists(
     lengths.fill(-1.0);
 }
 
-// Classes and triplets of n points, from tables that were built. A refusal may leave anything in the outputs.
+// Classes and triplets of n points, from tables that were built. A refusal may leave anything in the outputs, which are slices: see
+// docs/DECISIONS.md, 'Output slices'.
 pub fn list_classes(
     input: &Input,
     addresses: &[i64],

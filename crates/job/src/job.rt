@@ -38,6 +38,7 @@ fn word(bytes: &[u8], at: usize) -> usize
     little_endian(bytes, at, 4) as usize
 }
 
+// No `cast_signed`: of 32 bits, it would take a cast before and one after.
 #[tactic(auto, using(crate::proofs::Words::small_word))]
 fn signed(w: usize) -> i64
     requires { w < 0x100000000 }

@@ -176,6 +176,7 @@ fn transform_each(
     ensures out_after { let g = transform_by (float_matrix q_inv) (float_matrix q) (float_vector d) in
         (result ≡ Accepted → out.new ≡ flat (map (λ r. rounded (g r)) (matrices rotations.entry.list.now))) }
 {
+    // By index: `at` and `store` ask for the place of a matrix.
     for n in 0..rotations.count() {
         let m = transform(q_inv, q, d, to_d(rotations.at(n)));
         let rounded = nint_matrix(m);

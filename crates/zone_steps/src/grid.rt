@@ -30,26 +30,25 @@ pub struct Input<'a> {
 
 // In the first n places of the two maps.
 fn number_classes(
-    q0: i64,
-    d: [i64; 3],
-    rotations: &[i64],
-    is_time_reversal: bool,
-    swappable: bool,
+    input: &Input,
     n: usize,
     classes: &mut [i64],
     points: &mut [i64],
 ) -> Result<(), Refusal>
     requires { (n ≤ length classes.old) × (n ≤ length points.old) }
-    ensures value { result ≡ triplet_tests q0 d rotations.now is_time_reversal n n }
-    ensures classes_after { classes.new ≡ map_triplets_written q0 d rotations.now is_time_reversal swappable n n ++ drop n classes.old }
-    ensures points_after { points.new ≡ map_qwritten q0 d rotations.now is_time_reversal swappable n n ++ drop n points.old }
+    ensures value { let i = input.now in
+        result ≡ triplet_tests i.q0 i.d i.rotations.now i.is_time_reversal n n }
+    ensures classes_after { let i = input.now in
+        classes.new ≡ map_triplets_written i.q0 i.d i.rotations.now i.is_time_reversal i.swappable n n ++ drop n classes.old }
+    ensures points_after { let i = input.now in
+        points.new ≡ map_qwritten i.q0 i.d i.rotations.now i.is_time_reversal i.swappable n n ++ drop n points.old }
 {
     triplet_grid::ir_triplets_at_q(
-        q0,
-        d,
-        rotations,
-        is_time_reversal,
-        swappable,
+        input.q0,
+        input.d,
+        input.rotations,
+        input.is_time_reversal,
+        input.swappable,
         &mut classes[0..n],
         &mut points[0..n],
     )?;
@@ -73,16 +72,13 @@ fn choose_triplets(
     addresses: &[i64],
     map: &[i64],
     classes: &[i64],
-    d: [i64; 3],
-    q: [[i64; 3]; 3],
-    lattice: [[f64; 3]; 3],
-    bz_grid_type: i64,
+    input: &Input,
     triplets: &mut [i64],
     left: &mut [i64],
     lengths: &mut [f64],
 ) -> Result<(), Refusal>
     requires { (length classes.now * 3 ≤ length triplets.old) × (length classes.now ≤ length left.old) × (length classes.now ≤ length lengths.old) }
-    ensures { Chosen start addresses.now map.now classes.now d q lattice bz_grid_type result triplets.old left.old lengths.old triplets.new left.new lengths.new }
+    ensures { Chosen start addresses.now map.now classes.now input.now.d input.now.q input.now.lattice input.now.bz_grid_type result triplets.old left.old lengths.old triplets.new left.new lengths.new }
 {
     let k = grgrid::own_places(classes);
     bz_triplets::bz_triplets_at_q(
@@ -90,10 +86,10 @@ fn choose_triplets(
         addresses,
         map,
         classes,
-        d,
-        q,
-        lattice,
-        bz_grid_type,
+        input.d,
+        input.q,
+        input.lattice,
+        input.bz_grid_type,
         &mut triplets[0..k * 3],
         &mut left[0..k],
         &mut lengths[0..k],
@@ -146,26 +142,14 @@ pub fn list_classes(
         &mut *left,
         &mut *lengths,
     );
-    number_classes(
-        input.q0,
-        input.d,
-        input.rotations,
-        input.is_time_reversal,
-        input.swappable,
-        n,
-        &mut *classes,
-        &mut *points,
-    )?;
+    number_classes(input, n, &mut *classes, &mut *points)?;
     let start = start_of(input.bz_grid_type, map, input.q0);
     choose_triplets(
         start,
         addresses,
         map,
         &classes[0..n],
-        input.d,
-        input.q,
-        input.lattice,
-        input.bz_grid_type,
+        input,
         triplets,
         left,
         lengths,

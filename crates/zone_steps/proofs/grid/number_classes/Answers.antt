@@ -1,5 +1,4 @@
 use mathlib.Core.Path.{◌≡◌, sym, ◌∙◌, ap}
-use mir.Facts.{to_z-of_z}
 use borrow.Author.Rules.{rules}
 use Rattle.std.specs.Prelude.{Err}
 use Rattle.common.specs.Tested.{without_value}
@@ -10,11 +9,11 @@ pub returns-in_err-ir_triplets_at_q-clause-value : goal.returns-in_err-ir_triple
 returns-in_err-ir_triplets_at_q-clause-value c =
     let r = c.ir_triplets_at_q.ensures in
     let e : c.from_residual.result ≡ Err c.in_err-ir_triplets_at_q.field-0.0 = search rules in
-    (classes-numbered c.args.q0 c.args.d c.args.rotations.now c.args.is_time_reversal c.args.swappable c.args.n c.args.classes.now c.args.points.now c.requires.0 c.requires.1
-    (to_z-of_z c.ranges.q0) r.value r.map_triplets_after r.map_q_after (e ∙ sym (ap without_value c.in_err-ir_triplets_at_q.was))).0
+    (classes-numbered c.args.input.now.q0 c.args.input.now.d c.args.input.now.rotations.now c.args.input.now.is_time_reversal c.args.input.now.swappable c.args.n c.args.classes.now c.args.points.now c.requires.0 c.requires.1
+    (search rules) r.value r.map_triplets_after r.map_q_after (e ∙ sym (ap without_value c.in_err-ir_triplets_at_q.was))).0
 
 pub returns-clause-value : goal.returns-clause-value
 returns-clause-value c =
     let r = c.ir_triplets_at_q.ensures in
-    (classes-numbered c.args.q0 c.args.d c.args.rotations.now c.args.is_time_reversal c.args.swappable c.args.n c.args.classes.now c.args.points.now c.requires.0 c.requires.1
-    (to_z-of_z c.ranges.q0) r.value r.map_triplets_after r.map_q_after (sym (ap without_value c.in_ok-ir_triplets_at_q.was))).0
+    (classes-numbered c.args.input.now.q0 c.args.input.now.d c.args.input.now.rotations.now c.args.input.now.is_time_reversal c.args.input.now.swappable c.args.n c.args.classes.now c.args.points.now c.requires.0 c.requires.1
+    (search rules) r.value r.map_triplets_after r.map_q_after (sym (ap without_value c.in_ok-ir_triplets_at_q.was))).0

@@ -1,10 +1,10 @@
 -- The walk over a class map: the triplets of the classes that it has passed stand in the front of the three outputs.
 use mathlib.Core.Path.{◌≡◌, refl, sym, ◌∙◌, ap, ap₂}
 use mathlib.Core.Logic.{⊎_elim}
-use mathlib.Core.Bool.{Bool, true, false}
+use mathlib.Core.Bool.{true, false}
 use mathlib.Core.List.{List, [], ◌∷◌, ◌++◌, map, map-append, append-nil, append_assoc}
 use Prim.Native.Nat.{ℕ, zero, suc, ◌+◌, ◌*◌, ◌<◌, ◌≤◌}
-use native.Mathlib.Nat.{le_refl, le_trans, le_of_suc-le-suc, not-suc-le-zero, eq-or-lt_of_le}
+use native.Mathlib.Nat.{le_of_suc-le-suc, not-suc-le-zero, eq-or-lt_of_le}
 use native.Mathlib.Numerals.{add-one, add-two}
 use native.Mathlib.Omega.{arith}
 use lib.IntN.{ℤ, pos, negsuc}
@@ -16,6 +16,7 @@ use Rattle.integer.specs.Checked.{pick}
 use Rattle.common.specs.declared.Refusal.{Refusal}
 use Rattle.grgrid.specs.Own.{is_place, own_places, own_points}
 use Rattle.grgrid.proofs.Numbers.{own-more, own_same}
+use Rattle.grgrid.proofs.Own.{own-rises, points_more, points_same}
 use Rattle.common.specs.Tested.{◌then◌}
 use Rattle.bztable.specs.Reading.{Read, got}
 use Rattle.bz_triplets.specs.declared.choices.Step.{Step}
@@ -80,23 +81,6 @@ triplets-more : (r : List State) (s : State) → triplet_list (r ++ (s ∷ [])) 
 triplets-more [] s = append-nil (places_of s)
 triplets-more (t ∷ r) s = ap (λ l. places_of t ++ l) (triplets-more r s) ∙ sym (append_assoc (places_of t) (triplet_list r) (places_of s))
 
--- ---- the classes among the first n points
-module _ (l : List ℤ) where
-  own-rises : (n m : ℕ) → n ≤ m → own_places l n ≤ own_places l m
-  own-rises n zero h = zero-only n h
-    where
-      zero-only : (n : ℕ) → n ≤ 0 → own_places l n ≤ 0
-      zero-only zero h = le_refl 0
-      zero-only (suc n) h = omega arith
-  own-rises n (suc m) h = ⊎_elim (λ e. rw e (le_refl (own_places l (suc m)))) (λ k. le_trans (own-rises n m (le_of_suc-le-suc k)) (more (is_place (get_or l m (pos 0)) m))) (eq-or-lt_of_le h)
-    where
-      more : (b : Bool) → own_places l m ≤ elim b [ true ↦ suc (own_places l m) | false ↦ own_places l m ]
-      more true = omega arith
-      more false = le_refl (own_places l m)
-
-  next : (n : ℕ) (b : Bool) → is_place (get_or l n (pos 0)) n ≡ b → own_points l (n + 1) ≡ own_points l n ++ pick b (n ∷ []) []
-  next n b e = ap (own_points l) (add-one n) ∙ ap (λ b. own_points l n ++ pick b (n ∷ []) []) e
-
 pub same-room : {classes : List ℤ} {n m l n' m' l' : ℕ} → Room classes n m l → Room classes n' m' l' → (n ≡ n') × (m ≡ m') × (l ≡ l')
 same-room a b = (a.triplets ∙ sym b.triplets, a.left ∙ sym b.left, a.lengths ∙ sym b.lengths)
 
@@ -124,7 +108,7 @@ module _ (f : ℕ → Read State) (classes : List ℤ) where
     pub filled_on : is_place (get_or classes q (pos 0)) q ≡ false → Filled f classes (q + 1) at out marked measured
     filled_on e = record {
       states = d.states;
-      read = ap (read_each f) (next classes q false e ∙ append-nil (own_points classes q)) ∙ d.read;
+      read = ap (read_each f) (points_same classes q e) ∙ d.read;
       count = d.count ∙ own_same classes q e;
       places = d.places;
       marks = d.marks;
@@ -144,7 +128,7 @@ module _ (f : ℕ → Read State) (classes : List ℤ) where
           → Filled f classes (q + 1) (at + 1) (take (at * 3) out ++ (places_of s ++ drop (at * 3 + 3) out)) (set marked at (mark_of s)) (set measured at (length_of s))
       filled_more s g = record {
         states = d.states ++ (s ∷ []);
-        read = ap (read_each f) (next classes q true e) ∙ each_more f (own_points classes q) q d.read g;
+        read = ap (read_each f) (points_more classes q e) ∙ each_more f (own_points classes q) q d.read g;
         count = ap (λ n. n + 1) d.count ∙ own-more classes q e;
         places = ap (λ n. take n (take (at * 3) out ++ (places_of s ++ drop (at * 3 + 3) out))) (third (length-places s)) ∙ taken out (places_of s) (drop (at * 3 + 3) out) (at * 3) (omega (arith, filled-room)) ∙ ap (λ l. l ++ places_of s) d.places ∙ sym (triplets-more d.states s);
         marks = mapped-more mark_of marked at d.states s (omega (arith, filled-below, d.room.left)) d.marks;
@@ -182,7 +166,7 @@ module _ (f : ℕ → Read State) (classes : List ℤ) where
   -- the points from one in its own class on
   split : (n q : ℕ) → q < n → is_place (get_or classes q (pos 0)) q ≡ true → (m : List ℕ) × (own_points classes n ≡ own_points classes q ++ (q ∷ m))
   split zero q h e = absurd (not-suc-le-zero h)
-  split (suc n) q h e = ⊎_elim (λ k. ([], ap (λ n. own_points classes (suc n)) (sym k) ∙ ap (own_points classes) (sym (add-one q)) ∙ next classes q true e)) (λ k. later (split n q k e)) (eq-or-lt_of_le (le_of_suc-le-suc h))
+  split (suc n) q h e = ⊎_elim (λ k. ([], ap (λ n. own_points classes (suc n)) (sym k) ∙ ap (own_points classes) (sym (add-one q)) ∙ points_more classes q e)) (λ k. later (split n q k e)) (eq-or-lt_of_le (le_of_suc-le-suc h))
     where
       later : (m : List ℕ) × (own_points classes n ≡ own_points classes q ++ (q ∷ m)) → (m : List ℕ) × (own_points classes (suc n) ≡ own_points classes q ++ (q ∷ m))
       later r =

@@ -1,5 +1,4 @@
 pub mod Choosing
-pub mod Rising
 pub mod Sums
 pub mod Walking
 pub mod ByClass

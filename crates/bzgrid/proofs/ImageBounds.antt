@@ -15,7 +15,8 @@ use Rattle.grgrid.proofs.Lists.{◌∈◌}
 use Rattle.grgrid.proofs.Folding.{Sides, digits-within}
 use Rattle.bzgrid.specs.declared.GridType.{GridType}
 use Rattle.bzgrid.specs.declared.GridType.TheVariants.{Sparse, Dense}
-use Rattle.bzsearch.specs.Search.{Search, set_bz_address, images, rows}
+use Rattle.grgrid.specs.Build.{rows}
+use Rattle.bzsearch.specs.Search.{Search, set_bz_address, images}
 use Rattle.bzgrid.specs.Table.{Image, image_of, images_at, first, others, sparse}
 use Rattle.bzgrid.specs.BzGridAddresses.{table_of}
 use Rattle.bzsearch.proofs.Listing.{length-rows, rows_few}

@@ -12,7 +12,7 @@ use lib.Seq.{drop-drop}
 use Rattle.integer.specs.Checked.{pick}
 use Rattle.integer.proofs.Test.{and_l, and_r}
 use Rattle.common.specs.Array.{items}
-use Rattle.bzsearch.specs.Search.{rows}
+use Rattle.grgrid.specs.Build.{rows}
 use Rattle.bzgrid.specs.Table.{Image, first, others, dense, sparse, address_list, point_list}
 use Rattle.bzgrid.specs.BzGridAddresses.{all_found, padded}
 use Rattle.bzgrid.specs.Writing.{put_at, Tables, tables, store, stored, restart, written, if_sparse}

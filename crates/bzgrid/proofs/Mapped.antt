@@ -15,7 +15,8 @@ use Rattle.integer.specs.Checked.{pick}
 use Rattle.common.specs.Matrix.{Vec}
 use Rattle.common.specs.Array.{vector_of, row_at}
 use Rattle.grgrid.specs.Grid.{size, index}
-use Rattle.bzsearch.specs.Search.{rows, numbers_from}
+use Rattle.grgrid.specs.Build.{rows}
+use Rattle.bzsearch.specs.Search.{numbers_from}
 use Rattle.bzgrid.specs.Table.{Image, listed, dense_map, others, doubled, placed, empty, sparse_map, address_list}
 use Rattle.bzgrid.specs.BzGridAddresses.{padded}
 use Rattle.bzgrid.specs.Writing.{put_at, if_sparse, counted, placed_flat, with_mesh}

@@ -13,7 +13,7 @@ use lib.ListN.{length, length-append}
 use Rattle.integer.specs.Checked.{pick}
 use Rattle.integer.proofs.Test.{and_in, is_true, is_false, fails}
 use Rattle.std.specs.Prelude.{Some, None}
-use Rattle.bzsearch.specs.Search.{rows}
+use Rattle.grgrid.specs.Build.{rows}
 use Rattle.bzgrid.specs.Table.{Image}
 use Rattle.bzgrid.specs.BzGridAddresses.{all_found}
 use Rattle.bzgrid.specs.Writing.{put_at, Tables, tables, stored, restart, if_sparse, counted}

@@ -3,7 +3,8 @@ use Rattle.std.specs.Prelude.{List, [], ◌∷◌, ◌++◌, map, ℕ, suc, ◌+
 use Rattle.common.specs.Matrix.{Vec, map_vec}
 use Rattle.common.specs.Array.{items}
 use Rattle.grgrid.specs.Grid.{size, index}
-use Rattle.bzsearch.specs.Search.{Search, images, rows, numbers_from}
+use Rattle.grgrid.specs.Build.{rows}
+use Rattle.bzsearch.specs.Search.{Search, images, numbers_from}
 
 pub record Image : Type 0 where
   pub address : Vec ℤ

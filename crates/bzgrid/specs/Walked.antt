@@ -8,7 +8,8 @@ use Rattle.grgrid.specs.Grid.{size}
 use Rattle.grgrid.specs.Sides.{GridFits}
 use Rattle.bzgrid.specs.declared.Lengths.{Lengths}
 use Rattle.bzgrid.specs.declared.GridType.{GridType}
-use Rattle.bzsearch.specs.Search.{Search, rows}
+use Rattle.grgrid.specs.Build.{rows}
+use Rattle.bzsearch.specs.Search.{Search}
 use Rattle.bzgrid.specs.Table.{Image, images_at, others, doubled, address_list, point_list}
 use Rattle.bzgrid.specs.BzGridAddresses.{table_of, map_of, all_found, has_room, padded}
 use Rattle.bzgrid.specs.Writing.{Tables, tables, if_sparse, written, counted}

@@ -22,7 +22,8 @@ use Rattle.integer.proofs.Test.{and_l, and_r, or_l, or_r, or-of}
 use Rattle.common.specs.Matrix.{Axis, X, Y, Z, Vec, side, vector}
 use Rattle.common.proofs.Matrix.{axes-of, side-vector}
 use Rattle.grgrid.proofs.Lists.{◌∈◌, Distinct, distinct_append}
-use Rattle.bzsearch.specs.Search.{Span, Numbers, number_at, nearby, clipped, fft_order, upwards, rows, far, outside, chosen, line_at, plane_at, box_at, box, first_box, whole_box, near, candidates, range_fits, span_fits}
+use Rattle.grgrid.specs.Build.{rows}
+use Rattle.bzsearch.specs.Search.{Span, Numbers, number_at, nearby, clipped, fft_order, upwards, far, outside, chosen, line_at, plane_at, box_at, box, first_box, whole_box, near, candidates, range_fits, span_fits}
 use Rattle.bzsearch.proofs.Listing.{rows_in, rows-of, rows-distinct, rows_few}
 use Rattle.bzsearch.proofs.AxisNumbers.{belowℤ, InSpan, Lists, upwards-lists, fft-lists, clipped-in, clipped-of, clipped-few, upwards-few, span-size}
 

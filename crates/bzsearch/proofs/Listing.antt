@@ -19,8 +19,9 @@ use lib.Dec.{T}
 use lib.ListN.{length, get_or, length-append}
 use lib.Seq.{append_snoc}
 use Rattle.integer.specs.Checked.{pick}
-use Rattle.grgrid.proofs.Lists.{◌∈◌, Distinct, distinct_append, Injective}
-use Rattle.bzsearch.specs.Search.{rows, kept_by, numbers_from}
+use Rattle.grgrid.proofs.Lists.{◌∈◌, Distinct, distinct_append, item_in, Injective}
+use Rattle.grgrid.specs.Build.{rows}
+use Rattle.bzsearch.specs.Search.{kept_by, numbers_from}
 
 -- ---- rows
 module _ {A : Type 0} (g : ℕ → List A) where
@@ -104,13 +105,6 @@ module _ {A B : Type 0} (q : A → Bool) (h : A → B) where
       go : (t : Bool) → Distinct (kept_by q h l) → Distinct {A = B} (pick t (h a ∷ kept_by q h l) (kept_by q h l))
       go true k = (new, k)
       go false k = k
-
--- ---- items by their place
-module _ {A : Type 0} (z : A) where
-  pub item_in : (l : List A) (i : ℕ) → i < length l → get_or l i z ∈ l
-  item_in [] i h = absurd (not-suc-le-zero h)
-  item_in (x ∷ l) zero h = here refl
-  item_in (x ∷ l) (suc i) h = there (item_in l i (le_of_suc-le-suc h))
 
 -- where no two items look alike, an item is known by its looks
 pub map-apart : {A B : Type 0} (f : A → B) (l : List A) → Distinct (map f l) → Injective f l

@@ -7,7 +7,7 @@ use native.Mathlib.Numerals.{add-one}
 use lib.IntN.{ℤ, nat_abs}
 use lib.Signed.{mag}
 use Rattle.integer.proofs.Fits.{held, held-is}
-use Rattle.bzsearch.specs.Search.{rows}
+use Rattle.grgrid.specs.Build.{rows}
 
 pub joined : {A S : Type 0} (f : S → A → S) (a : S) (l m : List A) {b e : S} → b ≡ foldl f a l → e ≡ foldl f b m → e ≡ foldl f a (l ++ m)
 joined f a l m p q = q ∙ ap (λ x. foldl f x m) p ∙ sym (foldl-append f a l m)

@@ -9,6 +9,7 @@ use Rattle.float.specs.Rounding.{nint_of, floor_of, ceil_of}
 use Rattle.float.specs.Sqrt.{sqrt_of}
 use Rattle.common.specs.Matrix.{Axis, Vec, Mat, side, vector, map_mat, all_axes, dot, apply_over, ◌▹◌, det, inverse, origin}
 use Rattle.common.specs.FloatMatrix.{floats}
+use Rattle.grgrid.specs.Build.{rows}
 use Rattle.grgrid.specs.Grid.{address, double}
 use Rattle.bzsearch.specs.Lattice.{bz_tolerance, dual_lengths_of}
 
@@ -138,11 +139,6 @@ nearby = record { lo = negsuc 1; hi = pos 2 }
 -- clipped to it
 abbrev pub clipped : Span → Span
 clipped r = record { lo = max_z r.lo nearby.lo; hi = min_z r.hi nearby.hi }
-
--- g 0, then g 1, .. , then g (n - 1)
-abbrev pub rows : {A : Type 0} → (ℕ → List A) → ℕ → List A
-rows g zero = []
-rows g (suc n) = rows g n ++ g n
 
 -- g i, g (i + 1), .. , n of them
 abbrev pub numbers_from : {A : Type 0} → (ℕ → A) → ℕ → ℕ → List A

@@ -20,7 +20,8 @@ use Rattle.grgrid.specs.Grid.{size, index}
 use Rattle.grgrid.proofs.Lists.{◌∈◌}
 use Rattle.grgrid.proofs.Folding.{Sides, index-lt, same_index, index_same}
 use Rattle.bzgrid.specs.declared.GridType.TheVariants.{Sparse}
-use Rattle.bzsearch.specs.Search.{Search, images, rows}
+use Rattle.grgrid.specs.Build.{rows}
+use Rattle.bzsearch.specs.Search.{Search, images}
 use Rattle.bzgrid.specs.Table.{Image, image_of, images_at, sparse, doubled, placed, sparse_map, address_list, others, listed}
 use Rattle.bzgrid.specs.BzGridAddresses.{padded}
 use Rattle.bztable.specs.Access.{number_in, image_places}

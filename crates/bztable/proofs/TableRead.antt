@@ -21,7 +21,8 @@ use Rattle.grgrid.specs.Grid.{size, index}
 use Rattle.grgrid.proofs.Lists.{◌∈◌}
 use Rattle.bzgrid.specs.declared.GridType.{GridType}
 use Rattle.bzgrid.specs.declared.GridType.TheVariants.{Sparse, Dense}
-use Rattle.bzsearch.specs.Search.{rows, numbers_from}
+use Rattle.grgrid.specs.Build.{rows}
+use Rattle.bzsearch.specs.Search.{numbers_from}
 use Rattle.bzgrid.specs.Table.{Image, listed, dense_map, first, others, sparse, doubled, placed, empty, sparse_map, address_list, point_list}
 use Rattle.bzgrid.specs.BzGridAddresses.{table_of, map_of, all_found}
 use Rattle.bztable.specs.Access.{number_in, places_from, image_places}

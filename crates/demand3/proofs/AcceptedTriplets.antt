@@ -22,7 +22,8 @@ use Rattle.grgrid.proofs.Lists.{◌∈◌}
 use Rattle.recip_rotations.specs.PointGroup.{room_tests}
 use Rattle.bzgrid.specs.declared.GridType.{GridType}
 use Rattle.bzgrid.specs.declared.GridType.TheVariants.{Sparse, Dense}
-use Rattle.bzsearch.specs.Search.{rows, numbers_from}
+use Rattle.grgrid.specs.Build.{rows}
+use Rattle.bzsearch.specs.Search.{numbers_from}
 use Rattle.bzgrid.specs.Table.{Image, others}
 use Rattle.bzgrid.specs.BzGridAddresses.{grid_type_of, map_of}
 use Rattle.bztable.specs.Reading.{Read, got, triple_at, place_at, address_at, list_of}

@@ -34,7 +34,7 @@ use Rattle.triplet_grid.proofs.Joining.{Meets, joined_meets}
 use Rattle.triplet_grid.proofs.Stabilizer.{Operation, carries-equiv, carries-partner, swapped-classes, joined-operations}
 use Rattle.triplet_grid.proofs.Swapping.{length-triplets, classes-low, triplets-low}
 use Rattle.triplet_grid.proofs.Outcome as outcome
-use Rattle.bz_triplets.proofs.Rising.{own-rising, own-each}
+use Rattle.grgrid.proofs.Own.{own-rising, own-each}
 use Rattle.demand3.specs.FinishedList.{Calls, grid, points, number, carries, partner_of, Class, lowest_points}
 use Rattle.demand3.proofs.JoinedList.{list-distinct, told_is, given-joined, transformed-joined}
 

@@ -17,13 +17,12 @@ use Rattle.common.proofs.Tests.{same-ok}
 use Rattle.common.proofs.Matrix.{axes-of, same-vector, side-vector}
 use Rattle.grgrid.specs.Grid.{index}
 use Rattle.grgrid.proofs.Accepted.{grid-fits}
-use Rattle.grgrid.proofs.Lists.{◌∈◌}
+use Rattle.grgrid.proofs.Lists.{◌∈◌, item_in}
 use Rattle.bzsearch.specs.Search.{images}
 use Rattle.bzgrid.specs.BzGridAddresses.{addresses_written, map_written, grg_written}
 use Rattle.bztable.specs.Reading.{Read, got, triple_at, address_at}
 use Rattle.bztable.specs.Access.{image_places}
 use Rattle.bzgrid.proofs.Accepted.{passes-first}
-use Rattle.bzsearch.proofs.Listing.{item_in}
 use Rattle.bzsearch.proofs.Images.{Sound}
 use Rattle.bztable.proofs.ImageTable.{Stands, place-image, image-place, place-folds}
 use Rattle.bztable.proofs.AcceptedCall.{CallAccepted, call-accepted, call-sound, call-stands, call-found, call-tolerance}
@@ -33,7 +32,7 @@ use Rattle.bz_triplets.specs.Choosing.{start, left, closed}
 use Rattle.bz_triplets.specs.BzTriplets.{State, Walk, is_zero, places_of, first_of, chosen, triplet_of, triplet_at, triplets_read, walk_of}
 use Rattle.bz_triplets.proofs.Choosing.{Picks, Length, Triplet, triplet-best, float-order, at_least}
 use Rattle.bz_triplets.proofs.Choosing as choosing
-use Rattle.bz_triplets.proofs.Rising.{own-points}
+use Rattle.grgrid.proofs.Own.{own-points}
 use Rattle.demand3.specs.FinishedList.{Calls, grid, points, partner_of, lowest_points, search, trio, Choice, sum, squared_length, less_tolerance, at, Best}
 use Rattle.demand3.proofs.TableWalks.{Counts, address-got, closes_at, length_at, less_at, chosen-got, each-got}
 use Rattle.demand3.proofs.SumLengths.{sum-size, sum-length}
@@ -51,7 +50,7 @@ module _ (c : Calls) where
   walk = walk_of c.addresses (items c.d) (rows c.q) c.lattice
 
   -- ---- the tables
-  built : CallAccepted (items c.d) (rows c.q) c.shift c.lattice c.type c.rooms.x c.rooms.y c.rooms.z c.lengths
+  pub built : CallAccepted (items c.d) (rows c.q) c.shift c.lattice c.type c.rooms.x c.rooms.y c.rooms.z c.lengths
   built = call-accepted (items c.d) (rows c.q) c.shift c.lattice c.type c.rooms.x c.rooms.y c.rooms.z c.lengths c.builds
 
   -- the layout that the call found

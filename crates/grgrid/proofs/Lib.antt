@@ -11,6 +11,7 @@ pub mod Classes
 pub mod Sizes
 pub mod Lower
 pub mod Numbers
+pub mod Own
 pub mod Accepted
 pub mod Walk
 pub mod Refusing

@@ -8,9 +8,9 @@ use mathlib.Core.List.Memᴰ.{head as here}
 use mathlib.Core.List.Memᴰ.{of_map}
 use mathlib.Core.List.Memᴰ.{tail as there}
 use mathlib.Core.List.{List, [], ◌∷◌, ◌++◌, map}
-use Prim.Native.Nat.{suc, ◌≤◌, zero-le, suc-le-suc}
+use Prim.Native.Nat.{ℕ, zero, suc, ◌≤◌, ◌<◌, zero-le, suc-le-suc}
 use native.Mathlib.Nat.{le_of_eq, le_trans, le_of_suc-le-suc, not-suc-le-zero}
-use lib.ListN.{length, length-map}
+use lib.ListN.{length, get_or, length-map}
 pub use Rattle.grgrid.specs.Lists.{◌∈◌, Distinct}
 
 module _ {A : Type 0} where
@@ -49,6 +49,12 @@ module _ {A : Type 0} where
   fills (x ∷ xs) ys d s h z k =
       let m = s x (here refl) in
       ⊎_elim here (λ j. there (fills xs (without m) d.1 (sub-without d.0 s m) (le_of_suc-le-suc (le_trans (le_of_eq (sym (without-length m))) h)) z j)) (without-cases m k)
+
+  -- ---- items by their place
+  pub item_in : (z : A) (l : List A) (i : ℕ) → i < length l → get_or l i z ∈ l
+  item_in z [] i h = absurd (not-suc-le-zero h)
+  item_in z (x ∷ l) zero h = here refl
+  item_in z (x ∷ l) (suc i) h = there (item_in z l i (le_of_suc-le-suc h))
 
 -- ---- maps
 abbrev pub Injective : {A B : Type 0} → (A → B) → List A → Type 0

@@ -93,6 +93,11 @@ module _ (t : ℕ → Bool) where
       step true h = omega arith
       step false h = omega arith
 
+  pub picked-grows : (n m : ℕ) → n ≤ m → length (picked t n) ≤ length (picked t m)
+  picked-grows n zero h = let e : n ≡ 0 = omega arith in rw e (le_refl (length (picked t 0)))
+  picked-grows n (suc m) h =
+      ⊎_elim (λ e. rw e (le_refl (length (picked t (suc m))))) (λ k. let g = picked-grows n m (le_of_suc-le-suc k) in omega (arith, picked-length m)) (eq-or-lt_of_le h)
+
 -- tests that agree below n
 pub picked-agree : (t u : ℕ → Bool) (n : ℕ) → ((p : ℕ) → p < n → t p ≡ u p) → picked t n ≡ picked u n
 picked-agree t u zero h = refl

@@ -9,7 +9,8 @@ use lib.ListN.{replicate, take}
 use Rattle.std.specs.Prelude.{Ok}
 use Rattle.common.specs.declared.Refusal.TheVariants.{BadHeader}
 use Rattle.job.specs.Job.{signed, float, Header, job_fits, job_of, rotations_of}
-use Rattle.job.specs.Listing.{decimal, number, listing, refusal}
+use Rattle.decimal.specs.Decimal.{decimal, number}
+use Rattle.job.specs.Listing.{listing, refusal}
 
 -- ---- job files, by their header
 abbrev four_bytes : ℕ → List ℕ

@@ -1,31 +1,14 @@
 -- How long a listing is: a number has as many digits as it needs, and a line as many places as its word and its numbers.
-use mathlib.Core.Path.{◌≡◌, refl, sym, ◌∙◌, subst}
-use mathlib.Core.Bool.{Bool, true, false}
+use mathlib.Core.Path.{◌≡◌, sym, ◌∙◌, subst}
 use mathlib.Core.List.{List, [], ◌∷◌, ◌++◌}
-use Prim.Native.Nat.{ℕ, zero, suc, ◌+◌, ◌*◌, ◌/◌, ◌%◌, ◌≤◌, ◌<◌}
+use Prim.Native.Nat.{ℕ, zero, suc, ◌+◌, ◌*◌, ◌/◌, ◌≤◌, ◌<◌}
 use native.Mathlib.Omega.{arith}
 use lib.IntN.{ℤ, pos}
 use lib.ListN.{length, get_or, take, drop, length-append, length-drop}
 use lib.Seq.{length-take-le, get_or-take, get_or-drop}
-use lib.Dec.{ltb}
-use borrow.Author.Tests.{ltb-true, ltb-false}
-use Rattle.bzsearch.specs.Search.{rows}
-use Rattle.job.specs.Listing.{decimal, number, spaced, line, grid, map, ir, triplet, triplet_line, listing}
-use Rattle.job.proofs.Put.{one-digit, last-digit}
-
--- ---- numbers
--- 10, 100, 1000, ..
-abbrev pub tenfold : ℕ → ℕ
-tenfold zero = 10
-tenfold (suc k) = 10 * tenfold k
-
-pub digits-few : (k n : ℕ) → n < tenfold k → length (decimal n) ≤ suc k
-digits-few zero n h = rw (one-digit n h) (omega arith)
-digits-few (suc k) n h = by (digits-few k (n / 10) (omega arith)) (ltb n 10) refl
-  where
-    by : length (decimal (n / 10)) ≤ suc k → (b : Bool) → ltb n 10 ≡ b → length (decimal n) ≤ suc (suc k)
-    by more true e = rw (one-digit n (ltb-true n 10 e)) (omega arith)
-    by more false e = rw (last-digit n (ltb-false n 10 e)) (omega (arith, length-append (decimal (n / 10)) ((48 + n % 10) ∷ [])))
+use Rattle.grgrid.specs.Build.{rows}
+use Rattle.decimal.specs.Decimal.{number}
+use Rattle.job.specs.Listing.{spaced, line, grid, map, ir, triplet, triplet_line, listing}
 
 -- ---- rows and lines
 pub rows-length : (g : ℕ → List ℕ) (m n : ℕ) → ((i : ℕ) → i < n → length (g i) ≤ m) → length (rows g n) ≤ n * m

@@ -3,21 +3,18 @@ use mathlib.Core.Path.{◌≡◌, refl, sym, ◌∙◌, ap, ap₂}
 use mathlib.Core.Logic.{⊎_elim}
 use mathlib.Core.Bool.{Bool, true, false}
 use mathlib.Core.List.{List, [], ◌∷◌, ◌++◌}
-use Prim.Native.Nat.{ℕ, zero, suc, ◌+◌, ◌-◌, ◌/◌, ◌%◌, ◌<◌, ◌≤◌}
+use Prim.Native.Nat.{ℕ, zero, suc, ◌+◌, ◌-◌, ◌<◌, ◌≤◌}
 use native.Mathlib.Nat.{eq-or-lt_of_le, le_of_suc-le-suc, not-suc-le-zero, add-zero, zero-add}
 use native.Mathlib.Numerals.{add-one}
 use native.Mathlib.Omega.{arith}
 use lib.Dec.{ltb, leb}
-use lib.IntN.{ℤ, pos, negsuc, nat_abs}
-use lib.Signed.{lt_z}
 use lib.ListN.{length, get_or, set, take, drop, replicate, length-append, length-replicate, length-set}
 use lib.Seq.{take-suc, append_snoc, set-append_seam}
-use borrow.Author.Tests.{lt-ltb, le-ltb, ltb-true, ltb-false, leb-true, leb-false}
+use borrow.Author.Tests.{lt-ltb, le-ltb, leb-true, leb-false}
 use Rattle.std.proofs.lemmas.List.{take-append-drop}
 use Rattle.std.specs.Prelude.{Option, Some, None}
 use Rattle.integer.specs.Checked.{pick}
-use Rattle.bzsearch.specs.Search.{rows}
-use Rattle.job.specs.Listing.{digits, decimal, number}
+use Rattle.grgrid.specs.Build.{rows}
 use Rattle.job.proofs.Lists.{drop-replicate}
 use Rattle.job.specs.Writing.{Page, page, next, put, puts, finished, printed, printed_answer}
 
@@ -71,44 +68,6 @@ module _ (p : Page) where
             ⊎_elim (λ j. ap (page l) (f ∙ sym e) ∙ puts_then (rows g i) (g i) k m ∙ ap (λ n. puts p (rows g (suc n))) j)
             (λ j. puts_then (rows g n) (g n) (onwards n j) (ap (page l) f ∙ sym (full l (g n)) ∙ ap (λ r. puts (page l r) (g n)) (sym f)))
             (eq-or-lt_of_le (le_of_suc-le-suc h))
-
--- ---- decimal digits, by the last one
-enough : (j : ℕ) (b : Bool) (k n : ℕ) → ltb n 10 ≡ b → n ≤ j → n ≤ k → digits j b n ≡ digits k b n
-enough zero b zero n e h i = refl
-enough zero true (suc k) n e h i = refl
-enough zero false (suc k) n e h i = let l = ltb-false n 10 e in absurd (omega arith)
-enough (suc j) true zero n e h i = refl
-enough (suc j) true (suc k) n e h i = refl
-enough (suc j) false zero n e h i = let l = ltb-false n 10 e in absurd (omega arith)
-enough (suc j) false (suc k) n e h i =
-    let l = ltb-false n 10 e in
-    ap (λ d. d ++ ((48 + n % 10) ∷ [])) (enough j (ltb (n / 10) 10) k (n / 10) refl (omega arith) (omega arith))
-
-pub one-digit : (n : ℕ) → n < 10 → decimal n ≡ (48 + n) ∷ []
-unfolding decimal
-one-digit n h = ap (λ b. digits n b n) (lt-ltb n 10 h) ∙ last n
-  where
-    last : (k : ℕ) → digits k true n ≡ (48 + n) ∷ []
-    last zero = refl
-    last (suc k) = refl
-
-pub last-digit : (n : ℕ) → 10 ≤ n → decimal n ≡ decimal (n / 10) ++ ((48 + n % 10) ∷ [])
-unfolding decimal
-last-digit n h = ap (λ b. digits n b n) (le-ltb n 10 h) ∙ more n (omega arith)
-  where
-    more : (k : ℕ) → n / 10 < k → digits k false n ≡ digits (n / 10) (ltb (n / 10) 10) (n / 10) ++ ((48 + n % 10) ∷ [])
-    more zero i = absurd (omega arith)
-    more (suc k) i = ap (λ d. d ++ ((48 + n % 10) ∷ [])) (enough k (ltb (n / 10) 10) (n / 10) (n / 10) refl (omega arith) (omega arith))
-
--- ---- a number, by its sign
-module _ {n : ℕ} where
-  pub below-zero : (z : ℤ) → lt_z z (pos 0) ≡ true → n ≡ nat_abs z → number z ≡ 45 ∷ decimal n
-  below-zero (pos m) e f = let z : ◌≡◌ {A = ℕ} 0 1 = let h = ltb-true m 0 e in omega arith in absurd (omega arith)
-  below-zero (negsuc m) e f = ap (λ n. 45 ∷ decimal n) (sym f)
-
-  pub from_zero : (z : ℤ) → lt_z z (pos 0) ≡ false → n ≡ nat_abs z → number z ≡ decimal n
-  from_zero (pos m) e f = ap decimal (sym f)
-  from_zero (negsuc m) e f = let z : ◌≡◌ {A = ℕ} 0 1 = cc in absurd (omega arith)
 
 -- ---- a whole text in a slice of zeros
 -- the next byte after s, of whose places x is the first that is left

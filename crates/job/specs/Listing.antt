@@ -1,21 +1,9 @@
 -- The text that a job prints, as the codes of its characters.
-use Rattle.std.specs.Prelude.{Bool, true, false, List, [], ◌∷◌, ◌++◌, ℕ, zero, suc, ◌+◌, ◌*◌, ◌/◌, ◌%◌, ltb, ℤ, pos, negsuc, length, get_or, take, drop}
+use Rattle.std.specs.Prelude.{List, [], ◌∷◌, ◌++◌, ℕ, ◌*◌, ◌/◌, ℤ, pos, length, get_or, take, drop}
 use Rattle.common.specs.declared.Refusal.{Refusal}
 use Rattle.common.specs.Refusal.{number_of}
-use Rattle.bzsearch.specs.Search.{rows}
-
--- the decimal digits of n, by at most k divisions; the test says that n has one digit
-abbrev pub digits : ℕ → Bool → ℕ → List ℕ
-digits zero b n = (48 + n) ∷ []
-digits (suc k) true n = (48 + n) ∷ []
-digits (suc k) false n = digits k (ltb (n / 10) 10) (n / 10) ++ ((48 + n % 10) ∷ [])
-
-unfoldable pub decimal : ℕ → List ℕ
-decimal n = digits n (ltb n 10) n
-
-abbrev pub number : ℤ → List ℕ
-number (pos n) = decimal n
-number (negsuc n) = 45 ∷ decimal (suc n)
+use Rattle.decimal.specs.Decimal.{decimal, number}
+use Rattle.grgrid.specs.Build.{rows}
 
 -- number i of a list, after a blank
 abbrev pub spaced : List ℤ → ℕ → List ℕ

@@ -1,8 +1,9 @@
 // The text that a job prints, written into a lent slice.
 // No Display: what is written and the count are one equation, and without room nothing is.
 ghost use Rattle.std.specs.Prelude.{◌≡◌, ◌/◌, length, Some};
-ghost use Rattle.bzsearch.specs.Search.{rows};
-ghost use Rattle.job.specs.Listing.{decimal, number, spaced, line, triplet_line, listing, refusal};
+ghost use Rattle.grgrid.specs.Build.{rows};
+ghost use Rattle.decimal.specs.Decimal.{decimal, number};
+ghost use Rattle.job.specs.Listing.{spaced, line, triplet_line, listing, refusal};
 ghost use Rattle.job.specs.Writing.{printed, printed_answer, page, put, puts, finished};
 
 use common::Refusal;

@@ -13,9 +13,9 @@ use Rattle.common.specs.declared.Refusal.TheVariants.{WrongLength}
 use Rattle.common.proofs.Tests.{passed, not-accepted, both-accepted}
 use Rattle.grgrid.specs.Grid.{size}
 use Rattle.grgrid.specs.Own.{own_places}
-use Rattle.bzsearch.proofs.Listing.{item_in}
+use Rattle.grgrid.proofs.Lists.{item_in}
 use Rattle.bztable.specs.Reading.{triple_at}
-use Rattle.bz_triplets.proofs.Rising.{length-own, own-points}
+use Rattle.grgrid.proofs.Own.{length-own, own-points}
 use Rattle.snf3x3.specs.Snf3x3.{Answer, refused, diagonalised, snf3x3}
 use Rattle.snf3x3.specs.Written.{written}
 use Rattle.zone_steps.specs.Steps.{Rooms, Grid, Lists, transformed, rotation_tests, count, grid_tests, grid_lists, lists_of}

@@ -1,14 +1,15 @@
 -- The listing of an accepted job fits the program's array, so that the program prints it whole or the line of the job's refusal.
 use mathlib.Core.Path.{◌≡◌, refl, sym, ◌∙◌, ap, ap₂, subst}
 use mathlib.Core.List.{List, [], ◌∷◌, ◌++◌}
-use Prim.Native.Nat.{ℕ, zero, suc, ◌*◌, ◌-◌, ◌/◌, ◌≤◌, ◌<◌}
+use Prim.Native.Nat.{ℕ, zero, suc, ◌*◌, ◌^◌, ◌-◌, ◌/◌, ◌≤◌, ◌<◌}
 use native.Mathlib.Nat.{le_trans}
 use native.Mathlib.Omega.{arith}
 use lib.Dec.{T, leb, ltb, ltb→lt}
 use lib.IntN.{ℤ, pos, negsuc, nat_abs}
 use lib.ListN.{length, get_or, take, replicate, length-take, length-append}
 use borrow.Author.Tests.{le-leb}
-use Rattle.std.specs.Prelude.{Result, Ok, Err, Option, Some, None}
+use Rattle.std.specs.Prelude.{Result, Ok, Err, Some, None}
+use Rattle.std.specs.Option.{unwrap_or}
 use Rattle.integer.specs.Checked.{pick}
 use Rattle.common.specs.Array.{sides_of}
 use Rattle.common.specs.Limits.{side_fits, diagonal_fits}
@@ -20,27 +21,29 @@ use Rattle.common.proofs.Bounds.{side-size}
 use Rattle.common.proofs.Tests.{same-ok, same-refusal, refused-not-ok}
 use Rattle.grgrid.specs.Grid.{size}
 use Rattle.grgrid.proofs.Accepted.{side-0, side-1, side-2}
-use Rattle.job.specs.Listing.{decimal, number, refusal}
+use Rattle.decimal.specs.Decimal.{decimal, number}
+use Rattle.job.specs.Listing.{refusal}
 use Rattle.job.specs.Writing.{printed, printed_answer}
-use Rattle.job.proofs.Lengths.{tenfold, digits-few, listing-length}
+use Rattle.decimal.proofs.Decimal.{digits-few}
+use Rattle.job.proofs.Lengths.{listing-length}
 use Rattle.zone.specs.declared.Finished.{Finished}
 use Rattle.zone.specs.Chain.{chain_finished, chain_lists}
 use Rattle.zone.proofs.ChainNumbers.{Below, Numbers, chain-numbers}
 use Rattle.zone_steps.specs.Steps.{Rooms, Lists}
 use Rattle.zone_steps.specs.StepsView.{rooms}
 use Rattle.zone_list.specs.List.{list_rooms, Whole, chain_job, text_of, text_for, finished, text, list_tests, list_answer, list_text, list_addresses, list_map, list_grg, list_lists}
-use Rattle.zone_print.specs.JobText.{text_or_refusal, job_text, PrintedJob, printed_job}
+use Rattle.zone_print.specs.JobText.{text_or_refusal, job_text, bytes_printed, PrintedJob, printed_job}
 use Rattle.zone_list.proofs.Listed.{accepted-tests, whole-chain}
 
 -- ---- short numbers
 -- numbers below 10, 100, 1000, .. have at most 1, 2, 3, .. digits
-below-short : (k m : ℕ) → m ≤ tenfold k → (l : List ℤ) → Below m l → (i : ℕ) → i < length l → length (number (get_or l i (pos 0))) ≤ suc k
+below-short : (k m : ℕ) → m ≤ 10 ^ suc k → (l : List ℤ) → Below m l → (i : ℕ) → i < length l → length (number (get_or l i (pos 0))) ≤ suc k
 below-short k m h l b i j =
     let r = b i j in
-    subst (λ z. length (number z) ≤ suc k) (sym r.1) (digits-few k r.0 (le_trans r.2 h))
+    subst (λ z. length (number z) ≤ suc k) (sym r.1) ((digits-few k r.0).1 (le_trans r.2 h))
 
 side-short : (z : ℤ) → T (side_fits z) → length (number z) ≤ 3
-side-short (pos n) t = let h = side-size (pos n) t in digits-few 2 n (omega arith)
+side-short (pos n) t = let h = side-size (pos n) t in let b : n < 1000 = omega arith in (digits-few 2 n).1 b
 side-short (negsuc n) t = absurd t
 
 sides-short : (d : List ℤ) → T (diagonal_fits d) → length d ≡ 3 → (i : ℕ) → i < length d → length (number (get_or d i (pos 0))) ≤ 3
@@ -64,7 +67,10 @@ module _ (f : Finished) (l : Lists) (w : Whole f 256 768) (n : Numbers f.d (nat_
   count-is = ap nat_abs w.counted
 
   count-short : length (number f.num_ir) ≤ 3
-  count-short = subst (λ z. length (number z) ≤ 3) (sym w.counted) (digits-few 2 w.k (let a = w.few in let b = w.classes-in in omega arith))
+  count-short = subst (λ z. length (number z) ≤ 3) (sym w.counted) ((digits-few 2 w.k).1 few)
+    where
+      few : w.k < 1000
+      few = let a = w.few in let b = w.classes-in in omega arith
 
   shown-few : length shown ≤ 256
   shown-few = let a = w.classes-in in rw (length-take N l.classes) (omega arith)
@@ -132,11 +138,12 @@ few-digits InvertedRange = tt
 
 refusal-short : (r : Refusal) → length (refusal r) ≤ 11
 unfolding refusal
-refusal-short r = let h = digits-few 1 (number_of r) (ltb→lt (number_of r) 100 (few-digits r)) in omega (arith, length-append (decimal (number_of r)) (10 ∷ []))
+refusal-short r = let h = (digits-few 1 (number_of r)).1 (ltb→lt (number_of r) 100 (few-digits r)) in omega (arith, length-append (decimal (number_of r)) (10 ∷ []))
 
-pub refusal-printed : (r : Refusal) {p : Option ℕ} → p ≡ printed_answer (refusal r) 8192 → p ≡ Some (length (refusal r))
-unfolding printed_answer
-refusal-printed r e = e ∙ ap (λ t. pick t (Some (length (refusal r))) None) (le-leb (length (refusal r)) 8192 (le_trans (refusal-short r) (omega arith)))
+refusal-printed : (r : Refusal) {m k : ℕ} → m ≡ 8192 → k ≡ bytes_printed (refusal r) m → k ≡ length (refusal r)
+unfolding bytes_printed printed_answer
+refusal-printed r em ek =
+    ek ∙ ap (bytes_printed (refusal r)) em ∙ ap (λ t. unwrap_or (pick t (Some (length (refusal r))) None) 0) (le-leb (length (refusal r)) 8192 (le_trans (refusal-short r) (omega arith)))
 
 pub same-rooms : {a b c d e f g h : ℕ} → a ≡ 3072 → b ≡ 2305 → c ≡ 1024 → d ≡ 256 → e ≡ 256 → f ≡ 768 → g ≡ 256 → h ≡ 256 → rooms a b c d e f g h ≡ list_rooms
 same-rooms a b c d e f g h = λ i. rooms (a i) (b i) (c i) (d i) (e i) (f i) (g i) (h i)
@@ -198,5 +205,7 @@ module _ (b : List ℕ) where
     pub listing-printed : {k : ℕ} {t : List ℕ} → Ok k ≡ list_answer b r n → t ≡ list_text b r n → printed-with k t x y z l ≡ printed_job b
     listing-printed {k} {t} e et = let a = e ∙ sized (list_answer b) in whole-print k t (listed-bytes a) (listed-whole a (et ∙ sized (list_text b)))
 
-    pub line-printed : {c : Refusal} {k : ℕ} {t : List ℕ} → Err c ≡ list_answer b r n → k ≡ length (refusal c) → t ≡ printed (refusal c) 8192 → printed-with k t x y z l ≡ printed_job b
-    line-printed {k = k} {t = t} e ek et = let a = e ∙ sized (list_answer b) in whole-print k t (ek ∙ ap length (refused-text a)) (et ∙ ap (λ t. printed t 8192) (refused-text a))
+    pub line-printed : {c : Refusal} {k m : ℕ} {t : List ℕ} → Err c ≡ list_answer b r n → m ≡ 8192 → k ≡ bytes_printed (refusal c) m → t ≡ printed (refusal c) m → printed-with k t x y z l ≡ printed_job b
+    line-printed {c = c} {k = k} {t = t} e em ek et =
+        let a = e ∙ sized (list_answer b) in
+        whole-print k t (refusal-printed c em ek ∙ ap length (refused-text a)) (et ∙ ap₂ printed (refused-text a) em)

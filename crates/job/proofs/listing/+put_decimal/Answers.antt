@@ -3,9 +3,10 @@ use mathlib.Core.Path.{◌≡◌, sym, ◌∙◌, ap}
 use Prim.Native.Nat.{◌+◌, ◌/◌, ◌%◌}
 use borrow.Author.Rules.{rules}
 use Rattle.std.specs.Prelude.{Some, None}
-use Rattle.job.specs.Listing.{decimal}
+use Rattle.decimal.specs.Decimal.{decimal}
 use Rattle.job.specs.Writing.{page, puts}
-use Rattle.job.proofs.Put.{puts_then, stopped, one-digit, last-digit}
+use Rattle.decimal.proofs.Decimal.{one-digit, last-digit}
+use Rattle.job.proofs.Put.{puts_then, stopped}
 use Rattle.job.proofs.listing.+put_decimal.Goals as goal
 
 pub returns-then-u-lt10 : goal.returns-then-u-lt10

@@ -3,7 +3,7 @@ use mathlib.Core.List.{[], ◌∷◌, ◌++◌}
 use lib.ListN.{length}
 use borrow.Author.Rules.{rules}
 use Rattle.std.specs.Prelude.{Some, None}
-use Rattle.bzsearch.specs.Search.{rows}
+use Rattle.grgrid.specs.Build.{rows}
 use Rattle.job.specs.Listing.{spaced, line}
 use Rattle.job.specs.Writing.{page}
 use Rattle.job.proofs.Put.{puts_then, stopped}

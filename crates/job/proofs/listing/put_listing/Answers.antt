@@ -5,7 +5,7 @@ use lib.ListN.{length}
 use mir.Facts.{to_z-of_z}
 use borrow.Author.Rules.{rules}
 use Rattle.std.specs.Prelude.{Some, None}
-use Rattle.bzsearch.specs.Search.{rows}
+use Rattle.grgrid.specs.Build.{rows}
 use Rattle.job.specs.Listing.{line, grid, map, ir, triplet_line, listing}
 use Rattle.job.specs.Writing.{page}
 use Rattle.job.proofs.Put.{puts_then, stopped}

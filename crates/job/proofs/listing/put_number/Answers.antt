@@ -4,9 +4,10 @@ use lib.IntN.{nat_abs}
 use mir.Facts.{to_z-of_z}
 use borrow.Author.Rules.{rules}
 use Rattle.std.specs.Prelude.{Some, None}
-use Rattle.job.specs.Listing.{decimal}
+use Rattle.decimal.specs.Decimal.{decimal}
 use Rattle.job.specs.Writing.{page, puts}
-use Rattle.job.proofs.Put.{stopped, below-zero}
+use Rattle.decimal.proofs.Decimal.{below-zero}
+use Rattle.job.proofs.Put.{stopped}
 use Rattle.job.proofs.listing.put_number.Goals as goal
 
 pub returns-in_err-m : goal.returns-in_err-m

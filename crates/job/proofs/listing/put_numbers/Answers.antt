@@ -4,7 +4,8 @@ use lib.IntN.{pos}
 use lib.ListN.{length, get_or}
 use borrow.Author.Rules.{rules}
 use Rattle.std.specs.Prelude.{Some, None}
-use Rattle.job.specs.Listing.{number, spaced}
+use Rattle.decimal.specs.Decimal.{number}
+use Rattle.job.specs.Listing.{spaced}
 use Rattle.job.specs.Writing.{page}
 use Rattle.job.proofs.Put.{puts_then, stopped, rows-stopped}
 use Rattle.job.proofs.listing.put_numbers.Goals as goal

@@ -1,6 +1,6 @@
 use mathlib.Core.Path.{◌≡◌}
 use Rattle.std.specs.Prelude.{Some}
-use Rattle.bzsearch.specs.Search.{rows}
+use Rattle.grgrid.specs.Build.{rows}
 use Rattle.job.specs.Listing.{spaced}
 use Rattle.job.specs.Writing.{page, puts}
 use Rattle.job.proofs.listing.put_numbers.Given as goal

@@ -7,7 +7,7 @@ use borrow.Author.Rules.{rules}
 use Rattle.std.specs.Prelude.{Some, None}
 use Rattle.job.specs.Listing.{line, triplet, triplet_line}
 use Rattle.job.specs.Writing.{page, puts}
-use Rattle.bzsearch.specs.Search.{rows}
+use Rattle.grgrid.specs.Build.{rows}
 use Rattle.job.proofs.Lists.{three-is, more-is, three-in}
 use Rattle.job.proofs.Put.{row_more, rows-stopped}
 use Rattle.job.proofs.listing.put_triplets.Goals as goal

@@ -3,7 +3,7 @@ use Prim.Native.Nat.{◌*◌, ◌≤◌}
 use lib.ListN.{length, drop}
 use Rattle.std.specs.Prelude.{Some}
 use Rattle.std.specs.Slice.Iter.{chunks_exact_rest, chunks_exact_size}
-use Rattle.bzsearch.specs.Search.{rows}
+use Rattle.grgrid.specs.Build.{rows}
 use Rattle.job.specs.Listing.{triplet_line}
 use Rattle.job.specs.Writing.{page, puts}
 use Rattle.job.proofs.listing.put_triplets.Given as goal

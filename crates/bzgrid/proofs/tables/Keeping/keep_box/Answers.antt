@@ -1,6 +1,7 @@
 use Rattle.std.proofs.Common.{ℤ, ap, ◌∙◌, arith}
 use Rattle.integer.proofs.Fits.{held, held-is}
-use Rattle.bzsearch.specs.Search.{rows, chosen, box_at, plane_at, line_at}
+use Rattle.grgrid.specs.Build.{rows}
+use Rattle.bzsearch.specs.Search.{chosen, box_at, plane_at, line_at}
 use Rattle.bzsearch.specs.SearchView.{numbers_view, axes_view}
 use Rattle.common.proofs.Sized.{sized-items}
 use Rattle.bzsearch.proofs.Rows.{turn, finished, held-small}

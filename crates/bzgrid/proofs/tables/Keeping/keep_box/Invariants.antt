@@ -1,6 +1,7 @@
 use Rattle.std.proofs.Common.{◌≡◌, ◌≤◌, ◌+◌, ◌*◌}
 use mathlib.Core.List.{foldl}
-use Rattle.bzsearch.specs.Search.{rows, box_at, plane_at, line_at}
+use Rattle.grgrid.specs.Build.{rows}
+use Rattle.bzsearch.specs.Search.{box_at, plane_at, line_at}
 use Rattle.bzsearch.specs.SearchView.{numbers_view, axes_view}
 use Rattle.bzgrid.specs.Writing.{tables}
 use Rattle.bzgrid.proofs.Kept.{keeping}

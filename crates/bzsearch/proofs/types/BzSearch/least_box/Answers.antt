@@ -1,7 +1,8 @@
 use Rattle.std.proofs.Common.{ℤ, ap, ◌∙◌}
 use Rattle.integer.proofs.Fits.{held, held-is}
 use Rattle.common.specs.FloatMatrix.{float_vector}
-use Rattle.bzsearch.specs.Search.{rows, chosen, box_at, plane_at, line_at, lower}
+use Rattle.grgrid.specs.Build.{rows}
+use Rattle.bzsearch.specs.Search.{chosen, box_at, plane_at, line_at, lower}
 use Rattle.bzsearch.specs.SearchView.{search_of, numbers_view, axes_view}
 use Rattle.common.proofs.Sized.{sized-items}
 use Rattle.bzsearch.proofs.Rows.{turn, finished, held-small}

@@ -1,6 +1,7 @@
 use Rattle.std.proofs.Common.{◌≡◌}
 use Rattle.common.specs.FloatMatrix.{float_vector}
-use Rattle.bzsearch.specs.Search.{rows, box_at, plane_at, line_at, least_of}
+use Rattle.grgrid.specs.Build.{rows}
+use Rattle.bzsearch.specs.Search.{box_at, plane_at, line_at, least_of}
 use Rattle.bzsearch.specs.SearchView.{search_of, numbers_view, axes_view}
 use Rattle.bzsearch.proofs.types.BzSearch.least_box.Given as goal
 

@@ -2,8 +2,8 @@
 use mathlib.Core.Path.{◌≡◌, refl, sym, ◌∙◌, ap, subst}
 use mathlib.Core.Logic.{◌↔◌}
 use mathlib.Core.Bool.{Bool, true, false}
-use mathlib.Core.List.{List, map}
-use Prim.Native.Nat.{ℕ, zero, suc, ◌+◌, ◌<◌}
+use mathlib.Core.List.{List, [], ◌∷◌, ◌++◌, map}
+use Prim.Native.Nat.{ℕ, zero, suc, ◌+◌, ◌<◌, ◌≤◌}
 use native.Mathlib.Omega.{arith}
 use lib.Dec.{T, eqb→eq, eqb_refl}
 use lib.IntN.{ℤ, pos, negsuc, nat_abs}
@@ -11,7 +11,7 @@ use lib.ListN.{length, get_or, get_or-map}
 use Rattle.grgrid.specs.Picked.{Rising}
 use Rattle.grgrid.specs.Own.{is_place, own_places, own_points}
 use Rattle.grgrid.proofs.Lists.{◌∈◌}
-use Rattle.grgrid.proofs.Picked.{mark, in-picked, picked-rising, picked-distinct, picked-length}
+use Rattle.grgrid.proofs.Picked.{mark, in-picked, picked-rising, picked-distinct, picked_more, picked_same, picked-length, picked-grows}
 use Rattle.grgrid.proofs.Count.{OneEach, Classified}
 
 place_is : (z : ℤ) (n : ℕ) → T (is_place z n) → z ≡ pos n
@@ -32,6 +32,16 @@ module _ (l : List ℤ) where
       step : (b : Bool) → length (own_points l n) ≡ own_places l n → length (own_points l n) + mark b ≡ elim b [ true ↦ suc (own_places l n) | false ↦ own_places l n ]
       step true e = omega arith
       step false e = omega arith
+
+  pub own-rises : (n m : ℕ) → n ≤ m → own_places l n ≤ own_places l m
+  own-rises n m h = omega (arith, length-own n, length-own m, picked-grows here? n m h)
+
+  -- the points below n + 1
+  pub points_more : (n : ℕ) → here? n ≡ true → own_points l (n + 1) ≡ own_points l n ++ (n ∷ [])
+  points_more = picked_more here?
+
+  pub points_same : (n : ℕ) → here? n ≡ false → own_points l (n + 1) ≡ own_points l n
+  points_same = picked_same here?
 
   pub own-points : (n p : ℕ) → (p ∈ own_points l n) ↔ ((p < n) × (get_or l p (pos 0) ≡ pos p))
   own-points n p = let r = in-picked here? n p in (λ m. ((r.0 m).0, place_is (get_or l p (pos 0)) p (r.0 m).1), λ k. r.1 (k.0, is-place p k.1))

@@ -144,7 +144,7 @@ module _ (j : Job) (r : Rooms) where
             ap Ok f ∙ answered (sym n ∙ ev ∙ stepped-is)
 
   -- ---- the outputs
-  tested-is : without_value (chain_answer j r) ≡ chain_tests j r
+  pub tested-is : without_value (chain_answer j r) ≡ chain_tests j r
   unfolding chain_answer
   tested-is = again (chain_tests j r)
     where

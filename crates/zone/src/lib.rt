@@ -1,8 +1,8 @@
 // The chain of calls, from a matrix and its rotations to the finished list.
 #![tactic(auto)]
 
-ghost use Rattle.std.specs.Prelude.{◌≡◌, ◌&&◌, ◌*◌, eqb, length, OnOk};
-ghost use Rattle.zone.specs.Chain.{grid_of, chain_answer, chain_addresses, chain_map, chain_grg, chain_lists};
+ghost use Rattle.std.specs.Prelude.{◌≡◌, ◌&&◌, ◌*◌, eqb, negsuc, length, replicate, OnOk};
+ghost use Rattle.zone.specs.Chain.{wiped, grid_of, chain_answer, chain_addresses, chain_map, chain_grg, chain_lists};
 ghost use Rattle.zone.specs.ChainFinished.{FinishedChain};
 ghost use Rattle.zone_steps.specs.StepsView.{rooms, lists, Listed};
 ghost use Rattle.zone.specs.ChainView.{job};
@@ -88,6 +88,26 @@ fn run_chain(
     Ok(Finished { d, num_ir })
 }
 
+// -1 in every place of the outputs.
+pub fn wipe(
+    addresses: &mut [i64],
+    map: &mut [i64],
+    grg: &mut [i64],
+    classes: &mut [i64],
+    points: &mut [i64],
+    triplets: &mut [i64],
+    left: &mut [i64],
+    lengths: &mut [f64],
+)
+    ensures addresses_after { addresses.new ≡ replicate (length addresses.old) (negsuc 0) }
+    ensures map_after { map.new ≡ replicate (length map.old) (negsuc 0) }
+    ensures grg_after { grg.new ≡ replicate (length grg.old) (negsuc 0) }
+    ensures lengths_after { lists classes.new points.new triplets.new left.new lengths.new ≡ wiped (rooms (length addresses.old) (length map.old) (length grg.old) (length classes.old) (length points.old) (length triplets.old) (length left.old) (length lengths.old)) }
+{
+    bzgrid::wipe(addresses, map, grg);
+    zone_steps::wipe_lists(classes, points, triplets, left, lengths);
+}
+
 // Diagonalises a, takes the reciprocal rotations of a list that must be a group, transforms them, and runs images, classes and triplets. An output
 // may be longer than needed. The last promise is demand 3, said of these slices.
 pub fn finished_list(
@@ -134,8 +154,9 @@ pub fn finished_list(
         &mut *lengths,
     );
     if f.is_err() {
-        bzgrid::wipe(addresses, map, grg);
-        zone_steps::wipe_lists(classes, points, triplets, left, lengths);
+        wipe(
+            addresses, map, grg, classes, points, triplets, left, lengths,
+        );
     }
     f
 }

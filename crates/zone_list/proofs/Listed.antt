@@ -33,13 +33,13 @@ use Rattle.job.specs.Writing.{printed, printed_answer}
 use Rattle.job.proofs.Sections.{sections}
 use Rattle.job.proofs.Outcome.{read-job, told-rotations}
 use Rattle.zone.specs.declared.Finished.{Finished}
-use Rattle.zone_steps.specs.Steps.{Rooms, Grid, Lists, rotation_tests, points_of, class_map_of, count, grid_tests}
+use Rattle.zone_steps.specs.Steps.{Rooms, Grid, Lists, rotation_tests, points_of, class_map_of, count, image_addresses, image_map, image_grg, grid_tests, grid_lists}
 use Rattle.zone.specs.Chain.{Job, rooms_agree, diagonal_tests, sides, change, grid_of, lists_for, wiped, chain_finished, chain_tests, chain_answer, chain_addresses, chain_map, chain_grg, chain_lists}
 use Rattle.zone.specs.ChainView.{job}
 use Rattle.zone_steps.proofs.ListedGrid.{rotations-fit}
 use Rattle.zone.proofs.Outcomes.{no-refusal, a-refusal}
-use Rattle.zone.proofs.ChainWhole.{rooms-agreed}
-use Rattle.zone_list.specs.List.{chain_job, after_reading, text_of, room_tests, text_for, finished, text, list_tests, list_answer, list_text, list_addresses, list_map, list_grg, list_lists, Whole, Ran}
+use Rattle.zone.proofs.ChainWhole.{rooms-agreed, tested-is}
+use Rattle.zone_list.specs.List.{chain_job, after_reading, text_of, room_tests, text_for, finished, text, addresses_left, map_left, grg_left, lists_left, job_tests, job_addresses, job_map, job_grg, job_lists, list_tests, list_answer, list_text, Whole}
 
 -- the end of a part that begins at 0
 pub whole : (k : ℕ) → k - 0 ≡ k
@@ -57,34 +57,93 @@ module _ (b : List ℕ) {j : read.Job} (e : job_of b ≡ Ok j) where
   pub few-counted : j.count ≤ 192
   few-counted = subst (λ k. k ≤ 192) (sym counted) (sections b (read-job b e).0).few
 
+  ej : j ≡ accepted b
+  ej = (read-job b e).1
+
+  rotations-are : {l : List ℤ} → l ≡ rotations_written b 1728 → take (9 * j.count - 0) l ≡ rotations_of b
+  rotations-are {l} el = ap₂ take (whole (9 * j.count) ∙ ap (λ k. 9 * k) (counted)) el ∙ told-rotations b (read-job b e).0
+
+  -- as it is handed to the chain, by numbers that stand for the type and q0
+  pub same-job : {a : List (List ℤ)} → a ≡ rows (matrix_at j.a 0) → {l : List ℤ} → l ≡ rotations_written b 1728 → {lattice : List (List Float)} → lattice ≡ rows (float_nine j.lattice)
+      → {u p : ℤ} → u ≡ j.grid_type → p ≡ j.q0 → job a (take (9 * j.count - 0) l) lattice (pos 0 ∷ pos 0 ∷ pos 0 ∷ []) j.time_reversal j.swapping u p ≡ chain_job b
+  unfolding chain_job
+  same-job ea er el eu ep = λ i. job ((ea ∙ ap (λ j. rows (matrix_at j.a 0)) ej) i) (rotations-are er i) ((el ∙ ap (λ j. rows (float_nine j.lattice)) ej) i) (pos 0 ∷ pos 0 ∷ pos 0 ∷ []) (ej i).time_reversal (ej i).swapping ((eu ∙ ap (λ j. j.grid_type) ej) i) ((ep ∙ ap (λ j. j.q0) ej) i)
+
+-- ---- -1 everywhere, once or twice
+wiped-twice : (t : Tested) (n : ℕ) (l : List ℤ) → output_of t n l ≡ output_of t n (output_of t n l)
+wiped-twice (Ok _) n l = refl
+wiped-twice (Err x) n l = refl
+
 module _ (b : List ℕ) (r : Rooms) where
+  abbrev ran : Tested
+  ran = chain_tests (chain_job b) r
+
+  addresses-twice : chain_addresses (chain_job b) r ≡ addresses_left b r ran
+  unfolding addresses_left chain_addresses
+  addresses-twice = wiped-twice ran r.addresses (image_addresses (grid_of (chain_job b)) (chain_job b).shift r)
+
+  map-twice : chain_map (chain_job b) r ≡ map_left b r ran
+  unfolding map_left chain_map
+  map-twice = wiped-twice ran r.map (image_map (grid_of (chain_job b)) (chain_job b).shift r)
+
+  grg-twice : chain_grg (chain_job b) r ≡ grg_left b r ran
+  unfolding grg_left chain_grg
+  grg-twice = wiped-twice ran r.grg (image_grg (grid_of (chain_job b)) (chain_job b).shift r)
+
+  lists-twice : chain_lists (chain_job b) r ≡ lists_left b r ran
+  unfolding lists_left chain_lists
+  lists-twice = go ran (grid_lists (grid_of (chain_job b)) (chain_job b).shift r)
+    where
+      go : (t : Tested) (l : Lists) → lists_for t r l ≡ lists_for t r (lists_for t r l)
+      go (Ok _) l = refl
+      go (Err x) l = refl
+
+  -- ---- what a refusal leaves
+  module _ {t : Tested} {x : Refusal} (e : Err x ≡ t) where
+    pub addresses-wiped : {l : List ℤ} → l ≡ replicate r.addresses (negsuc 0) → l ≡ addresses_left b r t
+    unfolding addresses_left
+    addresses-wiped h = h ∙ ap (λ t. output_of t r.addresses (chain_addresses (chain_job b) r)) e
+
+    pub map-wiped : {l : List ℤ} → l ≡ replicate r.map (negsuc 0) → l ≡ map_left b r t
+    unfolding map_left
+    map-wiped h = h ∙ ap (λ t. output_of t r.map (chain_map (chain_job b) r)) e
+
+    pub grg-wiped : {l : List ℤ} → l ≡ replicate r.grg (negsuc 0) → l ≡ grg_left b r t
+    unfolding grg_left
+    grg-wiped h = h ∙ ap (λ t. output_of t r.grg (chain_grg (chain_job b) r)) e
+
+    pub lists-wiped : {l : Lists} → l ≡ wiped r → l ≡ lists_left b r t
+    unfolding lists_left
+    lists-wiped h = h ∙ ap (λ t. lists_for t r (chain_lists (chain_job b) r)) e
+
+  -- ---- what the reader gives
   pub job-refused : {x : Refusal} → job_of b ≡ Err x → Err x ≡ finished b r
   unfolding finished
   job-refused e = sym (ap (λ j. after_reading j (chain_answer (chain_job b) r)) e)
 
   module _ {j : read.Job} (e : job_of b ≡ Ok j) where
-    ej : j ≡ accepted b
-    ej = (read-job b e).1
+    ran-tests : ran ≡ job_tests b r
+    unfolding finished
+    ran-tests = sym (tested-is (chain_job b) r) ∙ sym (ap (λ t. without_value (after_reading t (chain_answer (chain_job b) r))) e)
 
-    rotations-are : {l : List ℤ} → l ≡ rotations_written b 1728 → take (9 * j.count - 0) l ≡ rotations_of b
-    rotations-are {l} el = ap₂ take (whole (9 * j.count) ∙ ap (λ k. 9 * k) (counted b e)) el ∙ told-rotations b (read-job b e).0
+    -- what the chain then answers and leaves
+    module _ {g : Job} (eg : g ≡ chain_job b) where
+      pub job-finished : {f : Result Finished Refusal} → f ≡ chain_answer g r → f ≡ finished b r
+      unfolding finished
+      job-finished ef = ef ∙ ap (λ g. chain_answer g r) eg ∙ sym (ap (λ t. after_reading t (chain_answer (chain_job b) r)) e)
 
-    -- as it is handed to the chain, by numbers that stand for the type and q0
-    module _ {a : List (List ℤ)} (ea : a ≡ rows (matrix_at j.a 0)) {l : List ℤ} (er : l ≡ rotations_written b 1728) {lattice : List (List Float)} (el : lattice ≡ rows (float_nine j.lattice)) {u p : ℤ} (eu : u ≡ j.grid_type) (ep : p ≡ j.q0) where
-      abbrev given : List ℤ → Job
-      given shift = job a (take (9 * j.count - 0) l) lattice shift j.time_reversal j.swapping u p
+      module _ {x : List ℤ} where
+        pub addresses-ran : x ≡ chain_addresses g r → x ≡ job_addresses b r
+        addresses-ran h = h ∙ ap (λ g. chain_addresses g r) eg ∙ addresses-twice ∙ ap (addresses_left b r) ran-tests
 
-      module _ {shift : List ℤ} (es : shift ≡ pos 0 ∷ pos 0 ∷ pos 0 ∷ []) where
-        same-job : given shift ≡ chain_job b
-        unfolding chain_job
-        same-job = λ i. job ((ea ∙ ap (λ j. rows (matrix_at j.a 0)) ej) i) (rotations-are er i) ((el ∙ ap (λ j. rows (float_nine j.lattice)) ej) i) (es i) (ej i).time_reversal (ej i).swapping ((eu ∙ ap (λ j. j.grid_type) ej) i) ((ep ∙ ap (λ j. j.q0) ej) i)
+        pub map-ran : x ≡ chain_map g r → x ≡ job_map b r
+        map-ran h = h ∙ ap (λ g. chain_map g r) eg ∙ map-twice ∙ ap (map_left b r) ran-tests
 
-        pub job-finished : {f : Result Finished Refusal} → f ≡ chain_answer (given shift) r → f ≡ finished b r
-        unfolding finished
-        job-finished ef = ef ∙ ap (λ j. chain_answer j r) same-job ∙ sym (ap (λ t. after_reading t (chain_answer (chain_job b) r)) e)
+        pub grg-ran : x ≡ chain_grg g r → x ≡ job_grg b r
+        grg-ran h = h ∙ ap (λ g. chain_grg g r) eg ∙ grg-twice ∙ ap (grg_left b r) ran-tests
 
-        pub job-ran : {x y z : List ℤ} {l : Lists} → x ≡ chain_addresses (given shift) r → y ≡ chain_map (given shift) r → z ≡ chain_grg (given shift) r → l ≡ chain_lists (given shift) r → Ran (chain_job b) r x y z l
-        job-ran ex ey ez el = record { addresses-are = ex ∙ ap (λ j. chain_addresses j r) same-job; map_is = ey ∙ ap (λ j. chain_map j r) same-job; grg-is = ez ∙ ap (λ j. chain_grg j r) same-job; lists-are = el ∙ ap (λ j. chain_lists j r) same-job }
+      pub lists-ran : {l : Lists} → l ≡ chain_lists g r → l ≡ job_lists b r
+      lists-ran h = h ∙ ap (λ g. chain_lists g r) eg ∙ lists-twice ∙ ap (lists_left b r) ran-tests
 
 -- ---- the number of classes of a whole list, as it is held
 module _ {f : Finished} {m n : ℕ} (w : Whole f m n) where
@@ -196,10 +255,15 @@ module _ (b : List ℕ) (r : Rooms) where
         let w = whole-chain (chain_job b) r chain-answered.1 in
         subst (λ g. Whole g m k) (sym chain-answered.0) (subst (λ m. Whole (chain_finished (chain_job b)) m k) (sym em) (subst (λ k. Whole (chain_finished (chain_job b)) r.classes k) (sym ek) w))
 
-    module _ {x y z : List ℤ} {l : Lists} (h : Ran (chain_job b) r x y z l) (n : ℕ) where
+    -- ---- its text in n places
+    module _ {l : Lists} (el : l ≡ job_lists b r) (n : ℕ) where
+      pub lists-are : l ≡ chain_lists (chain_job b) r
+      unfolding lists_left
+      lists-are = el ∙ sym (ap (λ f. lists_for (without_value f) r (chain_lists (chain_job b) r)) ef)
+
       text-is : text_of f l.classes l.triplets ≡ text b r
       unfolding text
-      text-is = λ i. text_of (chain-answered.0 i) (h.lists-are i).classes (h.lists-are i).triplets
+      text-is = λ i. text_of (chain-answered.0 i) (lists-are i).classes (lists-are i).triplets
 
       tests-are : room_tests (text b r) n ≡ list_tests b r n
       unfolding list_tests
@@ -214,15 +278,21 @@ module _ (b : List ℕ) (r : Rooms) where
       listed-text et = et ∙ ap (λ t. printed t n) text-is ∙ text-told n (leb (length (text b r)) n) (text b r) refl ∙ ap (λ s. text_for s (text b r) n) tests-are
 
   module _ (n : ℕ) where
-    pub refused-answer : {x : Refusal} → finished b r ≡ Err x → Err x ≡ list_answer b r n
-    unfolding list_answer list_tests
-    refused-answer e = sym (ap (λ f. giving (after (without_value f) (room_tests (text b r) n)) (length (text b r))) e)
+    -- ---- a job that is refused
+    module _ {x : Refusal} (e : finished b r ≡ Err x) where
+      pub refused-tests : job_tests b r ≡ list_tests b r n
+      unfolding list_tests
+      refused-tests = ap without_value e ∙ sym (ap (λ f. after (without_value f) (room_tests (text b r) n)) e)
 
-    pub refused-blank : {x : Refusal} → finished b r ≡ Err x → {t : List ℕ} → t ≡ replicate n 0 → t ≡ list_text b r n
-    unfolding list_text list_tests
-    refused-blank e et = et ∙ sym (ap (λ f. text_for (after (without_value f) (room_tests (text b r) n)) (text b r) n) e)
+      pub refused-answer : Err x ≡ list_answer b r n
+      unfolding list_answer
+      refused-answer = ap (λ t. giving t (length (text b r))) (sym (ap without_value e) ∙ refused-tests)
 
-    -- ---- what is left in the outputs
+      pub refused-blank : {t : List ℕ} → t ≡ replicate n 0 → t ≡ list_text b r n
+      unfolding list_text
+      refused-blank et = et ∙ ap (λ t. text_for t (text b r) n) (sym (ap without_value e) ∙ refused-tests)
+
+    -- ---- a job whose listing was tried
     module _ {a : Result ℕ Refusal} (ea : a ≡ list_answer b r n) where
       tests : without_value a ≡ list_tests b r n
       unfolding list_answer
@@ -232,42 +302,8 @@ module _ (b : List ℕ) (r : Rooms) where
           again (Ok _) = refl
           again (Err x) = refl
 
-      module _ (h : is_err a ≡ false) {x y z : List ℤ} {l : Lists} (k : Ran (chain_job b) r x y z l) where
-        passed-tests : Accepted ≡ list_tests b r n
-        passed-tests = sym (no-refusal a h) ∙ tests
+      pub listed-tests : {f : Finished} → Ok f ≡ finished b r → is_err a ≡ false → job_tests b r ≡ list_tests b r n
+      listed-tests ef h = sym (ap without_value ef) ∙ sym (no-refusal a h) ∙ tests
 
-        pub addresses-kept : x ≡ list_addresses b r n
-        unfolding list_addresses
-        addresses-kept = k.addresses-are ∙ ap (λ t. output_of t r.addresses (chain_addresses (chain_job b) r)) passed-tests
-
-        pub map-kept : y ≡ list_map b r n
-        unfolding list_map
-        map-kept = k.map_is ∙ ap (λ t. output_of t r.map (chain_map (chain_job b) r)) passed-tests
-
-        pub grg-kept : z ≡ list_grg b r n
-        unfolding list_grg
-        grg-kept = k.grg-is ∙ ap (λ t. output_of t r.grg (chain_grg (chain_job b) r)) passed-tests
-
-        pub lists-kept : l ≡ list_lists b r n
-        unfolding list_lists
-        lists-kept = k.lists-are ∙ ap (λ t. lists_for t r (chain_lists (chain_job b) r)) passed-tests
-
-      module _ (h : is_err a ≡ true) where
-        refusal : (x : Refusal) × (Err x ≡ list_tests b r n)
-        refusal = let x = a-refusal a h in (x.0, sym x.1 ∙ tests)
-
-        pub addresses-wiped : {l : List ℤ} → l ≡ replicate r.addresses (negsuc 0) → l ≡ list_addresses b r n
-        unfolding list_addresses
-        addresses-wiped e = e ∙ ap (λ t. output_of t r.addresses (chain_addresses (chain_job b) r)) refusal.1
-
-        pub map-wiped : {l : List ℤ} → l ≡ replicate r.map (negsuc 0) → l ≡ list_map b r n
-        unfolding list_map
-        map-wiped e = e ∙ ap (λ t. output_of t r.map (chain_map (chain_job b) r)) refusal.1
-
-        pub grg-wiped : {l : List ℤ} → l ≡ replicate r.grg (negsuc 0) → l ≡ list_grg b r n
-        unfolding list_grg
-        grg-wiped e = e ∙ ap (λ t. output_of t r.grg (chain_grg (chain_job b) r)) refusal.1
-
-        pub lists-wiped : {l : Lists} → l ≡ wiped r → l ≡ list_lists b r n
-        unfolding list_lists
-        lists-wiped e = e ∙ ap (λ t. lists_for t r (chain_lists (chain_job b) r)) refusal.1
+      pub no-room : is_err a ≡ true → (x : Refusal) × (Err x ≡ list_tests b r n)
+      no-room h = let x = a-refusal a h in (x.0, sym x.1 ∙ tests)

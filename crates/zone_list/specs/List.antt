@@ -57,11 +57,45 @@ module _ (b : List ℕ) (r : Rooms) where
   unfolding chain_job chain_finished chain_lists text_of
   text = let l = chain_lists (chain_job b) r in text_of (chain_finished (chain_job b)) l.classes l.triplets
 
+  -- what tests of the job leave: what the chain does, or -1 everywhere
+  module _ (t : Tested) where
+    unfoldable pub addresses_left : List ℤ
+    unfolding chain_job chain_addresses
+    addresses_left = output_of t r.addresses (chain_addresses (chain_job b) r)
+
+    unfoldable pub map_left : List ℤ
+    unfolding chain_job chain_map
+    map_left = output_of t r.map (chain_map (chain_job b) r)
+
+    unfoldable pub grg_left : List ℤ
+    unfolding chain_job chain_grg
+    grg_left = output_of t r.grg (chain_grg (chain_job b) r)
+
+    unfoldable pub lists_left : Lists
+    unfolding chain_job chain_lists
+    lists_left = lists_for t r (chain_lists (chain_job b) r)
+
+  -- those of the chain alone
+  abbrev pub job_tests : Tested
+  job_tests = without_value finished
+
+  abbrev pub job_addresses : List ℤ
+  job_addresses = addresses_left job_tests
+
+  abbrev pub job_map : List ℤ
+  job_map = map_left job_tests
+
+  abbrev pub job_grg : List ℤ
+  job_grg = grg_left job_tests
+
+  abbrev pub job_lists : Lists
+  job_lists = lists_left job_tests
+
   -- the text has n places
   module _ (n : ℕ) where
     unfoldable pub list_tests : Tested
     unfolding finished text
-    list_tests = after (without_value finished) (room_tests text n)
+    list_tests = after job_tests (room_tests text n)
 
     unfoldable pub list_answer : Result ℕ Refusal
     unfolding list_tests text
@@ -71,24 +105,19 @@ module _ (b : List ℕ) (r : Rooms) where
     unfolding list_tests text printed
     list_text = text_for list_tests text n
 
-    unfoldable pub list_addresses : List ℤ
-    unfolding list_tests chain_job chain_addresses
-    list_addresses = output_of list_tests r.addresses (chain_addresses (chain_job b) r)
+    abbrev pub list_addresses : List ℤ
+    list_addresses = addresses_left list_tests
 
-    unfoldable pub list_map : List ℤ
-    unfolding list_tests chain_job chain_map
-    list_map = output_of list_tests r.map (chain_map (chain_job b) r)
+    abbrev pub list_map : List ℤ
+    list_map = map_left list_tests
 
-    unfoldable pub list_grg : List ℤ
-    unfolding list_tests chain_job chain_grg
-    list_grg = output_of list_tests r.grg (chain_grg (chain_job b) r)
+    abbrev pub list_grg : List ℤ
+    list_grg = grg_left list_tests
 
-    unfoldable pub list_lists : Lists
-    unfolding list_tests chain_job chain_lists
-    list_lists = lists_for list_tests r (chain_lists (chain_job b) r)
+    abbrev pub list_lists : Lists
+    list_lists = lists_left list_tests
 
--- ---- what the steps rely on and leave
-
+-- ---- what the printing relies on
 -- the lists hold a class for each point, and three numbers for each class
 pub record Whole (f : Finished) (classes triplets : ℕ) : Type 0 where
   pub grid : T (diagonal_fits f.d)
@@ -97,10 +126,3 @@ pub record Whole (f : Finished) (classes triplets : ℕ) : Type 0 where
   pub counted : f.num_ir ≡ pos k
   pub few : k ≤ size (sides_of f.d)
   pub triplets-in : k * 3 ≤ triplets
-
--- what an accepted job leaves
-pub record Ran (j : Job) (r : Rooms) (addresses map grg : List ℤ) (l : Lists) : Type 0 where
-  pub addresses-are : addresses ≡ chain_addresses j r
-  pub map_is : map ≡ chain_map j r
-  pub grg-is : grg ≡ chain_grg j r
-  pub lists-are : l ≡ chain_lists j r

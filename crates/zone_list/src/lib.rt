@@ -1,17 +1,17 @@
 // A job file, from its bytes to its listing.
 #![tactic(auto)]
 
-ghost use Rattle.std.specs.Prelude.{◌≡◌, length, OnOk};
+ghost use Rattle.std.specs.Prelude.{◌≡◌, length};
 ghost use Rattle.common.specs.Tested.{giving};
 ghost use Rattle.job.specs.Writing.{printed};
 ghost use Rattle.zone_steps.specs.StepsView.{rooms, lists};
-ghost use Rattle.zone_list.specs.List.{chain_job, finished, text_of, room_tests, list_answer, list_text, list_addresses, list_map, list_grg, list_lists, Whole, Ran};
+ghost use Rattle.zone_list.specs.List.{finished, text_of, room_tests, job_addresses, job_map, job_grg, job_lists, list_answer, list_text, list_addresses, list_map, list_grg, list_lists, Whole};
 
 use common::Refusal;
 use zone::Finished;
 
-// A refusal may leave anything in the outputs. Outputs as slices: see docs/DECISIONS.md, 'Output slices'. A fixed array for the rotations: no heap.
-fn run_job(
+// Reads a job and runs the chain on it, without shift. Outputs as slices: see docs/DECISIONS.md, 'Output slices'. A fixed array for the rotations: no heap.
+pub fn run_job(
     bytes: &[u8],
     addresses: &mut [i64],
     map: &mut [i64],
@@ -23,31 +23,43 @@ fn run_job(
     lengths: &mut [f64],
 ) -> Result<Finished, Refusal>
     ensures value { result ≡ finished bytes.now (rooms (length addresses.old) (length map.old) (length grg.old) (length classes.old) (length points.old) (length triplets.old) (length left.old) (length lengths.old)) }
-    ensures ran { OnOk result (Ran (chain_job bytes.now) (rooms (length addresses.old) (length map.old) (length grg.old) (length classes.old) (length points.old) (length triplets.old) (length left.old) (length lengths.old)) addresses.new map.new grg.new (lists classes.new points.new triplets.new left.new lengths.new)) }
+    ensures addresses_after { addresses.new ≡ job_addresses bytes.now (rooms (length addresses.old) (length map.old) (length grg.old) (length classes.old) (length points.old) (length triplets.old) (length left.old) (length lengths.old)) }
+    ensures map_after { map.new ≡ job_map bytes.now (rooms (length addresses.old) (length map.old) (length grg.old) (length classes.old) (length points.old) (length triplets.old) (length left.old) (length lengths.old)) }
+    ensures grg_after { grg.new ≡ job_grg bytes.now (rooms (length addresses.old) (length map.old) (length grg.old) (length classes.old) (length points.old) (length triplets.old) (length left.old) (length lengths.old)) }
+    ensures lengths_after { lists classes.new points.new triplets.new left.new lengths.new ≡ job_lists bytes.now (rooms (length addresses.old) (length map.old) (length grg.old) (length classes.old) (length points.old) (length triplets.old) (length left.old) (length lengths.old)) }
 {
     let mut rotations = [0i64; 1728];
-    let j = job::read_job(bytes, &mut rotations)?;
-    let a = j.a;
-    let lattice = j.lattice;
-    let n = 9 * j.count;
-    zone::finished_list(
-        integer_matrix::nested(a),
-        &rotations[0..n],
-        common::nested(lattice),
-        [0, 0, 0],
-        j.time_reversal,
-        j.swapping,
-        j.grid_type,
-        j.q0,
-        addresses,
-        map,
-        grg,
-        classes,
-        points,
-        triplets,
-        left,
-        lengths,
-    )
+    match job::read_job(bytes, &mut rotations) {
+        Ok(j) => {
+            let a = j.a;
+            let lattice = j.lattice;
+            let n = 9 * j.count;
+            zone::finished_list(
+                integer_matrix::nested(a),
+                &rotations[0..n],
+                common::nested(lattice),
+                [0, 0, 0],
+                j.time_reversal,
+                j.swapping,
+                j.grid_type,
+                j.q0,
+                addresses,
+                map,
+                grg,
+                classes,
+                points,
+                triplets,
+                left,
+                lengths,
+            )
+        }
+        Err(r) => {
+            zone::wipe(
+                addresses, map, grg, classes, points, triplets, left, lengths,
+            );
+            Err(r)
+        }
+    }
 }
 
 // The class of each point, and the triplets of the classes.
@@ -67,38 +79,6 @@ fn print_finished(
     job::print_listing(d, &classes[0..n], f.num_ir, &triplets[0..k], text).ok_or(
         Refusal::WrongLength,
     )
-}
-
-// A refusal may leave anything in the chain's outputs, but 0 in every place of the text.
-fn print_job(
-    bytes: &[u8],
-    addresses: &mut [i64],
-    map: &mut [i64],
-    grg: &mut [i64],
-    classes: &mut [i64],
-    points: &mut [i64],
-    triplets: &mut [i64],
-    left: &mut [i64],
-    lengths: &mut [f64],
-    text: &mut [u8],
-) -> Result<usize, Refusal>
-    ensures value { result ≡ list_answer bytes.now (rooms (length addresses.old) (length map.old) (length grg.old) (length classes.old) (length points.old) (length triplets.old) (length left.old) (length lengths.old)) (length text.old) }
-    ensures text_after { text.new ≡ list_text bytes.now (rooms (length addresses.old) (length map.old) (length grg.old) (length classes.old) (length points.old) (length triplets.old) (length left.old) (length lengths.old)) (length text.old) }
-    ensures ran { OnOk result (Ran (chain_job bytes.now) (rooms (length addresses.old) (length map.old) (length grg.old) (length classes.old) (length points.old) (length triplets.old) (length left.old) (length lengths.old)) addresses.new map.new grg.new (lists classes.new points.new triplets.new left.new lengths.new)) }
-{
-    text.fill(0);
-    let f = run_job(
-        bytes,
-        addresses,
-        map,
-        grg,
-        &mut *classes,
-        points,
-        &mut *triplets,
-        left,
-        lengths,
-    )?;
-    print_finished(f, classes, triplets, text)
 }
 
 // Reads a job, runs the chain without shift, and prints the finished list. The buffers are the chain's outputs.
@@ -121,7 +101,8 @@ pub fn list(
     ensures lengths_after { lists classes.new points.new triplets.new left.new lengths.new ≡ list_lists job.now (rooms (length addresses.old) (length map.old) (length grg.old) (length classes.old) (length points.old) (length triplets.old) (length left.old) (length lengths.old)) (length text.old) }
     ensures text_after { text.new ≡ list_text job.now (rooms (length addresses.old) (length map.old) (length grg.old) (length classes.old) (length points.old) (length triplets.old) (length left.old) (length lengths.old)) (length text.old) }
 {
-    let printed = print_job(
+    text.fill(0);
+    let f = run_job(
         job,
         &mut *addresses,
         &mut *map,
@@ -131,11 +112,12 @@ pub fn list(
         &mut *triplets,
         &mut *left,
         &mut *lengths,
-        text,
-    );
+    )?;
+    let printed = print_finished(f, classes, triplets, text);
     if printed.is_err() {
-        bzgrid::wipe(addresses, map, grg);
-        zone_steps::wipe_lists(classes, points, triplets, left, lengths);
+        zone::wipe(
+            addresses, map, grg, classes, points, triplets, left, lengths,
+        );
     }
     printed
 }

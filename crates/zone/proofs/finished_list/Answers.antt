@@ -1,10 +1,5 @@
-use mathlib.Core.Path.{◌≡◌}
-use lib.IntN.{negsuc}
-use lib.Ieee.{binary64, of_int}
-use lib.ListN.{length, replicate}
 use mir.Facts.{to_z-of_z}
 use borrow.Author.Rules.{rules}
-use Rattle.zone_steps.specs.StepsView.{lists}
 use Rattle.zone.proofs.ChainWhole.{passed-tests, left-accepted, addresses-wiped, map-wiped, grg-wiped, lists-wiped}
 use Rattle.zone.proofs.Outcomes.{had, told}
 use Rattle.zone.proofs.ChainFinished.{chain-finished-list}
@@ -27,15 +22,8 @@ returns-then-is_err-clause-grg_after c =
 
 pub returns-then-is_err-clause-lengths_after : goal.returns-then-is_err-clause-lengths_after
 returns-then-is_err-clause-lengths_after c =
-    let a = c.args in
-    let w = c.wipe_lists.new in
     let e = rw (to_z-of_z c.ranges.bz_grid_type, to_z-of_z c.ranges.q0) at c.run_chain-f.ensures.value in
-    let classes : w.classes ≡ replicate (length a.classes.now) (negsuc 0) = search rules in
-    let points : w.points ≡ replicate (length a.points.now) (negsuc 0) = search rules in
-    let triplets : w.triplets ≡ replicate (length a.triplets.now) (negsuc 0) = search rules in
-    let left : w.left ≡ replicate (length a.left.now) (negsuc 0) = search rules in
-    let lengths : w.lengths ≡ replicate (length a.lengths.now) (of_int binary64 (negsuc 0)) = search rules in
-    lists-wiped _ _ e (search rules) (λ i. lists (classes i) (points i) (triplets i) (left i) (lengths i))
+    lists-wiped _ _ e (search rules) (search rules)
 
 pub returns-else-is_err-clause-addresses_after : goal.returns-else-is_err-clause-addresses_after
 returns-else-is_err-clause-addresses_after c =

@@ -1,37 +1,46 @@
-use mathlib.Core.Path.{◌≡◌, refl, sym, ◌∙◌}
+use mathlib.Core.Path.{sym, ap}
 use borrow.Author.Rules.{rules}
-use Rattle.std.specs.Prelude.{Err}
+use Rattle.common.specs.Tested.{without_value}
 use Rattle.integer.proofs.Fits.{held-is}
-use Rattle.zone.proofs.Outcomes.{told}
-use Rattle.zone_list.proofs.Listed.{job-refused, few-counted, job-finished, job-ran}
+use Rattle.zone_list.proofs.Listed.{job-refused, few-counted, same-job, job-finished, addresses-ran, map-ran, grg-ran, lists-ran, addresses-wiped, map-wiped, grg-wiped, lists-wiped}
 use Rattle.zone_list.proofs.run_job.Goals as goal
-
-pub returns-in_err-j-clause-value : goal.returns-in_err-j-clause-value
-returns-in_err-j-clause-value c =
-    let e : c.from_residual.result ≡ Err c.in_err-j.field-0.0 = search rules in
-    e ∙ job-refused _ _ (sym c.read_job.ensures.value ∙ c.in_err-j.was)
 
 pub overflow_mul-n : goal.overflow_mul-n
 overflow_mul-n c =
-    let h = few-counted c.args.bytes.now (sym c.read_job.ensures.value ∙ c.in_ok-j.was) in
+    let h = few-counted c.args.bytes.now (sym c.in-Ok.ensures.value) in
     search rules
 
 pub slice_bounds-finished_list-end : goal.slice_bounds-finished_list-end
 slice_bounds-finished_list-end c =
-    let h = few-counted c.args.bytes.now (sym c.read_job.ensures.value ∙ c.in_ok-j.was) in
+    let h = few-counted c.args.bytes.now (sym c.in-Ok.ensures.value) in
     search rules
 
-pub returns-clause-value : goal.returns-clause-value
-returns-clause-value c =
-    let j = c.in_ok-j.j in
-    let e = sym c.read_job.ensures.value ∙ c.in_ok-j.was in
-    job-finished _ _ e c.nested.ensures c.read_job.ensures.rotations_after c.nested-2.ensures (held-is j.grid_type (search rules)) (held-is j.q0 (search rules)) refl c.finished_list.ensures.value
-
-pub returns-clause-ran : goal.returns-clause-ran
-returns-clause-ran c =
-    let j = c.in_ok-j.j in
+pub returns-in-Ok : goal.returns-in-Ok
+returns-in-Ok c =
+    let j = c.in-Ok.j in
+    let r = c.in-Ok.ensures in
     let f = c.finished_list.ensures in
-    let e = sym c.read_job.ensures.value ∙ c.in_ok-j.was in
-    told c.finished_list.result
-    (job-ran _ _ e c.nested.ensures c.read_job.ensures.rotations_after c.nested-2.ensures (held-is j.grid_type (search rules)) (held-is j.q0 (search rules)) refl
-    f.addresses_after f.map_after f.grg_after f.lengths_after)
+    let e = sym r.value in
+    let g = same-job _ e c.nested.ensures r.rotations_after c.nested-in-Ok.ensures (held-is j.grid_type (search rules)) (held-is j.q0 (search rules)) in
+    record {
+      value = job-finished _ _ e g f.value;
+      addresses_after = addresses-ran _ _ e g f.addresses_after;
+      map_after = map-ran _ _ e g f.map_after;
+      grg_after = grg-ran _ _ e g f.grg_after;
+      lengths_after = lists-ran _ _ e g f.lengths_after;
+    }
+
+pub returns-in-Err-clause-value : goal.returns-in-Err-clause-value
+returns-in-Err-clause-value c = job-refused _ _ (sym c.in-Err.ensures.value)
+
+pub returns-in-Err-clause-addresses_after : goal.returns-in-Err-clause-addresses_after
+returns-in-Err-clause-addresses_after c = addresses-wiped _ _ (ap without_value (returns-in-Err-clause-value c)) c.wipe.ensures.addresses_after
+
+pub returns-in-Err-clause-map_after : goal.returns-in-Err-clause-map_after
+returns-in-Err-clause-map_after c = map-wiped _ _ (ap without_value (returns-in-Err-clause-value c)) c.wipe.ensures.map_after
+
+pub returns-in-Err-clause-grg_after : goal.returns-in-Err-clause-grg_after
+returns-in-Err-clause-grg_after c = grg-wiped _ _ (ap without_value (returns-in-Err-clause-value c)) c.wipe.ensures.grg_after
+
+pub returns-in-Err-clause-lengths_after : goal.returns-in-Err-clause-lengths_after
+returns-in-Err-clause-lengths_after c = lists-wiped _ _ (ap without_value (returns-in-Err-clause-value c)) c.wipe.ensures.lengths_after

@@ -16,7 +16,7 @@ returns-in-Err-clause-o_after c =
     let e = c.in-Err.ensures in
     let p = c.print_refused.ensures in
     line-printed c.args.job.now (same-rooms (search rules) (search rules) (search rules) (search rules) (search rules) (search rules) (search rules) (search rules)) (search rules)
-    e.addresses_after e.map_after e.grg_after e.lengths_after e.value p.value p.text_after
+    e.addresses_after e.map_after e.grg_after e.lengths_after e.value (search rules) p.value p.text_after
 
 pub returns-in-Err-clause-upper_bound : goal.returns-in-Err-clause-upper_bound
 returns-in-Err-clause-upper_bound c = printed-fits _ (returns-in-Err-clause-o_after c)

@@ -81,6 +81,7 @@
  *   6  zone_bz_triplets_at_q       q0 or an image of it, addresses,     a triplet of images for each class
  *                                  map, map_triplets, d, q, lattice,
  *                                  type
+ *      zone_class_sheet            map_triplets, the triplets           a line of text for each class, if wanted
  *
  * time_reversal says that q and -q are equivalent, swappable that q1 and q2 may change places. d, q, ps, lattice,
  * type and time_reversal are the same in every call that takes them. It is proved of calls 1 to 6, each accepted: two
@@ -113,6 +114,7 @@
  *   q0           0 to N - 1 (an image index in zone_bz_triplets_at_q of type 2: there 14)
  *   point        0 to N - 1
  *   limit        1 to 1,000,000
+ *   sheet        a class number and a weight of at most 6 characters, an image index of at most 11
  *
  * A list of matrices has a multiple of 9 places, one of addresses a multiple of 3. Tables that are read may have any
  * length and hold anything.
@@ -162,6 +164,7 @@ enum zone_refusal {
 #define ZONE_CANDIDATES 125 /* of a point, whose marks zone_mark_candidates gives */
 #define ZONE_MAP_LENGTH(type, n) ((type) == 1 ? 9 * (n) + 1 : (n) + 1) /* of the image map of n points */
 #define ZONE_MOST_IMAGES INT64_C(2363359232) /* in a table, whatever the lattice */
+#define ZONE_SHEET_LENGTH(k) (46 * ((k) + ((k) + 39) / 40)) /* of the sheet of k classes */
 #define ZONE_JOB_LENGTH 8192                 /* of the longest job file, in bytes */
 #define ZONE_TEXT_LENGTH 6940                /* no listing is longer, in bytes */
 
@@ -327,6 +330,19 @@ int64_t zone_bz_triplets_at_q(int64_t q0, const int64_t *addresses, size_t addre
                               size_t d_len, const int64_t *q, size_t q_len, const double *lattice, size_t lattice_len,
                               int64_t bz_grid_type, int64_t *out, size_t out_len, int64_t *left, size_t left_len,
                               double *left_length, size_t left_length_len);
+
+/* The class sheet of a finished list, a text to pin beside the camera. In: class_map, as call 6 took it, and triplets,
+ * its out; either may hold anything. Out: with k places of class_map that hold their own number, and so 3 * k places of
+ * triplets, sheet[ZONE_SHEET_LENGTH(k)]. Each place holds the code of a character: blank 32, minus 45, digits 48 to 57,
+ * line feed 10. All lines have 45 characters and a line feed. By rising number there is one for each class: its number
+ * right in 6 characters, its weight right in 6, its three image indices right in 11 each; the weight is how many places
+ * of class_map hold the number. Before the first class and each fortieth after it stands a line with the page number,
+ * from 1, right in 45; so class r, counted from 0, has line r + r / 40 + 1. Without classes there is no page. A minus
+ * sign is a character, so an index fits from -9,999,999,999 to 99,999,999,999, and a triplet of -1 has its line. Full
+ * fields touch: read a sheet by its columns, not by blanks. It is proved that it then gives the same numbers back, and
+ * that of what calls 1 to 6 leave, each accepted, every number fits, whatever the list. Refusals: 13, 3. */
+int64_t zone_class_sheet(const int64_t *class_map, size_t class_map_len, const int64_t *triplets, size_t triplets_len,
+                         int64_t *sheet, size_t sheet_len);
 
 /* Calls 1 to 6 on a job file, for at most 256 points and 1,024 images (else 13), with ps = 0; type 2 starts from the
  * first image of q0. The file has a header of eight 32-bit words, and all words are little-endian:

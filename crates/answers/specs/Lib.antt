@@ -7,4 +7,5 @@ pub mod Transforms
 pub mod Images
 pub mod Marks
 pub mod Triplets
+pub mod Sheets
 pub mod WorstPairs

@@ -5,6 +5,7 @@
 #![tactic(auto)]
 
 mod marks;
+mod sheet;
 mod weights;
 
 use replaying::replay;
@@ -14,5 +15,6 @@ fn main(rt: HostRuntime) -> io::Result<()> {
     let mut n = [0; 4096];
     replay(&rt, "class_weights", &mut n, weights::class_weights)?;
     replay(&rt, "mark_candidates", &mut n, marks::mark_candidates)?;
+    replay(&rt, "class_sheet", &mut n, sheet::class_sheet)?;
     replay(&rt, "control", &mut n, weights::class_weights)
 }

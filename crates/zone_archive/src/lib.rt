@@ -9,6 +9,7 @@ mod list;
 mod marks;
 mod pair;
 mod recip;
+mod sheet;
 mod transform;
 mod triplets;
 mod weights;

@@ -7,6 +7,7 @@ pub mod bench;
 pub mod bz_grid_addresses;
 pub mod bz_triplets_at_q;
 pub mod chain;
+pub mod class_sheet;
 pub mod class_weights;
 pub mod compare;
 pub mod corners;

@@ -4,6 +4,7 @@ use crate::bench::{self, Timed, Times};
 use crate::bz_grid_addresses::*;
 use crate::bz_triplets_at_q::*;
 use crate::chain::*;
+use crate::class_sheet::*;
 use crate::class_weights::*;
 use crate::extended_gcd::*;
 use crate::floats::*;
@@ -15,6 +16,7 @@ use crate::inputs::lent_images::ImagesInput;
 use crate::inputs::lent_marks::MarksInput;
 use crate::inputs::lent_neighbours::NeighboursInput;
 use crate::inputs::lent_rotations::RotateInput;
+use crate::inputs::lent_sheets::SheetInput;
 use crate::inputs::lent_triplets::TripletsInput;
 use crate::integers::*;
 use crate::ir_triplets_at_q::*;
@@ -139,6 +141,7 @@ pub static ROWS: &[Row] = &[
     Row::call::<NeighboringGridPoints>("neighboring_grid_points"),
     Row::call::<IrTripletsAtQ>("ir_triplets_at_q"),
     Row::call::<BzTripletsAtQ>("bz_triplets_at_q"),
+    Row::apart::<ClassSheet>("class_sheet"),
     Row::compared::<Chain>("chain"),
     Row {
         vectors: Some(zone_list::vectors),
@@ -195,6 +198,9 @@ pub static VARIANTS: &[Variant] = &[
     }),
     ("bz_triplets_at_q:type_2", || {
         bench::run_on::<BzTripletsAtQ>(TripletsInput::dense)
+    }),
+    ("class_sheet:65536", || {
+        bench::run_on::<ClassSheet>(SheetInput::full)
     }),
 ];
 

@@ -33,6 +33,14 @@ extern "C" {
         marks: *mut i64,
         marks_len: usize,
     ) -> i64;
+    fn zone_class_sheet(
+        class_map: *const i64,
+        class_map_len: usize,
+        triplets: *const i64,
+        triplets_len: usize,
+        sheet: *mut i64,
+        sheet_len: usize,
+    ) -> i64;
 }
 
 pub fn class_weights(
@@ -90,6 +98,19 @@ pub fn mark_candidates(
             point,
             marks.as_mut_ptr(),
             marks.len(),
+        )
+    }
+}
+
+pub fn class_sheet(class_map: &[i64], triplets: &[i64], sheet: &mut [i64]) -> i64 {
+    unsafe {
+        zone_class_sheet(
+            class_map.as_ptr(),
+            class_map.len(),
+            triplets.as_ptr(),
+            triplets.len(),
+            sheet.as_mut_ptr(),
+            sheet.len(),
         )
     }
 }

@@ -12,7 +12,7 @@ use vectors::tally::Tally;
 use vectors::{Verdict, text};
 
 // Reads until `text` is full, the file ends or a read fails, and answers how many bytes it put to the front.
-// `io::copy` would lose that number where a read fails, and zonelist's loop hands such a failure on.
+// `io::copy` would lose that number where a read fails, and `input::read_full` hands such a failure on.
 fn read_full(file: &mut impl Read, text: &mut [u8]) -> usize
     ensures { Front result text.new }
 {

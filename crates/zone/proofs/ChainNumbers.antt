@@ -46,10 +46,6 @@ triples-below l m n e h t b = by (t % 3) refl
     by (suc (suc zero)) f = at (3 * (t / 3) + 2) (omega arith) Z (ap (λ v. v.z) found.1)
     by (suc (suc (suc r))) f = absurd (omega arith)
 
--- of a list that stands in front of others
-front : {m n : ℕ} {l x : List ℤ} (y : List ℤ) → l ≡ x → length l ≡ n → Below m l → Below m (take n (x ++ y))
-front {m} {n} {l} {x} y e f h = subst (Below m) (e ∙ sym (take_at x y n (ap length (sym e) ∙ f))) h
-
 module _ (c : Calls) where
   classes-below : Below (points c) c.classes
   classes-below p h =
@@ -68,11 +64,32 @@ module _ (c : Calls) where
           let q1 = get_or (lowest_points c) j 0 in
           subst (λ n. q1 < n) (every-number c) ((own-points c.classes (length c.classes) q1).0 (item_in 0 (lowest_points c) j h)).0
 
--- ---- the chain: three sides d, k classes, and lists in which a class number is a point and an image index lies below m
+-- ---- the chain: three sides d, k classes, and the class map and the triplets of its calls in the front of its lists, whose image indices lie below m
+pub record Told (d : List ℤ) (k : ℕ) (l : Lists) (m : ℕ) : Type 0 where
+  pub calls : Calls
+  pub three-sides : length d ≡ 3
+  pub points-are : points calls ≡ size (sides_of d)
+  pub count-is : own_places calls.classes (length calls.classes) ≡ k
+  pub room-is : calls.rooms.z ≡ m
+  pub classes-are : take (size (sides_of d)) l.classes ≡ calls.classes
+  pub triplets-are : take (k * 3) l.triplets ≡ calls.triplets
+
+-- so a class number is a point and an image index lies below m
 pub record Numbers (d : List ℤ) (k : ℕ) (l : Lists) (m : ℕ) : Type 0 where
   pub three-sides : length d ≡ 3
   pub classes-listed : Below (size (sides_of d)) (take (size (sides_of d)) l.classes)
   pub triplets-listed : Below m (take (k * 3) l.triplets)
+
+numbers-of : {d : List ℤ} {k : ℕ} {l : Lists} {m : ℕ} → Told d k l m → Numbers d k l m
+numbers-of {d} {k} {l} t = record {
+  three-sides = t.three-sides;
+  classes-listed = subst (λ n. Below n (take (size (sides_of d)) l.classes)) t.points-are (subst (Below (points t.calls)) (sym t.classes-are) (classes-below t.calls));
+  triplets-listed = subst (λ m. Below m (take (k * 3) l.triplets)) t.room-is (subst (Below t.calls.rooms.z) (sym t.triplets-are) (triplets-below t.calls));
+}
+
+-- a list in front of others
+front : {n : ℕ} {l x : List ℤ} (y : List ℤ) → l ≡ x → length l ≡ n → take n (x ++ y) ≡ l
+front {n} {l} {x} y e f = take_at x y n (ap length (sym e) ∙ f) ∙ sym e
 
 module _ (j : Job) (r : Rooms) where
   abbrev grid_by : Answer → Grid
@@ -86,24 +103,32 @@ module _ (j : Job) (r : Rooms) where
       after (without_value (written w))
       (after (rotation_tests j.rotations j.time_reversal (sides_in (written w)) (change_in (written w))) (grid_tests (grid_by w) j.shift r))
 
-  numbers-by : (w : Answer) → snf3x3 (matrix_of j.matrix) ≡ w → tests_by w ≡ Accepted → Numbers (sides_in (written w)) (count (grid_by w)) (grid_lists (grid_by w) j.shift r) r.grg
+  told-by : (w : Answer) → snf3x3 (matrix_of j.matrix) ≡ w → tests_by w ≡ Accepted → Told (sides_in (written w)) (count (grid_by w)) (grid_lists (grid_by w) j.shift r) r.grg
   unfolding grid_lists lists_of
-  numbers-by (refused c) f e = absurd (not-accepted e)
-  numbers-by (diagonalised d p q n) f e =
+  told-by (refused c) f e = absurd (not-accepted e)
+  told-by (diagonalised d p q n) f e =
       let w = diagonalised d p q n in
       let b = both-accepted (rotation_tests j.rotations j.time_reversal (items d) (rows q)) (grid_tests (grid_by w) j.shift r) e in
       let c = calls j r d p q n f b.0 b.1 in
       let l = calls-left j r d p q n f b.0 b.1 in
       let sides : points c ≡ size (sides_of (items d)) = ap (λ d. size (sides_of (items d))) l.sides-are in
-      let own : length (lowest_points c) ≡ count (grid_by w) = length-own c.classes (length c.classes) ∙ ap (λ x. own_places x (length x)) l.classes-are in
+      let own : own_places c.classes (length c.classes) ≡ count (grid_by w) = ap (λ x. own_places x (length x)) l.classes-are in
       record {
+        calls = c;
         three-sides = refl;
-        classes-listed = front _ l.classes-are (every-number c ∙ sides) (subst (λ n. Below n c.classes) sides (classes-below c));
-        triplets-listed = front _ l.triplets-are ((finished-triplets c (every-number c)).0 ∙ ap (λ k. k * 3) own) (subst (λ n. Below n c.triplets) l.room-is (triplets-below c));
+        points-are = sides;
+        count-is = own;
+        room-is = l.room-is;
+        classes-are = front _ l.classes-are (every-number c ∙ sides);
+        triplets-are = front _ l.triplets-are ((finished-triplets c (every-number c)).0 ∙ ap (λ k. k * 3) (length-own c.classes (length c.classes) ∙ own));
       }
 
-  pub chain-numbers : chain_tests j r ≡ Accepted → Numbers (chain_finished j).d (nat_abs (chain_finished j).num_ir) (chain_lists j r) r.grg
-  unfolding chain_finished chain_lists chain_tests diagonal grid_of
-  chain-numbers e =
-      subst (λ t. Numbers (chain_finished j).d (nat_abs (chain_finished j).num_ir) (lists_for t r (grid_lists (grid_of j) j.shift r)) r.grg) (sym e)
-      (numbers-by (snf3x3 (matrix_of j.matrix)) refl (passed (rooms_agree r) WrongLength _ e).1)
+  module _ (e : chain_tests j r ≡ Accepted) where
+    pub chain-told : Told (chain_finished j).d (nat_abs (chain_finished j).num_ir) (chain_lists j r) r.grg
+    unfolding chain_finished chain_lists chain_tests diagonal grid_of
+    chain-told =
+        subst (λ t. Told (chain_finished j).d (nat_abs (chain_finished j).num_ir) (lists_for t r (grid_lists (grid_of j) j.shift r)) r.grg) (sym e)
+        (told-by (snf3x3 (matrix_of j.matrix)) refl (passed (rooms_agree r) WrongLength _ e).1)
+
+    pub chain-numbers : Numbers (chain_finished j).d (nat_abs (chain_finished j).num_ir) (chain_lists j r) r.grg
+    chain-numbers = numbers-of chain-told

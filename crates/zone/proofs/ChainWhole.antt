@@ -25,7 +25,7 @@ use Rattle.zone.specs.declared.Finished.{Finished}
 use Rattle.zone_steps.specs.Steps.{Rooms, Grid, Lists, transformed, rotation_tests, class_map_of, count, lists_of, grid_tests, grid_lists, image_addresses, image_map, image_grg}
 use Rattle.zone.specs.Chain.{Job, rooms_agree, sides_in, change_in, diagonal, diagonal_tests, sides, change, wiped, lists_for, grid_of, chain_finished, chain_tests, chain_answer, chain_addresses, chain_map, chain_grg, chain_lists}
 use Rattle.zone_steps.specs.StepsView.{grid, lists, Agreed, Listed}
-use Rattle.zone.proofs.Outcomes.{no-refusal, a-refusal}
+use Rattle.zone.proofs.Outcomes.{no-refusal, a-refusal, tests-told}
 
 -- ---- -1 is no place
 abbrev counted-on : ℕ → ℤ → ℕ → ℕ
@@ -146,11 +146,7 @@ module _ (j : Job) (r : Rooms) where
   -- ---- the outputs
   pub tested-is : without_value (chain_answer j r) ≡ chain_tests j r
   unfolding chain_answer
-  tested-is = again (chain_tests j r)
-    where
-      again : (t : Tested) → without_value (giving t (chain_finished j)) ≡ t
-      again (Ok _) = refl
-      again (Err x) = refl
+  tested-is = tests-told (chain_tests j r) (chain_finished j)
 
   pub record Left (a b c : List ℤ) (l : Lists) : Type 0 where
     pub addresses-are : a ≡ chain_addresses j r

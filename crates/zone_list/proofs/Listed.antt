@@ -37,7 +37,7 @@ use Rattle.zone_steps.specs.Steps.{Rooms, Grid, Lists, rotation_tests, points_of
 use Rattle.zone.specs.Chain.{Job, rooms_agree, diagonal_tests, sides, change, grid_of, lists_for, wiped, chain_finished, chain_tests, chain_answer, chain_addresses, chain_map, chain_grg, chain_lists}
 use Rattle.zone.specs.ChainView.{job}
 use Rattle.zone_steps.proofs.ListedGrid.{rotations-fit}
-use Rattle.zone.proofs.Outcomes.{no-refusal, a-refusal}
+use Rattle.zone.proofs.Outcomes.{no-refusal, a-refusal, tests-told}
 use Rattle.zone.proofs.ChainWhole.{rooms-agreed, tested-is}
 use Rattle.zone_list.specs.List.{chain_job, after_reading, text_of, room_tests, text_for, finished, text, addresses_left, map_left, grg_left, lists_left, job_tests, job_addresses, job_map, job_grg, job_lists, list_tests, list_answer, list_text, Whole}
 
@@ -225,6 +225,24 @@ module _ (j : Job) (r : Rooms) where
 
 -- ---- a job that is listed
 module _ (b : List ℕ) (r : Rooms) where
+  -- ---- its tests, and others after them
+  pub stopped : {x : Refusal} → finished b r ≡ Err x → (t : Tested) → job_tests b r ≡ after (job_tests b r) t
+  stopped e t = ap without_value e ∙ sym (ap (λ f. after (without_value f) t) e)
+
+  pub onward : {f : Finished} → Ok f ≡ finished b r → (t : Tested) → t ≡ after (job_tests b r) t
+  onward e t = ap (λ f. after (without_value f) t) e
+
+  module _ (t : Tested) {A : Type 0} (v : A) {a : Result A Refusal} (ea : a ≡ giving (after (job_tests b r) t) v) where
+    all-tests : without_value a ≡ after (job_tests b r) t
+    all-tests = ap without_value ea ∙ tests-told (after (job_tests b r) t) v
+
+    pub passed-all : {f : Finished} → Ok f ≡ finished b r → is_err a ≡ false → job_tests b r ≡ after (job_tests b r) t
+    passed-all ef h = sym (ap without_value ef) ∙ sym (no-refusal a h) ∙ all-tests
+
+    pub failed-one : is_err a ≡ true → (x : Refusal) × (Err x ≡ after (job_tests b r) t)
+    failed-one h = let x = a-refusal a h in (x.0, sym x.1 ∙ all-tests)
+
+  -- ---- what it answers and leaves
   pub accepted-tests : without_value (finished b r) ≡ Accepted → chain_tests (chain_job b) r ≡ Accepted
   unfolding finished chain_answer
   accepted-tests e = go (job_of b) e
@@ -255,8 +273,8 @@ module _ (b : List ℕ) (r : Rooms) where
         let w = whole-chain (chain_job b) r chain-answered.1 in
         subst (λ g. Whole g m k) (sym chain-answered.0) (subst (λ m. Whole (chain_finished (chain_job b)) m k) (sym em) (subst (λ k. Whole (chain_finished (chain_job b)) r.classes k) (sym ek) w))
 
-    -- ---- its text in n places
-    module _ {l : Lists} (el : l ≡ job_lists b r) (n : ℕ) where
+    -- ---- its lists
+    module _ {l : Lists} (el : l ≡ job_lists b r) where
       pub lists-are : l ≡ chain_lists (chain_job b) r
       unfolding lists_left
       lists-are = el ∙ sym (ap (λ f. lists_for (without_value f) r (chain_lists (chain_job b) r)) ef)
@@ -265,24 +283,26 @@ module _ (b : List ℕ) (r : Rooms) where
       unfolding text
       text-is = λ i. text_of (chain-answered.0 i) (lists-are i).classes (lists-are i).triplets
 
-      tests-are : room_tests (text b r) n ≡ list_tests b r n
-      unfolding list_tests
-      tests-are = ap (λ f. after (without_value f) (room_tests (text b r) n)) ef
+      -- their text in n places
+      module _ (n : ℕ) where
+        tests-are : room_tests (text b r) n ≡ list_tests b r n
+        unfolding list_tests
+        tests-are = onward ef (room_tests (text b r) n)
 
-      pub listed_answer : {a : Result ℕ Refusal} → a ≡ giving (room_tests (text_of f l.classes l.triplets) n) (length (text_of f l.classes l.triplets)) → a ≡ list_answer b r n
-      unfolding list_answer
-      listed_answer ea = ea ∙ ap (λ t. giving (room_tests t n) (length t)) text-is ∙ ap (λ t. giving t (length (text b r))) tests-are
+        pub listed_answer : {a : Result ℕ Refusal} → a ≡ giving (room_tests (text_of f l.classes l.triplets) n) (length (text_of f l.classes l.triplets)) → a ≡ list_answer b r n
+        unfolding list_answer
+        listed_answer ea = ea ∙ ap (λ t. giving (room_tests t n) (length t)) text-is ∙ ap (λ t. giving t (length (text b r))) tests-are
 
-      pub listed-text : {t : List ℕ} → t ≡ printed (text_of f l.classes l.triplets) n → t ≡ list_text b r n
-      unfolding list_text
-      listed-text et = et ∙ ap (λ t. printed t n) text-is ∙ text-told n (leb (length (text b r)) n) (text b r) refl ∙ ap (λ s. text_for s (text b r) n) tests-are
+        pub listed-text : {t : List ℕ} → t ≡ printed (text_of f l.classes l.triplets) n → t ≡ list_text b r n
+        unfolding list_text
+        listed-text et = et ∙ ap (λ t. printed t n) text-is ∙ text-told n (leb (length (text b r)) n) (text b r) refl ∙ ap (λ s. text_for s (text b r) n) tests-are
 
   module _ (n : ℕ) where
     -- ---- a job that is refused
     module _ {x : Refusal} (e : finished b r ≡ Err x) where
       pub refused-tests : job_tests b r ≡ list_tests b r n
       unfolding list_tests
-      refused-tests = ap without_value e ∙ sym (ap (λ f. after (without_value f) (room_tests (text b r) n)) e)
+      refused-tests = stopped e (room_tests (text b r) n)
 
       pub refused-answer : Err x ≡ list_answer b r n
       unfolding list_answer
@@ -294,16 +314,10 @@ module _ (b : List ℕ) (r : Rooms) where
 
     -- ---- a job whose listing was tried
     module _ {a : Result ℕ Refusal} (ea : a ≡ list_answer b r n) where
-      tests : without_value a ≡ list_tests b r n
-      unfolding list_answer
-      tests = ap without_value ea ∙ again (list_tests b r n)
-        where
-          again : (t : Tested) → without_value (giving t (length (text b r))) ≡ t
-          again (Ok _) = refl
-          again (Err x) = refl
-
       pub listed-tests : {f : Finished} → Ok f ≡ finished b r → is_err a ≡ false → job_tests b r ≡ list_tests b r n
-      listed-tests ef h = sym (ap without_value ef) ∙ sym (no-refusal a h) ∙ tests
+      unfolding list_answer list_tests
+      listed-tests = passed-all (room_tests (text b r) n) (length (text b r)) ea
 
       pub no-room : is_err a ≡ true → (x : Refusal) × (Err x ≡ list_tests b r n)
-      no-room h = let x = a-refusal a h in (x.0, sym x.1 ∙ tests)
+      unfolding list_answer list_tests
+      no-room = failed-one (room_tests (text b r) n) (length (text b r)) ea

@@ -1,5 +1,6 @@
 -- The listing of an accepted job fits the program's array, so that the program prints it whole or the line of the job's refusal.
 use mathlib.Core.Path.{◌≡◌, refl, sym, ◌∙◌, ap, ap₂, subst}
+use mathlib.Core.Bool.{Bool, true, false}
 use mathlib.Core.List.{List, [], ◌∷◌, ◌++◌}
 use Prim.Native.Nat.{ℕ, zero, suc, ◌*◌, ◌^◌, ◌-◌, ◌/◌, ◌≤◌, ◌<◌}
 use native.Mathlib.Nat.{le_trans}
@@ -108,11 +109,20 @@ module _ (b : List ℕ) where
         go (Err r) h = refl
 
 -- ---- what the program prints
-given-tests : (t : Tested) (n : ℕ) {k : ℕ} → giving t n ≡ Ok k → t ≡ Accepted
+-- no more than it holds
+pub bytes-inside : (t : List ℕ) (n : ℕ) → bytes_printed t n ≤ length (printed t n)
+unfolding bytes_printed printed printed_answer
+bytes-inside t n = go (leb (length t) n)
+  where
+    go : (b : Bool) → unwrap_or (pick b (Some (length t)) None) 0 ≤ length (pick b (t ++ replicate (n - length t) 0) (replicate n 0))
+    go true = omega (arith, length-append t (replicate (n - length t) 0))
+    go false = omega arith
+
+pub given-tests : (t : Tested) (n : ℕ) {k : ℕ} → giving t n ≡ Ok k → t ≡ Accepted
 given-tests (Ok _) n e = refl
 given-tests (Err r) n e = absurd (refused-not-ok e)
 
-refused-tests : (t : Tested) (n : ℕ) {r : Refusal} → giving t n ≡ Err r → t ≡ Err r
+pub refused-tests : (t : Tested) (n : ℕ) {r : Refusal} → giving t n ≡ Err r → t ≡ Err r
 refused-tests (Ok _) n e = absurd (refused-not-ok (sym e))
 refused-tests (Err r) n e = ap Err (same-refusal e)
 

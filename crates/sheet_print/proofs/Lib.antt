@@ -1,0 +1,4 @@
+pub mod Codes
+pub mod Chain
+pub mod Laid
+pub mod Printed

@@ -1,25 +1,21 @@
 -- Accepted calls: the point that the class call takes, the counts of a map that the image call leaves, and what the triplet call has read.
 use mathlib.Core.Path.{◌≡◌, refl, sym, ◌∙◌, ap}
-use mathlib.Core.Bool.{Bool, false}
+use mathlib.Core.Bool.{Bool}
 use mathlib.Core.List.Memᴰ.{head as here}
 use mathlib.Core.List.{List, ◌++◌}
 use Prim.Native.Nat.{ℕ, zero, suc, ◌+◌, ◌*◌, ◌-◌, ◌<◌}
 use native.Mathlib.Nat.{add_assoc, not-suc-le-zero, le_of_lt}
 use native.Mathlib.Numerals.{add-one}
 use native.Mathlib.Omega.{arith}
-use lib.IntN.{ℤ, nat_abs}
+use lib.IntN.{ℤ}
 use lib.Ieee.{Float}
 use lib.ListN.{length}
-use Rattle.std.specs.Prelude.{Ok, Err, Result}
+use Rattle.std.specs.Prelude.{Ok, Err}
 use Rattle.common.specs.Matrix.{Vec}
-use Rattle.common.specs.Array.{sides_of, matrices}
-use Rattle.common.specs.Tested.{output_of, after, Tested, Accepted, ◌then◌}
-use Rattle.common.specs.declared.Refusal.{Refusal}
-use Rattle.common.proofs.Tests.{not-accepted}
+use Rattle.common.specs.Tested.{giving, output_of, Tested, Accepted, ◌then◌}
+use Rattle.common.proofs.Tests.{both-accepted, refused-not-ok}
 use Rattle.grgrid.specs.Grid.{size, index}
-use Rattle.grgrid.specs.ClassMap.{kept}
 use Rattle.grgrid.proofs.Lists.{◌∈◌}
-use Rattle.recip_rotations.specs.PointGroup.{room_tests}
 use Rattle.bzgrid.specs.declared.GridType.{GridType}
 use Rattle.bzgrid.specs.declared.GridType.TheVariants.{Sparse, Dense}
 use Rattle.grgrid.specs.Build.{rows}
@@ -30,10 +26,9 @@ use Rattle.bztable.specs.Reading.{Read, got, triple_at, place_at, address_at, li
 use Rattle.bztable.specs.Access.{number_in, image_places}
 use Rattle.bztable.proofs.TableRead.{sparse-start}
 use Rattle.bzsearch.proofs.Listing.{length-rows}
-use Rattle.triplet_grid.specs.IrTriplets.{input_tests, triplet_tests, map_triplets_of, classes_at, ir_triplets_answer}
-use Rattle.triplet_grid.specs.IrTriplets as class
+use Rattle.triplet_grid.specs.IrTriplets.{triplet_tests, ir_triplets_at_q}
 use Rattle.triplet_grid.proofs.Outcome.{InputAccepted, input-accepted}
-use Rattle.bz_triplets.specs.BzTriplets.{State, first_of, point_of, triplet_list, triplets_read, states_read, bz_triplets_answer, triplets_written}
+use Rattle.bz_triplets.specs.BzTriplets.{State, first_of, point_of, triplet_list, triplets_read, states_read, bz_triplets_at_q}
 use Rattle.bz_triplets.proofs.CallOutcome.{Input, input-accepted as call-input}
 use Rattle.bzgrid.proofs.Accepted.{passes-first}
 use Rattle.bz_triplets.specs.BzTriplets as triplet
@@ -41,25 +36,18 @@ use Rattle.demand3.specs.FinishedList.{Starts}
 use Rattle.demand3.proofs.TableWalks.{Counts, place-got, address-got}
 
 -- ---- the class call takes a point of the grid
-module _ (q0 : ℤ) (d rotations : List ℤ) (time_reversal swappable : Bool) (n m : ℕ) {k : ℤ} (e : ir_triplets_answer q0 d rotations time_reversal swappable n m ≡ Ok k) where
-  tests-accepted : triplet_tests q0 d rotations time_reversal n m ≡ Accepted
-  unfolding ir_triplets_answer
-  tests-accepted = go (triplet_tests q0 d rotations time_reversal n m) refl e
+module _ (q0 : ℤ) (d rotations : List ℤ) (time_reversal swappable : Bool) (n m : ℕ) {k : ℤ} (e : (ir_triplets_at_q q0 d rotations time_reversal swappable n m).answer ≡ Ok k) where
+  pub tests-accepted : triplet_tests q0 d rotations time_reversal n m ≡ Accepted
+  unfolding ir_triplets_at_q
+  tests-accepted = go (triplet_tests q0 d rotations time_reversal n m) _ e
     where
-      never : (r : Refusal) → ◌≡◌ {A = Result ℤ Refusal} (Err r) (Ok k) → ⊥
-      never r e = let z : ◌≡◌ {A = ℕ} 0 1 = cc in omega arith
-
-      go : (t : Tested) → triplet_tests q0 d rotations time_reversal n m ≡ t → class.answer_for t (kept (map_triplets_of swappable (sides_of d) (nat_abs q0) (classes_at (nat_abs q0) (sides_of d) (matrices rotations) time_reversal)) (size (sides_of d))) ≡ Ok k → triplet_tests q0 d rotations time_reversal n m ≡ Accepted
-      go (Ok _) p e = p
-      go (Err r) p e = absurd (never r e)
+      go : (t : Tested) (z : ℤ) → giving t z ≡ Ok k → t ≡ Accepted
+      go (Ok _) z e = refl
+      go (Err r) z e = absurd (refused-not-ok e)
 
   pub classes-accepted : InputAccepted q0 d rotations n m
   unfolding triplet_tests
-  classes-accepted = input-accepted q0 d rotations n m (go (input_tests q0 d rotations n m) refl tests-accepted)
-    where
-      go : (t : Tested) → input_tests q0 d rotations n m ≡ t → after t (room_tests (matrices rotations) time_reversal false) ≡ Accepted → input_tests q0 d rotations n m ≡ Accepted
-      go (Ok _) p e = p
-      go (Err r) p e = absurd (not-accepted e)
+  classes-accepted = input-accepted q0 d rotations n m (both-accepted _ _ tests-accepted).0
 
 -- ---- the counts of a map
 pub map-counts : (t : GridType) (d : Vec ℕ) (g : ℕ → List Image) (r : List ℤ) (p : ℕ) → p < size d → Counts t (map_of t d g ++ r) (size d) p
@@ -102,15 +90,15 @@ pub record TripletsAccepted (q0 : ℤ) (addresses map classes d : List ℤ) (q :
   pub known : grid_type_of t ≡ Ok kind
   pub states : List State
   pub read : triplets_read q0 addresses map classes d q lattice kind ≡ got states
-  pub written : triplets_written q0 addresses map classes d q lattice t n m l ≡ triplet_list states
+  pub written : (bz_triplets_at_q q0 addresses map classes d q lattice t n m l).out ≡ triplet_list states
 
 module _ (q0 : ℤ) (addresses map classes d : List ℤ) (q : List (List ℤ)) (lattice : List (List Float)) (t : ℤ) (n m l : ℕ)
-    (e : bz_triplets_answer q0 addresses map classes d q lattice t n m l ≡ Accepted) where
+    (e : (bz_triplets_at_q q0 addresses map classes d q lattice t n m l).answer ≡ Accepted) where
   abbrev reads : GridType → Read (List State)
   reads = triplets_read q0 addresses map classes d q lattice
 
   tests-passed : (k : GridType) × (triplet.input_tests q0 addresses classes d q lattice t n m l ≡ Ok k) × ((reads k then λ _. Accepted) ≡ Accepted)
-  unfolding bz_triplets_answer
+  unfolding bz_triplets_at_q
   tests-passed = passes-first (triplet.input_tests q0 addresses classes d q lattice t n m l) (λ k. reads k then λ _. Accepted) e
 
   abbrev kind : GridType
@@ -125,7 +113,7 @@ module _ (q0 : ℤ) (addresses map classes d : List ℤ) (q : List (List ℤ)) (
   all_read = passes-first (reads kind) (λ _. Accepted) tests-passed.2
 
   pub triplets-accepted : TripletsAccepted q0 addresses map classes d q lattice t n m l
-  unfolding triplets_written states_read
+  unfolding bz_triplets_at_q states_read
   triplets-accepted = record {
     kind = kind;
     known = known;

@@ -20,7 +20,7 @@ use Rattle.common.specs.IntegerMatrix.{product_fits, det_fits}
 use Rattle.common.proofs.Unimodular.{Unimodular}
 use Rattle.grgrid.specs.Grid.{index}
 use Rattle.grgrid.proofs.MatrixGroup.{MatrixGroup}
-use Rattle.recip_rotations.specs.PointGroup.{joined, point_group_answer, point_group_written}
+use Rattle.recip_rotations.specs.PointGroup.{joined, get_reciprocal_point_group}
 use Rattle.recip_rotations.proofs.Told.{joined-group}
 use Rattle.snf_steps.specs.Gcd.{step, euclid, extended_gcd}
 use Rattle.snf_steps.specs.Columns.{multiply, make_zero, first_column, second_column}
@@ -28,23 +28,23 @@ use Rattle.snf_steps.specs.Stages.{one_loop, first, second}
 use Rattle.snf_steps.specs.Finalize.{make_diag_positive, finalize_sort, finalize_disturb, flip_pq, put_in_order, finalize}
 use Rattle.snf3x3.specs.Snf3x3.{diagonalised, round as snf_round, rounds, snf3x3}
 use Rattle.transform_rotations.specs.Transform.{transform_d, is_whole, rounded}
-use Rattle.transform_rotations.specs.TransformRotations.{transform_answer, transform_written}
+use Rattle.transform_rotations.specs.TransformRotations.{transform_rotations}
 use Rattle.bzgrid.specs.declared.Lengths.{Lengths}
 use Rattle.bzsearch.specs.Lattice.{bz_tolerance, lattice_det, dual_lengths_of}
 use Rattle.bzgrid.specs.declared.GridType.TheVariants.{Sparse, Dense}
-use Rattle.bzgrid.specs.BzGridAddresses.{bz_answer, addresses_written, map_written}
-use Rattle.triplet_grid.specs.IrTriplets.{ir_triplets_answer, map_triplets_written}
-use Rattle.bz_triplets.specs.BzTriplets.{lqd_inv, squared_distance, bz_triplets_answer, triplets_written}
+use Rattle.bzgrid.specs.BzGridAddresses.{bz_grid_addresses}
+use Rattle.triplet_grid.specs.IrTriplets.{ir_triplets_at_q}
+use Rattle.bz_triplets.specs.BzTriplets.{lqd_inv, squared_distance, bz_triplets_at_q}
 use Rattle.demand3.specs.FinishedList.{Given, as-it-stands, as-returned, Calls}
 
 -- ---- what comes from outside
 abbrev list : List ℤ
 list = flat (identity ∷ [])
 
-abbrev matrix : List (List ℤ)
+abbrev pub matrix : List (List ℤ)
 matrix = rows (diagonal (record { x = pos 3; y = pos 1; z = pos 1 }))
 
-abbrev lattice : List (List Float)
+abbrev pub lattice : List (List Float)
 lattice = rows (map_mat (of_int binary64) identity)
 
 abbrev shift : List ℤ
@@ -63,30 +63,30 @@ pub conditions : MatrixGroup (joined true (matrices list))
 conditions = joined-group true alone
 
 -- ---- diagonalising
-abbrev d : Vec ℤ
+abbrev pub d : Vec ℤ
 d = record { x = pos 1; y = pos 1; z = pos 3 }
 
-abbrev p : Mat ℤ
+abbrev pub p : Mat ℤ
 p = record { a = pos 0; b = pos 1; c = pos 0; d = pos 0; e = pos 0; f = pos 1; g = pos 1; h = pos 0; i = pos 0 }
 
-abbrev q : Mat ℤ
+abbrev pub q : Mat ℤ
 q = record { a = pos 0; b = pos 0; c = pos 1; d = pos 1; e = pos 0; f = pos 0; g = pos 0; h = pos 1; i = pos 0 }
 
-diagonalises : snf3x3 (matrix_of matrix) ≡ diagonalised d p q 1
+pub diagonalises : snf3x3 (matrix_of matrix) ≡ diagonalised d p q 1
 unfolding snf3x3 rounds snf_round finalize put_in_order make_diag_positive finalize_sort finalize_disturb flip_pq first second one_loop first_column second_column make_zero multiply extended_gcd euclid step product_fits det_fits
 diagonalises = refl
 
 -- ---- the list that is transformed: as it stands, or as the reciprocal call returns it; by Q it goes to itself
-abbrev returned : List ℤ
+abbrev pub returned : List ℤ
 returned = flat (identity ∷ inversion ∷ [])
 
 given-returned : Given true list returned
-unfolding point_group_answer point_group_written
+unfolding get_reciprocal_point_group
 given-returned = as-returned true 432 2 refl
 
-transforms : (transform_answer returned (items d) (rows q) 18 ≡ Accepted) × (returned ≡ transform_written returned (items d) (rows q) 18)
-    × (transform_answer list (items d) (rows q) 9 ≡ Accepted) × (list ≡ transform_written list (items d) (rows q) 9)
-unfolding transform_answer transform_written transform_d is_whole rounded nint_of round_of abs_of round of_bits of_int to_signed add sub mul div lt eq
+pub transforms : ((transform_rotations returned (items d) (rows q) 18).answer ≡ Accepted) × (returned ≡ (transform_rotations returned (items d) (rows q) 18).out)
+    × ((transform_rotations list (items d) (rows q) 9).answer ≡ Accepted) × (list ≡ (transform_rotations list (items d) (rows q) 9).out)
+unfolding transform_rotations transform_d is_whole rounded nint_of round_of abs_of round of_bits of_int to_signed add sub mul div lt eq
 transforms = (refl, refl, refl, refl)
 
 -- ---- images: one of each point
@@ -108,21 +108,21 @@ sparse-lengths = record { addresses = 9; map = 28; grg = 3 }
 
 abbrev Built : ℤ → List ℤ → Lengths → Type 0
 Built type map l =
-    (bz_answer (items d) (rows q) shift lattice type 9 l.map 3 ≡ Ok l)
-    × (addresses ≡ addresses_written (items d) (rows q) shift lattice type 9 l.map 3)
-    × (map ≡ map_written (items d) (rows q) shift lattice type 9 l.map 3)
+    ((bz_grid_addresses (items d) (rows q) shift lattice type 9 l.map 3).answer ≡ Ok l)
+    × (addresses ≡ (bz_grid_addresses (items d) (rows q) shift lattice type 9 l.map 3).addresses)
+    × (map ≡ (bz_grid_addresses (items d) (rows q) shift lattice type 9 l.map 3).map)
 
 builds : Built (pos 2) dense dense-lengths × Built (pos 1) sparse sparse-lengths
-unfolding bz_answer addresses_written map_written index bz_tolerance lattice_det dual_lengths_of nint_of round_of floor_of ceil_of abs_of sqrt_of root size round add sub mul div neg lt le eq of_int of_bits to_signed
+unfolding bz_grid_addresses index bz_tolerance lattice_det dual_lengths_of nint_of round_of floor_of ceil_of abs_of sqrt_of root size round add sub mul div neg lt le eq of_int of_bits to_signed
 builds = ((refl, refl, refl), (refl, refl, refl))
 
 -- ---- classes
 abbrev classes : List ℤ
 classes = pos 0 ∷ pos 1 ∷ pos 0 ∷ []
 
-classifies : (ir_triplets_answer (pos 1) (items d) returned true true 3 3 ≡ Ok (pos 2)) × (classes ≡ map_triplets_written (pos 1) (items d) returned true true 3 3)
-    × (ir_triplets_answer (pos 1) (items d) list true true 3 3 ≡ Ok (pos 2)) × (classes ≡ map_triplets_written (pos 1) (items d) list true true 3 3)
-unfolding ir_triplets_answer map_triplets_written
+classifies : ((ir_triplets_at_q (pos 1) (items d) returned true true 3 3).answer ≡ Ok (pos 2)) × (classes ≡ (ir_triplets_at_q (pos 1) (items d) returned true true 3 3).map_triplets)
+    × ((ir_triplets_at_q (pos 1) (items d) list true true 3 3).answer ≡ Ok (pos 2)) × (classes ≡ (ir_triplets_at_q (pos 1) (items d) list true true 3 3).map_triplets)
+unfolding ir_triplets_at_q
 classifies = (refl, refl, refl, refl)
 
 -- ---- triplets
@@ -131,11 +131,11 @@ triplets = pos 1 ∷ pos 0 ∷ pos 2 ∷ pos 1 ∷ pos 1 ∷ pos 1 ∷ []
 
 abbrev Chosen : ℤ → List ℤ → Type 0
 Chosen type map =
-    (bz_triplets_answer (pos 1) addresses map classes (items d) (rows q) lattice type 6 2 2 ≡ Accepted)
-    × (triplets ≡ triplets_written (pos 1) addresses map classes (items d) (rows q) lattice type 6 2 2)
+    ((bz_triplets_at_q (pos 1) addresses map classes (items d) (rows q) lattice type 6 2 2).answer ≡ Accepted)
+    × (triplets ≡ (bz_triplets_at_q (pos 1) addresses map classes (items d) (rows q) lattice type 6 2 2).out)
 
 chooses : Chosen (pos 2) dense × Chosen (pos 1) sparse
-unfolding bz_triplets_answer triplets_written lqd_inv squared_distance bz_tolerance abs_of round add sub mul div lt le of_int of_bits
+unfolding bz_triplets_at_q lqd_inv squared_distance bz_tolerance abs_of round add sub mul div lt le of_int of_bits
 chooses = ((refl, refl), (refl, refl))
 
 -- ---- the calls

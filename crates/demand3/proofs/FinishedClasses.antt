@@ -13,13 +13,12 @@ use Rattle.common.specs.Array.{items, rows, matrix_of, matrices}
 use Rattle.common.specs.Limits.{diagonal_fits}
 use Rattle.common.specs.Tested.{output_of, Accepted}
 use Rattle.common.proofs.Unimodular.{Unimodular}
-use Rattle.common.proofs.Tests.{passed-by, both-accepted, refused-not-ok}
 use Rattle.grgrid.specs.ClassMap.{kept}
 use Rattle.grgrid.specs.Picked.{Rising}
 use Rattle.grgrid.specs.Own.{own_points}
 use Rattle.grgrid.proofs.Lists.{◌∈◌}
-use Rattle.grgrid.proofs.Pass.{Least}
-use Rattle.grgrid.proofs.Count.{OneEach, Classified}
+use Rattle.grgrid.specs.Orbits.{Least, OneEach}
+use Rattle.grgrid.proofs.Count.{Classified}
 use Rattle.grgrid.proofs.Folding.{Sides}
 use Rattle.grgrid.proofs.Acting.{Acts}
 use Rattle.grgrid.proofs.MatrixGroup.{MatrixGroup, joined-acts}
@@ -28,14 +27,15 @@ use Rattle.snf3x3.proofs.Diagonal.{diagonalised-right}
 use Rattle.transform_rotations.specs.TransformRotations.{transform_tests}
 use Rattle.transform_rotations.proofs.ExactCall.{sides-positive, written-tests}
 use Rattle.transform_rotations.proofs.ExactTransform.{call-acts}
-use Rattle.triplet_grid.specs.IrTriplets.{triplet_tests, map_triplets_of, classes_at, ir_triplets_answer, map_triplets_written}
-use Rattle.triplet_grid.specs.IrTriplets as classing
-use Rattle.triplet_grid.proofs.Joining.{Meets, joined_meets}
-use Rattle.triplet_grid.proofs.Stabilizer.{Operation, carries-equiv, carries-partner, swapped-classes, joined-operations}
+use Rattle.triplet_grid.specs.IrTriplets.{triplet_tests, map_triplets_of, classes_at, ir_triplets_at_q}
+use Rattle.triplet_grid.specs.Classes.{Meets, Operation}
+use Rattle.triplet_grid.proofs.Joining.{joined_meets}
+use Rattle.triplet_grid.proofs.Stabilizer.{carries-equiv, carries-partner, swapped-classes, joined-operations}
 use Rattle.triplet_grid.proofs.Swapping.{length-triplets, classes-low, triplets-low}
-use Rattle.triplet_grid.proofs.Outcome as outcome
+use Rattle.triplet_grid.proofs.Outcome.{InputAccepted}
 use Rattle.grgrid.proofs.Own.{own-rising, own-each}
 use Rattle.demand3.specs.FinishedList.{Calls, grid, points, number, carries, partner_of, Class, lowest_points}
+use Rattle.demand3.proofs.AcceptedTriplets.{tests-accepted, classes-accepted}
 use Rattle.demand3.proofs.JoinedList.{list-distinct, told_is, given-joined, transformed-joined}
 
 -- ---- accepted calls
@@ -48,13 +48,10 @@ module _ (c : Calls) where
   numbers = map_triplets_of c.swappable (grid c) c.q0 (classes_at c.q0 (grid c) (matrices c.transformed) c.time_reversal)
 
   class-tests : triplet_tests (pos c.q0) (items c.d) c.transformed c.time_reversal c.class-room c.point-room ≡ Accepted
-  unfolding ir_triplets_answer
-  class-tests =
-      passed-by (λ t. classing.answer_for t (kept numbers (points c))) (λ _. refused-not-ok) (triplet_tests (pos c.q0) (items c.d) c.transformed c.time_reversal c.class-room c.point-room) c.classifies
+  class-tests = tests-accepted (pos c.q0) (items c.d) c.transformed c.time_reversal c.swappable c.class-room c.point-room c.classifies
 
-  class-input : outcome.InputAccepted (pos c.q0) (items c.d) c.transformed c.class-room c.point-room
-  unfolding triplet_tests
-  class-input = outcome.input-accepted (pos c.q0) (items c.d) c.transformed c.class-room c.point-room (both-accepted _ _ class-tests).0
+  class-input : InputAccepted (pos c.q0) (items c.d) c.transformed c.class-room c.point-room
+  class-input = classes-accepted (pos c.q0) (items c.d) c.transformed c.time_reversal c.swappable c.class-room c.point-room c.classifies
 
   pub q0-inside : c.q0 < points c
   q0-inside = class-input.point
@@ -66,7 +63,7 @@ module _ (c : Calls) where
   sides = sides-positive (items c.d) sides-fit
 
   classes-are : c.classes ≡ map pos numbers
-  unfolding map_triplets_written
+  unfolding ir_triplets_at_q
   classes-are = c.classifies-to ∙ ap (λ t. output_of t c.class-room (map pos numbers)) class-tests
 
   number_is : (p : ℕ) → number c p ≡ pos (get_or numbers p 0)

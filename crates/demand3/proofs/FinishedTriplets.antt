@@ -19,7 +19,7 @@ use Rattle.grgrid.specs.Grid.{index}
 use Rattle.grgrid.proofs.Accepted.{grid-fits}
 use Rattle.grgrid.proofs.Lists.{◌∈◌, item_in}
 use Rattle.bzsearch.specs.Search.{images}
-use Rattle.bzgrid.specs.BzGridAddresses.{addresses_written, map_written, grg_written}
+use Rattle.bzgrid.specs.BzGridAddresses.{bz_grid_addresses}
 use Rattle.bztable.specs.Reading.{Read, got, triple_at, address_at}
 use Rattle.bztable.specs.Access.{image_places}
 use Rattle.bzgrid.proofs.Accepted.{passes-first}
@@ -58,18 +58,19 @@ module _ (c : Calls) where
   same-kind = same-ok (sym built.input.known ∙ c.kind-is)
 
   abbrev addresses-left : List ℤ
-  addresses-left = addresses_written (items c.d) (rows c.q) c.shift c.lattice c.type c.rooms.x c.rooms.y c.rooms.z
+  addresses-left = (bz_grid_addresses (items c.d) (rows c.q) c.shift c.lattice c.type c.rooms.x c.rooms.y c.rooms.z).addresses
 
   abbrev map-left : List ℤ
-  map-left = map_written (items c.d) (rows c.q) c.shift c.lattice c.type c.rooms.x c.rooms.y c.rooms.z
+  map-left = (bz_grid_addresses (items c.d) (rows c.q) c.shift c.lattice c.type c.rooms.x c.rooms.y c.rooms.z).map
 
   abbrev grg-left : List ℤ
-  grg-left = grg_written (items c.d) (rows c.q) c.shift c.lattice c.type c.rooms.x c.rooms.y c.rooms.z
+  grg-left = (bz_grid_addresses (items c.d) (rows c.q) c.shift c.lattice c.type c.rooms.x c.rooms.y c.rooms.z).grg
 
   stands : Stands c.kind (search c) c.addresses c.map grg-left c.lengths.grg
   stands =
-      rw (c.builds-addresses, c.builds-map)
-      (subst (λ t. Stands t (search c) addresses-left map-left grg-left c.lengths.grg) same-kind (call-stands built))
+      subst (λ l. Stands c.kind (search c) l c.map grg-left c.lengths.grg) (sym c.builds-addresses)
+      (subst (λ l. Stands c.kind (search c) addresses-left l grg-left c.lengths.grg) (sym c.builds-map)
+      (subst (λ t. Stands t (search c) addresses-left map-left grg-left c.lengths.grg) same-kind (call-stands built)))
 
   pub images-room : c.lengths.grg ≤ c.rooms.z
   images-room = leb→le c.lengths.grg c.rooms.z (and_r (leb c.lengths.map c.rooms.y) _ (and_r (leb c.lengths.addresses c.rooms.x) _ built.room))

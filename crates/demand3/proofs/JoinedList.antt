@@ -29,10 +29,11 @@ use Rattle.recip_rotations.specs.Unique.{same_matrix, among}
 use Rattle.recip_rotations.specs.PointGroup.{turned, joins, joined, point_group}
 use Rattle.recip_rotations.proofs.Same.{matrix-eq, matrix-refl}
 use Rattle.recip_rotations.proofs.Told.{unique-distinct, joined-group}
-use Rattle.transform_rotations.specs.TransformRotations.{transform_tests, transform_written}
+use Rattle.transform_rotations.specs.TransformRotations.{transform_tests, transform_rotations}
 use Rattle.transform_rotations.proofs.Accepted.{InputAccepted, input-accepted}
 use Rattle.transform_rotations.proofs.ExactCall.{grid-is, sides-positive, tests-input}
-use Rattle.transform_rotations.proofs.ExactTransform.{Fractions, transform_of, whole-accepted, fractions-distinct, call-fractions, call-matrices}
+use Rattle.transform_rotations.specs.ExactTransform.{Fractions, transform_of}
+use Rattle.transform_rotations.proofs.ExactTransform.{whole-accepted, fractions-distinct, call-fractions, call-matrices}
 use Rattle.recip_rotations.proofs.ToldPart.{told_part}
 use Rattle.demand3.specs.FinishedList.{Given, as-it-stands, as-returned}
 
@@ -151,7 +152,7 @@ module _ (rotations d : List ℤ) (q : List (List ℤ)) (n : ℕ) (u : Unimodula
       step true k = ⊎_elim (whole A) negative (append_cases (matrices rotations) k)
       step false k = whole A k
 
-  pub transformed-joined : (time : Bool) → MatrixGroup (joined time (matrices rotations)) → MatrixGroup (joined time (matrices (transform_written rotations d q n)))
+  pub transformed-joined : (time : Bool) → MatrixGroup (joined time (matrices rotations)) → MatrixGroup (joined time (matrices (transform_rotations rotations d q n).out))
   transformed-joined time m =
       subst (λ l. MatrixGroup (joined time l)) (sym (call-matrices rotations d q n u t))
       (subst MatrixGroup (sym (joined-map made time (matrices rotations) to-negative to-inversion))

@@ -6,3 +6,4 @@ pub mod JoinedList
 pub mod FinishedClasses
 pub mod FinishedList
 pub mod Example
+pub mod KeptExample

@@ -1,5 +1,5 @@
--- Demand 3: what holds of the finished list that diagonalising, transforming, images, classes and triplets leave, each accepted and each given what those before it
--- left. The theorem is `finished-list` of proofs/FinishedList.
+-- Demand 3: what holds of the finished list that diagonalising, transforming, images, classes and triplets leave, each accepted and each given what
+-- those before it left. The theorem is `demand-3` of proofs/FinishedList.
 use Rattle.std.specs.Prelude.{◌≡◌, ◌↔◌, Bool, List, ℕ, ◌*◌, ◌<◌, T, ℤ, pos, length, get_or, take, Float, Ok}
 use Rattle.std.specs.Float.{binary64}
 use Rattle.std.specs.Float.Ieee.{sub, le}
@@ -12,31 +12,29 @@ use Rattle.grgrid.specs.Lists.{◌∈◌}
 use Rattle.grgrid.specs.MatrixGroup.{MatrixGroup}
 use Rattle.grgrid.specs.Picked.{Rising}
 use Rattle.grgrid.specs.Own.{own_points}
-use Rattle.grgrid.proofs.Pass.{Least}
-use Rattle.grgrid.proofs.Count.{OneEach}
-use Rattle.recip_rotations.specs.PointGroup.{joined, point_group_answer, point_group_written}
+use Rattle.grgrid.specs.Orbits.{Least, OneEach}
+use Rattle.recip_rotations.specs.PointGroup.{joined, get_reciprocal_point_group}
 use Rattle.snf3x3.specs.Snf3x3.{snf3x3, diagonalised}
-use Rattle.transform_rotations.specs.TransformRotations.{transform_answer, transform_written}
+use Rattle.transform_rotations.specs.TransformRotations.{transform_rotations}
 use Rattle.bzgrid.specs.declared.GridType.{GridType}
 use Rattle.bzgrid.specs.declared.GridType.TheVariants.{Sparse, Dense}
 use Rattle.bzgrid.specs.declared.Lengths.{Lengths}
 use Rattle.bzsearch.specs.Lattice.{bz_tolerance}
 use Rattle.bzsearch.specs.Search.{Search, images}
-use Rattle.bzgrid.specs.BzGridAddresses.{grid_type_of, search_of, bz_answer, addresses_written, map_written}
+use Rattle.bzgrid.specs.BzGridAddresses.{grid_type_of, search_of, bz_grid_addresses}
 use Rattle.bztable.specs.Access.{image_places}
 use Rattle.bztable.specs.Reading.{triple_at}
 use Rattle.triplet_grid.specs.Partner.{partner}
-use Rattle.triplet_grid.specs.IrTriplets.{ir_triplets_answer, map_triplets_written}
-use Rattle.triplet_grid.proofs.Joining.{Joined, Meets}
-use Rattle.triplet_grid.proofs.Stabilizer.{Operation, Carries}
-use Rattle.bz_triplets.specs.BzTriplets.{lqd_inv, squared_distance, sum_of, bz_triplets_answer, triplets_written}
+use Rattle.triplet_grid.specs.IrTriplets.{ir_triplets_at_q}
+use Rattle.triplet_grid.specs.Classes.{Joined, Meets, Operation, Carries}
+use Rattle.bz_triplets.specs.BzTriplets.{lqd_inv, squared_distance, sum_of, bz_triplets_at_q}
 
 -- ---- the calls
 -- the list goes into transforming as it stands, or as the reciprocal call returned it: the told part
 pub data Given (time_reversal : Bool) (list : List ℤ) : List ℤ → Type 0 where
   as-it-stands : Given time_reversal list list
-  as-returned : (transposed : Bool) (n count : ℕ) → point_group_answer list time_reversal transposed n ≡ Ok count
-      → Given time_reversal list (take (count * 9) (point_group_written list time_reversal transposed n))
+  as-returned : (transposed : Bool) (n count : ℕ) → (get_reciprocal_point_group list time_reversal transposed n).answer ≡ Ok count
+      → Given time_reversal list (take (count * 9) (get_reciprocal_point_group list time_reversal transposed n).out)
 
 -- the triplet call gets q0 as a grid point for type 1, and as any image index of q0 for type 2
 abbrev pub Starts : GridType → List ℤ → (n q0 start : ℕ) → Type 0
@@ -68,30 +66,32 @@ pub record Calls : Type 0 where
   -- transforming
   pub transformed : List ℤ
   pub room : ℕ
-  pub transforms : transform_answer rotations (items d) (rows q) room ≡ Accepted
-  pub transforms-to : transformed ≡ transform_written rotations (items d) (rows q) room
+  pub transforms : (transform_rotations rotations (items d) (rows q) room).answer ≡ Accepted
+  pub transforms-to : transformed ≡ (transform_rotations rotations (items d) (rows q) room).out
   -- images
   pub addresses : List ℤ
   pub map : List ℤ
   pub rooms : Vec ℕ
   pub lengths : Lengths
-  pub builds : bz_answer (items d) (rows q) shift lattice type rooms.x rooms.y rooms.z ≡ Ok lengths
-  pub builds-addresses : addresses ≡ addresses_written (items d) (rows q) shift lattice type rooms.x rooms.y rooms.z
-  pub builds-map : map ≡ map_written (items d) (rows q) shift lattice type rooms.x rooms.y rooms.z
+  pub builds : (bz_grid_addresses (items d) (rows q) shift lattice type rooms.x rooms.y rooms.z).answer ≡ Ok lengths
+  pub builds-addresses : addresses ≡ (bz_grid_addresses (items d) (rows q) shift lattice type rooms.x rooms.y rooms.z).addresses
+  pub builds-map : map ≡ (bz_grid_addresses (items d) (rows q) shift lattice type rooms.x rooms.y rooms.z).map
   -- classes
   pub classes : List ℤ
   pub class-room : ℕ
   pub point-room : ℕ
   pub count : ℤ
-  pub classifies : ir_triplets_answer (pos q0) (items d) transformed time_reversal swappable class-room point-room ≡ Ok count
-  pub classifies-to : classes ≡ map_triplets_written (pos q0) (items d) transformed time_reversal swappable class-room point-room
+  pub classifies : (ir_triplets_at_q (pos q0) (items d) transformed time_reversal swappable class-room point-room).answer ≡ Ok count
+  pub classifies-to : classes ≡ (ir_triplets_at_q (pos q0) (items d) transformed time_reversal swappable class-room point-room).map_triplets
   -- triplets
   pub start : ℕ
   pub starts : Starts kind map (size (sides_of (items d))) q0 start
   pub triplets : List ℤ
   pub triplet-rooms : Vec ℕ
-  pub chooses : bz_triplets_answer (pos start) addresses map classes (items d) (rows q) lattice type triplet-rooms.x triplet-rooms.y triplet-rooms.z ≡ Accepted
-  pub chooses-to : triplets ≡ triplets_written (pos start) addresses map classes (items d) (rows q) lattice type triplet-rooms.x triplet-rooms.y triplet-rooms.z
+  pub chooses : (bz_triplets_at_q (pos start) addresses map classes (items d) (rows q) lattice type
+      triplet-rooms.x triplet-rooms.y triplet-rooms.z).answer ≡ Accepted
+  pub chooses-to : triplets ≡ (bz_triplets_at_q (pos start) addresses map classes (items d) (rows q) lattice type
+      triplet-rooms.x triplet-rooms.y triplet-rooms.z).out
 
 -- ---- the finished list
 module _ (c : Calls) where
@@ -153,21 +153,31 @@ module _ (c : Calls) where
     -- else every choice has at least its squared length less the tolerance
     pub least : ¬ (sum (at i) ≡ origin) → (a : Vec (Vec ℤ)) → Choice q1 a → T (le (less_tolerance (squared_length (at i))) (squared_length a))
 
-  pub record FinishedList : Type 0 where
+  -- ---- what holds of every accepted list
+  pub record EveryList : Type 0 where
     -- every point has a number
     pub full : length c.classes ≡ points
-    -- two points bear one number exactly if an operation that keeps q0 carries one to the other or, with swapping, to the other's partner
-    pub same_number : (p q : ℕ) → p < points → q < points → (number p ≡ number q) ↔ Meets c.swappable carries partner_of p q
-    -- the number is the lowest point of the class
-    pub lowest : (p : ℕ) → p < points → (r : ℕ) × (number p ≡ pos r) × Least (Class p) r
-    -- the lowest points rise, and are one of each class
+    -- the lowest points rise
     pub rising : Rising lowest_points
-    pub one_each : OneEach points Class lowest_points
     -- and in their order each has one triplet
     pub as_many : length c.triplets ≡ length lowest_points * 3
     pub best : (j : ℕ) → j < length lowest_points → (i : Vec ℕ) × (triple_at c.triplets j ≡ map_vec pos i) × Best (get_or lowest_points j 0) i
 
--- The list's four conditions are one record: identity, no repeats, determinants of 1 or -1, products. They are asked of the list with its negatives joined, where time
--- reversal joins them; a list that meets them itself meets them so (proofs/JoinedList).
-abbrev pub Demand3 : Calls → Type 0
-Demand3 c = MatrixGroup (joined c.time_reversal (matrices c.list)) → FinishedList c
+  -- ---- and where the list of rotations is a group
+  pub record TrueClasses : Type 0 where
+    -- two points bear one number exactly if an operation that keeps q0 carries one to the other or, with swapping, to the other's partner
+    pub same_number : (p q : ℕ) → p < points → q < points → (number p ≡ number q) ↔ Meets c.swappable carries partner_of p q
+    -- the number is the lowest point of the class
+    pub lowest : (p : ℕ) → p < points → (r : ℕ) × (number p ≡ pos r) × Least (Class p) r
+    -- the lowest points are one of each class
+    pub one_each : OneEach points Class lowest_points
+
+  pub record FinishedList : Type 0 where
+    pub every : EveryList
+    pub true-classes : TrueClasses
+
+-- The list's four conditions are one record: identity, no repeats, determinants of 1 or -1, products. They are asked of the list with its negatives
+-- joined, where time reversal joins them; a list that meets them itself meets them so (proofs/JoinedList).
+pub record Demand3 (c : Calls) : Type 0 where
+  pub every : EveryList c
+  pub true-classes : MatrixGroup (joined c.time_reversal (matrices c.list)) → TrueClasses c

@@ -8,7 +8,8 @@ use Rattle.common.specs.Matrix.{Vec, Mat, ◌·◌, identity, origin}
 use Rattle.grgrid.specs.Grid.{size, rotate, carry}
 use Rattle.grgrid.specs.ClassMap.{class_map_of, classes}
 use Rattle.grgrid.proofs.Lists.{◌∈◌}
-use Rattle.grgrid.proofs.Group.{Group, Orbit, Keeps, orbit-steps, orbit-equiv, keeps-group}
+use Rattle.grgrid.specs.Orbits.{Orbit, Keeps}
+use Rattle.grgrid.proofs.Group.{Group, orbit-steps, orbit-equiv, keeps-group}
 use Rattle.grgrid.proofs.Folding.{Sides}
 use Rattle.grgrid.proofs.Acting.{Acts, Shifts, shifts_none, rotate-plain, rotate-action, carry-action}
 use Rattle.grgrid.proofs.Count.{Classified, pass-classified}

@@ -13,10 +13,11 @@ use lib.Dec.{eqb, eqb→eq, eqb_refl}
 use lib.ListN.{length, get_or, length-map}
 use Rattle.grgrid.specs.Picked.{picked}
 use Rattle.grgrid.specs.ClassMap.{pass, kept, number}
+use Rattle.grgrid.specs.Orbits.{OneEach, Least}
 use Rattle.grgrid.proofs.Lists.{◌∈◌, ◌⊆◌, Distinct, distinct-map, shorter}
 use Rattle.grgrid.proofs.Picked.{mark, in-picked, picked-distinct, picked-length}
 use Rattle.grgrid.proofs.Built.{length-build}
-use Rattle.grgrid.proofs.Pass.{Least, Equiv, Steps, one_number, below, again, pass-least}
+use Rattle.grgrid.proofs.Pass.{Equiv, Steps, one_number, below, again, pass-least}
 
 -- ---- the points below n that f keeps
 abbrev own : (ℕ → ℕ) → ℕ → List ℕ
@@ -41,12 +42,6 @@ kept-own numbers (suc n) = go (eqb (at numbers n) n) (kept-own numbers n) ∙ sy
     go false e = omega arith
 
 -- ---- one point of each class
-pub record OneEach (N : ℕ) (E : ℕ → ℕ → Type 0) (l : List ℕ) : Type 0 where
-  pub inside : (p : ℕ) → p ∈ l → p < N
-  pub distinct : Distinct l
-  pub apart : (p q : ℕ) → p ∈ l → q ∈ l → E p q → p ≡ q
-  pub covers : (p : ℕ) → p < N → (q : ℕ) × (q ∈ l) × E p q
-
 module _ {N : ℕ} {E : ℕ → ℕ → Type 0} (e : Equiv N E) (f : ℕ → ℕ) (least : (p : ℕ) → p < N → Least (E p) (f p)) where
   own-each : OneEach N E (own f N)
   own-each = record {

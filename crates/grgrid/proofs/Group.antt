@@ -6,6 +6,7 @@ use mathlib.Core.List.Memᴰ.{map as map-in}
 use mathlib.Core.List.Memᴰ.{of_map}
 use mathlib.Core.List.{List, map}
 use Prim.Native.Nat.{ℕ, ◌<◌}
+use Rattle.grgrid.specs.Orbits.{Orbit, Keeps}
 use Rattle.grgrid.proofs.Lists.{◌∈◌, Distinct, onto}
 use Rattle.grgrid.proofs.Pass.{Equiv, Steps}
 
@@ -28,16 +29,6 @@ pub record Action {A : Type 0} (op : A → A → A) (e : A) (N : ℕ) (act : A �
   pub inside : (x : A) (p : ℕ) → P x → p < N → act x p < N
   pub one : (p : ℕ) → p < N → act e p ≡ p
   pub times : (x y : A) (p : ℕ) → P x → P y → p < N → act (op x y) p ≡ act x (act y p)
-
--- some member carries p to q
-pub record Orbit {A : Type 0} (act : A → ℕ → ℕ) (P : A → Type 0) (p q : ℕ) : Type 0 where
-  pub by : A
-  pub is-in : P by
-  pub lands : act by p ≡ q
-
--- the members that keep q
-abbrev pub Keeps : {A : Type 0} → (A → ℕ → ℕ) → (A → Type 0) → ℕ → A → Type 0
-Keeps act P q x = P x × (act x q ≡ q)
 
 -- the maps of a list carry each point to just its orbit
 pub orbit-steps : {A : Type 0} {act : A → ℕ → ℕ} {P : A → Type 0} (N : ℕ) (l : List A) → ((x : A) → (x ∈ l) ↔ P x) → Steps N (map act l) (Orbit act P)

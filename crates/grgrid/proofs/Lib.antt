@@ -15,4 +15,5 @@ pub mod Own
 pub mod Accepted
 pub mod Walk
 pub mod Refusing
+pub mod Outcome
 mod Examples

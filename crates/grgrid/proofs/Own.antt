@@ -12,7 +12,8 @@ use Rattle.grgrid.specs.Picked.{Rising}
 use Rattle.grgrid.specs.Own.{is_place, own_places, own_points}
 use Rattle.grgrid.proofs.Lists.{◌∈◌}
 use Rattle.grgrid.proofs.Picked.{mark, in-picked, picked-rising, picked-distinct, picked_more, picked_same, picked-length, picked-grows}
-use Rattle.grgrid.proofs.Count.{OneEach, Classified}
+use Rattle.grgrid.specs.Orbits.{OneEach}
+use Rattle.grgrid.proofs.Count.{Classified}
 
 place_is : (z : ℤ) (n : ℕ) → T (is_place z n) → z ≡ pos n
 place_is (pos m) n t = ap pos (eqb→eq m n t)

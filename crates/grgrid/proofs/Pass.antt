@@ -14,13 +14,9 @@ use lib.Dec.{ltb, ltb→lt, nltb→le}
 use lib.ListN.{get_or}
 use Rattle.integer.proofs.Test.{holds, fails}
 use Rattle.grgrid.specs.ClassMap.{number, pass}
+use Rattle.grgrid.specs.Orbits.{Least}
 use Rattle.grgrid.proofs.Lists.{◌∈◌}
 use Rattle.grgrid.proofs.Built.{build-at, build-all}
-
--- ---- the least point of a set of points
-pub record Least (P : ℕ → Type 0) (x : ℕ) : Type 0 where
-  pub is-in : P x
-  pub lowest : (y : ℕ) → P y → x ≤ y
 
 -- ---- an equivalence of the points below N
 pub record Equiv (N : ℕ) (E : ℕ → ℕ → Type 0) : Type 0 where

@@ -1,7 +1,7 @@
 -- What passes a test: which numbers and members these are, that the numbers rise, and how many there are.
 use mathlib.Core.Path.{◌≡◌, refl, sym, ◌∙◌, ap, ap₂, subst}
 use mathlib.Core.Logic.{◌⊎◌, inl, inr, ⊎_elim, ◌↔◌}
-use mathlib.Core.Bool.{Bool, true, false}
+use mathlib.Core.Bool.{Bool, true, false, cond}
 use mathlib.Core.List.Memᴰ.{append_cases}
 use mathlib.Core.List.Memᴰ.{append_left}
 use mathlib.Core.List.Memᴰ.{append_right}
@@ -16,7 +16,6 @@ use native.Mathlib.Numerals.{add-one}
 use native.Mathlib.Omega.{arith}
 use lib.Dec.{T}
 use lib.ListN.{length, get_or, length-append}
-use Rattle.integer.specs.Checked.{pick}
 use Rattle.grgrid.specs.Picked.{picked, passing, Rising}
 use Rattle.grgrid.proofs.Lists.{◌∈◌, Distinct}
 
@@ -35,7 +34,7 @@ rising-distinct (x ∷ l) r = (λ m. let h = r.0 x m in omega arith, rising-dist
 -- ---- numbers
 -- 1 for what passes
 abbrev pub mark : Bool → ℕ
-mark b = pick b 1 0
+mark b = cond b 1 0
 
 module _ (t : ℕ → Bool) where
   pub in-picked : (n p : ℕ) → (p ∈ picked t n) ↔ ((p < n) × T (t p))
@@ -44,15 +43,15 @@ module _ (t : ℕ → Bool) where
     λ m. ⊎_elim (λ k. let r = (in-picked n p).0 k in (omega (arith, r.0), r.1)) (last (t n) (λ h. h)) (append_cases (picked t n) m),
     λ k. ⊎_elim
         (λ e. append_right (picked t n) (put (t n) (subst (λ (i : ℕ). T (t i)) e k.1) e))
-        (λ h. append_left (pick (t n) (n ∷ []) []) ((in-picked n p).1 (h, k.1)))
+        (λ h. append_left (cond (t n) (n ∷ []) []) ((in-picked n p).1 (h, k.1)))
         (eq-or-lt_of_le (le_of_suc-le-suc k.0)),
   )
     where
-      last : (b : Bool) → (T b → T (t n)) → p ∈ pick b (n ∷ []) [] → (p < suc n) × T (t p)
+      last : (b : Bool) → (T b → T (t n)) → p ∈ cond b (n ∷ []) [] → (p < suc n) × T (t p)
       last true h m = ⊎_elim (λ e. (omega arith, rw e (h tt))) (λ k. absurd (not-nil k)) (cases m)
       last false h m = absurd (not-nil m)
 
-      put : (b : Bool) → T b → p ≡ n → p ∈ pick b (n ∷ []) []
+      put : (b : Bool) → T b → p ≡ n → p ∈ cond b (n ∷ []) []
       put true h e = here e
       put false h e = absurd h
 
@@ -60,7 +59,7 @@ module _ (t : ℕ → Bool) where
   picked-rising zero = tt
   picked-rising (suc n) = step (t n) (picked-rising n)
     where
-      step : (b : Bool) → Rising (picked t n) → Rising (picked t n ++ pick b (n ∷ []) [])
+      step : (b : Bool) → Rising (picked t n) → Rising (picked t n ++ cond b (n ∷ []) [])
       step true r = rising_snoc (picked t n) n (λ y m. ((in-picked n y).0 m).0) r
       step false r = rw (append-nil (picked t n)) r
 
@@ -69,8 +68,8 @@ module _ (t : ℕ → Bool) where
 
   -- one more number
   module _ (n : ℕ) where
-    next : (b : Bool) → t n ≡ b → picked t (n + 1) ≡ picked t n ++ pick b (n ∷ []) []
-    next b e = ap (picked t) (add-one n) ∙ ap (λ (b : Bool). picked t n ++ pick b (n ∷ []) []) e
+    next : (b : Bool) → t n ≡ b → picked t (n + 1) ≡ picked t n ++ cond b (n ∷ []) []
+    next b e = ap (picked t) (add-one n) ∙ ap (λ (b : Bool). picked t n ++ cond b (n ∷ []) []) e
 
     pub picked_more : t n ≡ true → picked t (n + 1) ≡ picked t n ++ (n ∷ [])
     picked_more e = next true e
@@ -79,9 +78,9 @@ module _ (t : ℕ → Bool) where
     picked_same e = next false e ∙ append-nil (picked t n)
 
   pub picked-length : (n : ℕ) → length (picked t (suc n)) ≡ length (picked t n) + mark (t n)
-  picked-length n = length-append (picked t n) (pick (t n) (n ∷ []) []) ∙ ap (λ k. length (picked t n) + k) (one (t n))
+  picked-length n = length-append (picked t n) (cond (t n) (n ∷ []) []) ∙ ap (λ k. length (picked t n) + k) (one (t n))
     where
-      one : (b : Bool) → length (pick b (n ∷ []) []) ≡ mark b
+      one : (b : Bool) → length (cond b (n ∷ []) []) ≡ mark b
       one true = refl
       one false = refl
 
@@ -101,7 +100,7 @@ module _ (t : ℕ → Bool) where
 -- tests that agree below n
 pub picked-agree : (t u : ℕ → Bool) (n : ℕ) → ((p : ℕ) → p < n → t p ≡ u p) → picked t n ≡ picked u n
 picked-agree t u zero h = refl
-picked-agree t u (suc n) h = ap₂ (λ l b. l ++ pick b (n ∷ []) []) (picked-agree t u n (λ p k. h p (omega arith))) (h n (le_refl (suc n)))
+picked-agree t u (suc n) h = ap₂ (λ l b. l ++ cond b (n ∷ []) []) (picked-agree t u n (λ p k. h p (omega arith))) (h n (le_refl (suc n)))
 
 -- the numbers below n
 abbrev pub up_to : ℕ → List ℕ
@@ -117,7 +116,7 @@ module _ {A : Type 0} (t : A → Bool) where
   in-passing [] m k = absurd (not-nil m)
   in-passing (y ∷ l) {x} m k = step (t y) (λ e. subst (λ z. T (t z)) e k) (λ j. in-passing l j k) (cases m)
     where
-      step : (b : Bool) → (x ≡ y → T b) → (x ∈ l → x ∈ passing t l) → (x ≡ y) ⊎ (x ∈ l) → x ∈ pick b (y ∷ passing t l) (passing t l)
+      step : (b : Bool) → (x ≡ y → T b) → (x ∈ l → x ∈ passing t l) → (x ≡ y) ⊎ (x ∈ l) → x ∈ cond b (y ∷ passing t l) (passing t l)
       step true h r (inl i) = here i
       step true h r (inr j) = there (r j)
       step false h r (inl i) = absurd (h i)
@@ -130,7 +129,7 @@ module _ {A : Type 0} (t : A → Bool) where
       up : (x ∈ l) × T (t x) → (x ∈ y ∷ l) × T (t x)
       up k = (there k.0, k.1)
 
-      step : (b : Bool) → (T b → T (t y)) → (x ∈ passing t l → (x ∈ l) × T (t x)) → x ∈ pick b (y ∷ passing t l) (passing t l) → (x ∈ y ∷ l) × T (t x)
+      step : (b : Bool) → (T b → T (t y)) → (x ∈ passing t l → (x ∈ l) × T (t x)) → x ∈ cond b (y ∷ passing t l) (passing t l) → (x ∈ y ∷ l) × T (t x)
       step true h r k = ⊎_elim (λ i. (here i, subst (λ z. T (t z)) (sym i) (h tt))) (λ j. up (r j)) (cases k)
       step false h r k = up (r k)
 
@@ -138,7 +137,7 @@ module _ {A : Type 0} (t : A → Bool) where
   passing-distinct [] d = tt
   passing-distinct (x ∷ l) d = step (t x) (passing-distinct l d.1)
     where
-      step : (b : Bool) → Distinct (passing t l) → Distinct (pick b (x ∷ passing t l) (passing t l))
+      step : (b : Bool) → Distinct (passing t l) → Distinct (cond b (x ∷ passing t l) (passing t l))
       step true r = (λ m. d.0 (of-passing l m).0, r)
       step false r = r
 
@@ -147,14 +146,14 @@ module _ {A : Type 0} (t : A → Bool) where
   passing-append (x ∷ a) b = step (t x) (passing-append a b)
     where
       step : (c : Bool) → passing t (a ++ b) ≡ passing t a ++ passing t b
-          → pick c (x ∷ passing t (a ++ b)) (passing t (a ++ b)) ≡ pick c (x ∷ passing t a) (passing t a) ++ passing t b
+          → cond c (x ∷ passing t (a ++ b)) (passing t (a ++ b)) ≡ cond c (x ∷ passing t a) (passing t a) ++ passing t b
       step true e = ap (λ l. x ∷ l) e
       step false e = e
 
   pub passing-length : (x : A) (l : List A) → length (passing t (x ∷ l)) ≡ mark (t x) + length (passing t l)
   passing-length x l = step (t x)
     where
-      step : (b : Bool) → length (pick b (x ∷ passing t l) (passing t l)) ≡ mark b + length (passing t l)
+      step : (b : Bool) → length (cond b (x ∷ passing t l) (passing t l)) ≡ mark b + length (passing t l)
       step true = omega arith
       step false = omega arith
 

@@ -1,4 +1,4 @@
--- `all_grid_addresses`: the tests, the answer and the output, which has n places.
+-- `all_grid_addresses`: its tests, and its answer with the addresses, which have n places, as one outcome.
 use Rattle.std.specs.Prelude.{List, [], ◌++◌, ℕ, zero, suc, ◌*◌, eqb, ℤ}
 use Rattle.common.specs.Matrix.{Vec}
 use Rattle.common.specs.Array.{sides_of, items}
@@ -15,10 +15,12 @@ addresses d (suc p) = addresses d p ++ items (address d p)
 unfoldable pub address_tests : List ℤ → ℕ → Tested
 address_tests d n = require (diagonal_fits d) OutsideLimits (require (eqb n (size (sides_of d) * 3)) WrongLength Accepted)
 
-unfoldable pub addresses_answer : List ℤ → ℕ → Tested
-unfolding address_tests
-addresses_answer d n = address_tests d n
+pub record AllGridAddresses : Type 0 where
+  pub answer : Tested
+  pub addresses : List ℤ
 
-unfoldable pub addresses_written : List ℤ → ℕ → List ℤ
+unfoldable pub all_grid_addresses : List ℤ → ℕ → AllGridAddresses
 unfolding address_tests address
-addresses_written d n = output_of (address_tests d n) n (addresses (sides_of d) (size (sides_of d)))
+all_grid_addresses d n =
+    let t = address_tests d n in
+    record { answer = t; addresses = output_of t n (addresses (sides_of d) (size (sides_of d))) }

@@ -1,4 +1,4 @@
--- `ir_grid_map`: the tests, in document 01's order, the answer and the output, which has n places.
+-- `ir_grid_map`: its tests, in document 01's order, and its answer with the class map, which has n places, as one outcome.
 use Rattle.std.specs.Prelude.{List, map, ℕ, eqb, ℤ, pos, Result}
 use Rattle.common.specs.declared.Refusal.{Refusal}
 use Rattle.common.specs.Array.{vector_of, sides_of, matrices}
@@ -16,13 +16,15 @@ map_tests rotations d ps n =
     (require (shift_fits ps) OutsideLimits
     (require (rotations_fit 100000 rotations) OutsideLimits Accepted))))
 
-abbrev pub ir_grid_map : Tested → ℕ → Result ℤ Refusal
-ir_grid_map t n = giving t (pos n)
+pub record IrGridMap : Type 0 where
+  pub answer : Result ℤ Refusal
+  pub map : List ℤ
 
-unfoldable pub ir_grid_map_answer : List ℤ → List ℤ → List ℤ → ℕ → Result ℤ Refusal
-unfolding map_tests classes
-ir_grid_map_answer rotations d ps n = ir_grid_map (map_tests rotations d ps n) (classes (sides_of d) (vector_of ps) (matrices rotations))
-
-unfoldable pub ir_grid_map_written : List ℤ → List ℤ → List ℤ → ℕ → List ℤ
-unfolding map_tests class_map_of
-ir_grid_map_written rotations d ps n = output_of (map_tests rotations d ps n) n (map pos (class_map_of (sides_of d) (vector_of ps) (matrices rotations)))
+unfoldable pub ir_grid_map : List ℤ → List ℤ → List ℤ → ℕ → IrGridMap
+unfolding map_tests class_map_of classes
+ir_grid_map rotations d ps n =
+    let t = map_tests rotations d ps n in
+    record {
+      answer = giving t (pos (classes (sides_of d) (vector_of ps) (matrices rotations)));
+      map = output_of t n (map pos (class_map_of (sides_of d) (vector_of ps) (matrices rotations)));
+    }

@@ -4,6 +4,7 @@ pub mod Build
 pub mod Lists
 pub mod Picked
 pub mod MatrixGroup
+pub mod Orbits
 pub mod ClassMap
 pub mod Own
 pub mod IrGridMap

@@ -11,8 +11,8 @@ ghost use Rattle.common.specs.Matrix.{◌▹◌};
 ghost use Rattle.grgrid.specs.Sides.{sides, remainders};
 ghost use Rattle.grgrid.specs.ClassMap.{first_lower, class_map_of};
 ghost use Rattle.grgrid.specs.Own.{own_places};
-ghost use Rattle.grgrid.specs.IrGridMap.{map_tests, ir_grid_map_answer, ir_grid_map_written};
-ghost use Rattle.grgrid.specs.Addresses.{addresses, address_tests, addresses_answer, addresses_written};
+ghost use Rattle.grgrid.specs.IrGridMap.{map_tests, ir_grid_map};
+ghost use Rattle.grgrid.specs.Addresses.{addresses, address_tests, all_grid_addresses};
 ghost use Rattle.common.specs.Limits.{all_within, diagonal_fits};
 
 use common::{Refusal, Shift};
@@ -236,8 +236,7 @@ pub fn ir_grid_map(
     ps: [i64; 3],
     map: &mut [i64],
 ) -> Result<i64, Refusal>
-    ensures value { result ≡ ir_grid_map_answer rotations.now d ps (length map.old) }
-    ensures map_after { map.new ≡ ir_grid_map_written rotations.now d ps (length map.old) }
+    ensures { record { answer = result; map = map.new } ≡ ir_grid_map rotations.now d ps (length map.old) }
 {
     let places = map.len();
     match map_tests(rotations, d, ps, places) {
@@ -301,8 +300,7 @@ fn address_tests(d: [i64; 3], places: usize) -> Result<(), Refusal>
 
 // The address of each point, in index order.
 pub fn all_grid_addresses(d: [i64; 3], out: &mut [i64]) -> Result<(), Refusal>
-    ensures value { result ≡ addresses_answer d (length out.old) }
-    ensures out_after { out.new ≡ addresses_written d (length out.old) }
+    ensures { record { answer = result; addresses = out.new } ≡ all_grid_addresses d (length out.old) }
 {
     let tested = address_tests(d, out.len());
     match tested {

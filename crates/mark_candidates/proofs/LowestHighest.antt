@@ -1,11 +1,11 @@
 -- The corner test by what the code keeps of each vector: the squared lengths for the lowest and for the highest inner products, and its weights times the widths.
+use mathlib.Core.Bool.{cond}
 use mathlib.Core.Path.{◌≡◌, refl, sym, ◌∙◌, ap}
 use mathlib.Core.List.{[], ◌∷◌}
 use native.Mathlib.Omega.{arith}
 use lib.Dec.{T}
 use lib.IntN.{ℤ, pos, ◌+ℤ◌, ◌*ℤ◌, ◌-ℤ◌}
 use lib.Signed.{lt_z, ◌≤ℤ◌, ◌<ℤ◌, lt_z_yes, lt_z_no}
-use Rattle.integer.specs.Checked.{pick}
 use Rattle.integer.proofs.Reify.{ring, reify}
 use Rattle.integer.proofs.Parts.{ints}
 use Rattle.integer.proofs.Order.{◌⊞◌, ◌⊠◌, slack, slack<, nonneg_pos, le-by}
@@ -33,7 +33,7 @@ module _ (a b low high : ℤ) (h : low ≤ℤ high) where
   less : a ≤ℤ b → lifted ≡ pos 0
   less k = below-0 (a *ℤ (high -ℤ low) -ℤ b *ℤ (high -ℤ low)) (le-by (slack k ⊠ slack h) (ring (a ∷ b ∷ low ∷ high ∷ []) (search reify depth 40) tt))
 
-  most-term : (a -ℤ b) *ℤ pick (lt_z (pos 0) (a -ℤ b)) high low ≡ (a *ℤ low -ℤ b *ℤ low) +ℤ lifted
+  most-term : (a -ℤ b) *ℤ cond (lt_z (pos 0) (a -ℤ b)) high low ≡ (a *ℤ low -ℤ b *ℤ low) +ℤ lifted
   most-term =
       pick-cases (lt_z (pos 0) (a -ℤ b)) high low (λ e. (a -ℤ b) *ℤ e ≡ (a *ℤ low -ℤ b *ℤ low) +ℤ lifted)
       (λ t. let k : pos 0 <ℤ (a -ℤ b) = lt_z_yes t in at_high ∙ ap (λ m. (a *ℤ low -ℤ b *ℤ low) +ℤ m) (sym (more (grows k))))
@@ -52,7 +52,7 @@ module _ (a b low high : ℤ) (h : low ≤ℤ high) where
       at_low = ring (a ∷ b ∷ low ∷ []) (search reify depth 40) tt
 
   -- the same with a and b exchanged
-  least-term : (b -ℤ a) *ℤ pick (lt_z (pos 0) (b -ℤ a)) high low ≡ lifted -ℤ (a *ℤ high -ℤ b *ℤ high)
+  least-term : (b -ℤ a) *ℤ cond (lt_z (pos 0) (b -ℤ a)) high low ≡ lifted -ℤ (a *ℤ high -ℤ b *ℤ high)
   least-term =
       pick-cases (lt_z (pos 0) (b -ℤ a)) high low (λ e. (b -ℤ a) *ℤ e ≡ lifted -ℤ (a *ℤ high -ℤ b *ℤ high))
       (λ t. let k : pos 0 <ℤ (b -ℤ a) = lt_z_yes t in at_high ∙ ap (λ m. m -ℤ (a *ℤ high -ℤ b *ℤ high)) (sym (less (falls k))))

@@ -1,11 +1,10 @@
 -- The marks by a table are those of the definition, and the walk over a table, turn by turn.
 use mathlib.Core.Path.{◌≡◌, refl, sym, ap₂}
-use mathlib.Core.Bool.{Bool, true, false, ◌&&◌, ◌||◌}
+use mathlib.Core.Bool.{Bool, true, false, ◌&&◌, ◌||◌, cond}
 use mathlib.Core.List.{List, [], ◌∷◌, map}
 use Prim.Native.Nat.{ℕ}
 use lib.Dec.{T}
 use lib.IntN.{ℤ, pos}
-use Rattle.integer.specs.Checked.{pick}
 use Rattle.common.specs.Every.{every, some}
 use Rattle.common.specs.Matrix.{Vec}
 use Rattle.common.specs.Array.{vector_of}
@@ -52,9 +51,9 @@ module _ (a o : Compared) where
       by false false e = (refl, refl)
 
 -- the mark, as the walk ends
-pub marked_by : (t : List Compared) (a : Compared) {b n : Bool} → some (longer a) t ≡ b → every (never_longer a) t ≡ n → pick b (pos 2) (pick n (pos 1) (pos 0)) ≡ mark_of t a
+pub marked_by : (t : List Compared) (a : Compared) {b n : Bool} → some (longer a) t ≡ b → every (never_longer a) t ≡ n → cond b (pos 2) (cond n (pos 1) (pos 0)) ≡ mark_of t a
 unfolding mark_of
-marked_by t a e f = sym (ap₂ (λ b n. pick b (pos 2) (pick n (pos 1) (pos 0))) e f)
+marked_by t a e f = sym (ap₂ (λ b n. cond b (pos 2) (cond n (pos 1) (pos 0))) e f)
 
 -- ---- the marks of all
 module _ {A B : Type 0} (g : A → B) where
@@ -83,7 +82,7 @@ module _ (s : List ℤ) (n : ℕ) (r : Ranges) (o : T (inner.ordered (ranges_of 
   mark-is : (m : Vec ℤ) → mark_of table (compared_at s n r m) ≡ marking m
   unfolding mark_of mark nearest beaten
   mark-is m =
-      ap₂ (λ b n. pick b (pos 2) (pick n (pos 1) (pos 0)))
+      ap₂ (λ b n. cond b (pos 2) (cond n (pos 1) (pos 0)))
       (some-on (compared_at s n r) (longer (compared_at s n r m)) (λ p. inner.shorter (ranges_of r.lowest r.highest) (at p) (at m)) (λ p. beaten-test s n r o m p) candidates125)
       (every-on (compared_at s n r) (never_longer (compared_at s n r m)) (λ p. inner.never_longer (ranges_of r.lowest r.highest) (at m) (at p)) (λ p. nearest-test s n r o m p) candidates125)
 

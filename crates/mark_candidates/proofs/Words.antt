@@ -2,13 +2,12 @@
 -- ranges a certain mark stays.
 use mathlib.Core.Path.{◌≡◌, refl, sym, ◌∙◌, ap, subst}
 use mathlib.Core.Logic.{◌⊎◌, inl, inr, ⊎_elim}
-use mathlib.Core.Bool.{Bool, true, false}
+use mathlib.Core.Bool.{Bool, true, false, cond}
 use mathlib.Core.List.{List}
 use lib.Dec.{T, not_T}
 use lib.IntN.{ℤ, pos}
 use lib.Signed.{≤ℤ_refl, <ℤ_irrefl, clash_ℤ}
 use Rattle.integer.specs.Same.{same}
-use Rattle.integer.specs.Checked.{pick}
 use Rattle.integer.proofs.Same.{same-eq, same_refl}
 use Rattle.integer.proofs.Test.{holds, is_true, is_false}
 use Rattle.common.specs.Matrix.{Vec, side, same_vector}
@@ -61,7 +60,7 @@ module _ (r : Ranges) (at : Vec ℤ → Vec ℤ) (ms : List (Vec ℤ)) (m : Vec 
 
   -- ---- the mark
   abbrev marked : Bool → Bool → ℤ
-  marked b n = pick b (pos 2) (pick n (pos 1) (pos 0))
+  marked b n = cond b (pos 2) (cond n (pos 1) (pos 0))
 
   pub mark-nearest : mark r at ms m ≡ pos 1 → NearestForCertain r at ms m
   unfolding mark
@@ -91,7 +90,7 @@ module _ (r : Ranges) (at : Vec ℤ → Vec ℤ) (ms : List (Vec ℤ)) (m : Vec 
   pub nearest-mark : NearestForCertain r at ms m → mark r at ms m ≡ pos 1
   unfolding mark
   nearest-mark h =
-      ap (λ b. marked b (nearest r at ms m)) (not-beaten (nearest-or-beaten h)) ∙ ap (λ n. pick n (pos 1) (pos 0)) (is_true (nearest r at ms m) (says-nearest h))
+      ap (λ b. marked b (nearest r at ms m)) (not-beaten (nearest-or-beaten h)) ∙ ap (λ n. cond n (pos 1) (pos 0)) (is_true (nearest r at ms m) (says-nearest h))
 
   pub mark-open : mark r at ms m ≡ pos 0 → (¬ NearestForCertain r at ms m) × (¬ BeatenForCertain r at ms m)
   mark-open e =
@@ -101,7 +100,7 @@ module _ (r : Ranges) (at : Vec ℤ → Vec ℤ) (ms : List (Vec ℤ)) (m : Vec 
   unfolding mark
   open-mark f g =
       ap (λ b. marked b (nearest r at ms m)) (not-beaten g)
-      ∙ ap (λ n. pick n (pos 1) (pos 0)) (is_false (nearest r at ms m) (not_T (nearest r at ms m) (λ n. f (nearest-says n))))
+      ∙ ap (λ n. cond n (pos 1) (pos 0)) (is_false (nearest r at ms m) (not_T (nearest r at ms m) (λ n. f (nearest-says n))))
 
 -- ---- narrower ranges
 module _ {r s : Ranges} (h : Narrower r s) (t : T (ordered r)) (u : T (ordered s)) (at : Vec ℤ → Vec ℤ) (ms : List (Vec ℤ)) (m : Vec ℤ) where

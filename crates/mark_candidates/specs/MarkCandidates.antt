@@ -1,7 +1,6 @@
 -- `mark_candidates`: the tests, the answer and the output, which has n places; and what the marks say.
-use Rattle.std.specs.Prelude.{◌≡◌, Bool, ◌&&◌, ℕ, eqb, ℤ, pos, nat_abs}
+use Rattle.std.specs.Prelude.{◌≡◌, Bool, ◌&&◌, ℕ, eqb, ℤ, pos, nat_abs, cond}
 use mathlib.Core.List.{List, map, Memᴰ}
-use Rattle.integer.specs.Checked.{pick}
 use Rattle.common.specs.Matrix.{Vec}
 use Rattle.common.specs.Array.{vector_of, sides_of, matrix_of}
 use Rattle.common.specs.Limits.{all_within, matrix_within, diagonal_fits, shift_fits, point_fits}
@@ -37,7 +36,7 @@ module _ (r : Ranges) (at : Vec ℤ → Vec ℤ) (ms : List (Vec ℤ)) (m : Vec 
   -- 1 nearest for certain, 2 beaten for certain, 0 open
   unfoldable pub mark : ℤ
   unfolding nearest beaten
-  mark = pick beaten (pos 2) (pick nearest (pos 1) (pos 0))
+  mark = cond beaten (pos 2) (cond nearest (pos 1) (pos 0))
 
 -- ---- the call
 abbrev pub ranges_of : List ℤ → List ℤ → Ranges

@@ -1,7 +1,6 @@
 -- The reduced coordinates of a grid point, exactly: 2N times each is whole, N the number of points.
-use Rattle.std.specs.Prelude.{List, ℕ, ◌*◌, ◌≤◌, ◌≡◌, ℤ, pos, nat_abs, ◌+ℤ◌, ◌*ℤ◌, ◌-ℤ◌}
+use Rattle.std.specs.Prelude.{List, ℕ, ◌*◌, ◌≤◌, ◌≡◌, ℤ, pos, nat_abs, ◌+ℤ◌, ◌*ℤ◌, ◌-ℤ◌, cond}
 use Rattle.std.specs.Int.Signed.{lt_z, quot_z}
-use Rattle.integer.specs.Checked.{pick}
 use Rattle.common.specs.Matrix.{Vec, Mat, side, vector, ◌▹◌}
 use Rattle.grgrid.specs.Grid.{size, address, double}
 use Rattle.bzsearch.specs.Search.{nearby, candidates}
@@ -25,7 +24,7 @@ scaled d ps q p = q ▹ scaled_grid d ps (address d p)
 
 -- n further from zero
 abbrev pub outwards : ℕ → ℤ → ℤ
-outwards n z = pick (lt_z z (pos 0)) (z -ℤ pos n) (z +ℤ pos n)
+outwards n z = cond (lt_z z (pos 0)) (z -ℤ pos n) (z +ℤ pos n)
 
 -- the whole number nearest to z / 2n, of two equally near the one away from zero
 abbrev pub rounded : ℕ → ℤ → ℤ

@@ -17,8 +17,8 @@ use Rattle.common.specs.declared.Refusal.{Refusal}
 use Rattle.common.specs.declared.Refusal.TheVariants.{OutsideLimits, WrongLength}
 use Rattle.common.proofs.Tests.{passed}
 use Rattle.recip_rotations.specs.Flat.{laid}
-use Rattle.recip_rotations.specs.PointGroup.{room_tests, input_tests, group_tests, point_group, point_group_answer, point_group_written}
-use Rattle.recip_rotations.specs.Steps.{Grouped}
+use Rattle.recip_rotations.specs.PointGroup.{room_tests, input_tests, group_tests, group_outcome}
+use Rattle.recip_rotations.specs.Code.Steps.{Grouped}
 use Rattle.recip_rotations.proofs.Outcomes.{refused}
 
 -- the tests, from the answer
@@ -49,18 +49,15 @@ module _ (s : List ℤ) (time t : Bool) (n : ℕ) where
     unfolding group_tests
     input-refused e = refused (ap (λ q. after q (room_tests (matrices s) time t)) e)
 
-  module _ {out : List ℤ} {r : Result ℕ Refusal} (g : Grouped (group_tests s time t n) (point_group (matrices s) time t) (replicate n (negsuc 0)) out r) where
-    pub answered : r ≡ point_group_answer s time t n
-    unfolding point_group_answer
-    answered = g.answer
+-- ---- the outcome, where a list was told and where it was refused
+module _ (n : ℕ) {t : Tested} {l : List (Mat ℤ)} {out : List ℤ} {r : Result ℕ Refusal} (g : Grouped t l (replicate n (negsuc 0)) out r) where
+  pub told : {k : ℕ} → r ≡ Ok k → record { answer = Ok k; out = out } ≡ group_outcome t l n
+  told {k} e =
+      let f = sym e ∙ g.answer in
+      let a = was-accepted t (length l) k f in
+      λ i. record { answer = f i; out = (g.held a ∙ sym (ap (λ t. output_of t n (laid l (replicate n (negsuc 0)))) a)) i }
 
-    pub group-written : {k : ℕ} → r ≡ Ok k → out ≡ point_group_written s time t n
-    unfolding point_group_written
-    group-written {k} e =
-        let a = was-accepted (group_tests s time t n) _ k (sym e ∙ g.answer) in
-        g.held a ∙ sym (ap (λ q. output_of q n (laid (point_group (matrices s) time t) (replicate n (negsuc 0)))) a)
-
-    pub blank-written : {x : Refusal} {filled : List ℤ} (k : ℕ) → r ≡ Err x → filled ≡ replicate k (negsuc 0) → k ≡ n → filled ≡ point_group_written s time t n
-    unfolding point_group_written
-    blank-written k e f h =
-        f ∙ ap (λ n. replicate n (negsuc 0)) h ∙ sym (ap (λ q. output_of q n (laid (point_group (matrices s) time t) (replicate n (negsuc 0)))) (was-refused (group_tests s time t n) _ (sym e ∙ g.answer)))
+  pub told-refused : {x : Refusal} → r ≡ Err x → {blank : List ℤ} → blank ≡ replicate n (negsuc 0) → record { answer = Err x; out = blank } ≡ group_outcome t l n
+  told-refused e b =
+      let f = sym e ∙ g.answer in
+      λ i. record { answer = f i; out = (b ∙ sym (ap (λ t. output_of t n (laid l (replicate n (negsuc 0)))) (was-refused t (length l) f))) i }

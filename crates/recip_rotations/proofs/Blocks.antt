@@ -12,7 +12,7 @@ use Rattle.common.specs.Matrix.{Mat, entries, transpose, negate}
 use Rattle.common.specs.Array.{matrix_at, matrices_from, flat}
 use Rattle.common.proofs.Reading.{length-flat, length_from}
 use Rattle.recip_rotations.specs.Flat.{laid}
-use Rattle.recip_rotations.specs.Steps.{swapped, transposed_at}
+use Rattle.recip_rotations.specs.Code.Steps.{swapped, transposed_at}
 
 -- ---- reading
 module _ (l : List ℤ) where

@@ -19,7 +19,7 @@ use Rattle.common.proofs.Reading.{read-flat, length_from}
 use Rattle.common.proofs.Tests.{passed}
 use Rattle.recip_rotations.specs.Unique.{among, kept, unique}
 use Rattle.recip_rotations.specs.Flat.{laid}
-use Rattle.recip_rotations.specs.Steps.{few, Grouped}
+use Rattle.recip_rotations.specs.Code.Steps.{few, Grouped}
 use Rattle.recip_rotations.proofs.Answered.{was-accepted, was-refused}
 use Rattle.recip_rotations.proofs.Blocks.{laid-over, laid-self, laid-copy}
 use Rattle.recip_rotations.proofs.Distinct.{kept_there, kept_new, unique-more, unique-longer}

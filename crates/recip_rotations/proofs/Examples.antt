@@ -9,7 +9,7 @@ use Rattle.std.specs.Prelude.{Ok, Err}
 use Rattle.common.specs.Tested.{Accepted}
 use Rattle.common.specs.Matrix.{Mat, scalar, identity, inversion}
 use Rattle.common.specs.declared.Refusal.TheVariants.{OutsideLimits, TooManyRotations, TooManyForInversion, WrongLength}
-use Rattle.recip_rotations.specs.PointGroup.{room_tests, point_group, point_group_answer, point_group_written}
+use Rattle.recip_rotations.specs.PointGroup.{room_tests, point_group, get_reciprocal_point_group}
 
 -- rows 0 1 0, 0 0 1 and 1 0 0, and its transpose
 abbrev turn : Mat ℤ
@@ -64,35 +64,35 @@ unfolding room_tests
 room-inversion = refl
 
 -- ---- the other tests, and the output
-no-rotations : point_group_answer [] true true 432 ≡ Ok 0
-unfolding point_group_answer
+no-rotations : (get_reciprocal_point_group [] true true 432).answer ≡ Ok 0
+unfolding get_reciprocal_point_group
 no-rotations = refl
 
-no-matrix : point_group_answer (pos 100001 ∷ []) false false 432 ≡ Err WrongLength
-unfolding point_group_answer
+no-matrix : (get_reciprocal_point_group (pos 100001 ∷ []) false false 432).answer ≡ Err WrongLength
+unfolding get_reciprocal_point_group
 no-matrix = refl
 
-other_length : point_group_answer (replicate 9 (pos 100001)) false false 431 ≡ Err WrongLength
-unfolding point_group_answer
+other_length : (get_reciprocal_point_group (replicate 9 (pos 100001)) false false 431).answer ≡ Err WrongLength
+unfolding get_reciprocal_point_group
 other_length = refl
 
-at-limit : point_group_answer (replicate 1728 (negsuc 99999)) false false 432 ≡ Ok 1
-unfolding point_group_answer
+at-limit : (get_reciprocal_point_group (replicate 1728 (negsuc 99999)) false false 432).answer ≡ Ok 1
+unfolding get_reciprocal_point_group
 at-limit = refl
 
-large-entry : point_group_answer (replicate 9 (negsuc 100000)) false false 432 ≡ Err OutsideLimits
-unfolding point_group_answer
+large-entry : (get_reciprocal_point_group (replicate 9 (negsuc 100000)) false false 432).answer ≡ Err OutsideLimits
+unfolding get_reciprocal_point_group
 large-entry = refl
 
-many-rotations : point_group_answer (replicate 1737 (pos 0)) false false 432 ≡ Err OutsideLimits
-unfolding point_group_answer
+many-rotations : (get_reciprocal_point_group (replicate 1737 (pos 0)) false false 432).answer ≡ Err OutsideLimits
+unfolding get_reciprocal_point_group
 many-rotations = refl
 
-written : point_group_written (pos 1 ∷ pos 2 ∷ pos 3 ∷ pos 4 ∷ pos 5 ∷ pos 6 ∷ pos 7 ∷ pos 8 ∷ pos 9 ∷ []) false true 432
+written : (get_reciprocal_point_group (pos 1 ∷ pos 2 ∷ pos 3 ∷ pos 4 ∷ pos 5 ∷ pos 6 ∷ pos 7 ∷ pos 8 ∷ pos 9 ∷ []) false true 432).out
     ≡ pos 1 ∷ pos 4 ∷ pos 7 ∷ pos 2 ∷ pos 5 ∷ pos 8 ∷ pos 3 ∷ pos 6 ∷ pos 9 ∷ replicate 423 (negsuc 0)
-unfolding point_group_written
+unfolding get_reciprocal_point_group
 written = refl
 
-blank : point_group_written [] false false 3 ≡ negsuc 0 ∷ negsuc 0 ∷ negsuc 0 ∷ []
-unfolding point_group_written
+blank : (get_reciprocal_point_group [] false false 3).out ≡ negsuc 0 ∷ negsuc 0 ∷ negsuc 0 ∷ []
+unfolding get_reciprocal_point_group
 blank = refl

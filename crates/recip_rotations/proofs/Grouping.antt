@@ -18,7 +18,7 @@ use Rattle.common.proofs.Reading.{read-flat}
 use Rattle.recip_rotations.specs.Unique.{unique}
 use Rattle.recip_rotations.specs.Flat.{laid}
 use Rattle.recip_rotations.specs.PointGroup.{turned, joins, joined, join_tests, room_tests, point_group}
-use Rattle.recip_rotations.specs.Steps.{few, Grouped}
+use Rattle.recip_rotations.specs.Code.Steps.{few, Grouped}
 use Rattle.recip_rotations.proofs.Answered.{was-accepted, was-refused}
 use Rattle.recip_rotations.proofs.Blocks.{laid-over}
 use Rattle.recip_rotations.proofs.Counting.{counted}

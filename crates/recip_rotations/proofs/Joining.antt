@@ -17,7 +17,7 @@ use Rattle.common.specs.declared.Refusal.TheVariants.{TooManyForInversion}
 use Rattle.common.proofs.Reading.{length_from}
 use Rattle.recip_rotations.specs.Flat.{laid}
 use Rattle.recip_rotations.specs.PointGroup.{joins, joined, join_tests}
-use Rattle.recip_rotations.specs.Steps.{Grouped}
+use Rattle.recip_rotations.specs.Code.Steps.{Grouped}
 use Rattle.recip_rotations.proofs.Blocks.{laid-self, laid-negatives}
 use Rattle.recip_rotations.proofs.Outcomes.{accepted, refused}
 

@@ -10,7 +10,7 @@ use Rattle.common.specs.Matrix.{Mat}
 use Rattle.common.specs.declared.Refusal.{Refusal}
 use Rattle.common.proofs.Tests.{not-accepted}
 use Rattle.recip_rotations.specs.Flat.{laid}
-use Rattle.recip_rotations.specs.Steps.{Grouped}
+use Rattle.recip_rotations.specs.Code.Steps.{Grouped}
 
 pub never : {A : Type 0} {r : Refusal} → Err r ≡ Accepted → A
 never e = absurd (not-accepted e)

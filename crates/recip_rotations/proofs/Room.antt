@@ -15,7 +15,7 @@ use Rattle.common.specs.Tested.{after, Tested, Accepted, giving}
 use Rattle.common.specs.declared.Refusal.TheVariants.{TooManyRotations, TooManyForInversion}
 use Rattle.common.proofs.Tests.{passed, both-accepted}
 use Rattle.recip_rotations.specs.Unique.{unique}
-use Rattle.recip_rotations.specs.PointGroup.{turned, joins, joined, join_tests, room_tests, input_tests, group_tests, point_group, point_group_answer, count_of}
+use Rattle.recip_rotations.specs.PointGroup.{turned, joins, joined, join_tests, room_tests, input_tests, group_tests, point_group, get_reciprocal_point_group, count_of}
 use Rattle.recip_rotations.proofs.Grouping.{turned-length}
 
 joined-room : (time : Bool) (l : List (Mat ℤ)) → length l ≤ 48 → join_tests time l ≡ Accepted → length (joined time l) ≤ 48
@@ -39,6 +39,6 @@ count-few l time t front = step (after front (room_tests l time t)) (λ e. room 
     step (Ok _) h = h refl
     step (Err r) h = zero-le
 
-pub count_small : (s : List ℤ) (time t : Bool) (n : ℕ) → count_of (point_group_answer s time t n) ≤ 48
-unfolding point_group_answer group_tests
+pub count_small : (s : List ℤ) (time t : Bool) (n : ℕ) → count_of (get_reciprocal_point_group s time t n).answer ≤ 48
+unfolding get_reciprocal_point_group group_tests
 count_small s time t n = count-few (matrices s) time t (input_tests s n)

@@ -1,4 +1,4 @@
 pub mod Unique
 pub mod Flat
 pub mod PointGroup
-pub mod Steps
+pub mod Code

@@ -1,4 +1,4 @@
--- `get_reciprocal_point_group`: the tests, the answer and the output, which has n places.
+-- `get_reciprocal_point_group`: its tests, and its answer with the output, which has n places, as one outcome.
 use Rattle.std.specs.Prelude.{Bool, true, false, not, ◌&&◌, ◌||◌, List, ◌++◌, map, ℕ, leb, eqb, ℤ, negsuc, length, replicate, Result, Ok, Err}
 use Rattle.common.specs.declared.Refusal.{Refusal}
 use Rattle.common.specs.Matrix.{Mat, transpose, negate, inversion}
@@ -45,13 +45,15 @@ abbrev pub count_of : Result ℕ Refusal → ℕ
 count_of (Ok n) = n
 count_of (Err r) = 0
 
-unfoldable pub point_group_answer : List ℤ → Bool → Bool → ℕ → Result ℕ Refusal
-unfolding group_tests point_group
-point_group_answer rotations time_reversal transposed n =
-    giving (group_tests rotations time_reversal transposed n) (length (point_group (matrices rotations) time_reversal transposed))
+pub record PointGroup : Type 0 where
+  pub answer : Result ℕ Refusal
+  pub out : List ℤ
 
--- the matrices, then -1
-unfoldable pub point_group_written : List ℤ → Bool → Bool → ℕ → List ℤ
+-- where the tests t pass: the matrices, then -1
+abbrev pub group_outcome : Tested → List (Mat ℤ) → ℕ → PointGroup
+group_outcome t l n = record { answer = giving t (length l); out = output_of t n (laid l (replicate n (negsuc 0))) }
+
+unfoldable pub get_reciprocal_point_group : List ℤ → Bool → Bool → ℕ → PointGroup
 unfolding group_tests point_group
-point_group_written rotations time_reversal transposed n =
-    output_of (group_tests rotations time_reversal transposed n) n (laid (point_group (matrices rotations) time_reversal transposed) (replicate n (negsuc 0)))
+get_reciprocal_point_group rotations time_reversal transposed n =
+    group_outcome (group_tests rotations time_reversal transposed n) (point_group (matrices rotations) time_reversal transposed) n

@@ -7,8 +7,8 @@ ghost use Rattle.common.specs.Array.{matrix_at, matrices_from, matrices, Sized};
 ghost use Rattle.common.specs.Limits.{all_within};
 ghost use Rattle.recip_rotations.specs.Unique.{same_matrix, among, kept, unique};
 ghost use Rattle.recip_rotations.specs.Flat.{laid};
-ghost use Rattle.recip_rotations.specs.PointGroup.{turned, joined, join_tests, room_tests, input_tests, group_tests, point_group, point_group_answer, point_group_written};
-ghost use Rattle.recip_rotations.specs.Steps.{same_row, transposed_at, few, Grouped};
+ghost use Rattle.recip_rotations.specs.PointGroup.{turned, joined, join_tests, room_tests, input_tests, group_tests, point_group, get_reciprocal_point_group};
+ghost use Rattle.recip_rotations.specs.Code.Steps.{same_row, transposed_at, few, Grouped};
 
 use common::Refusal;
 
@@ -177,8 +177,7 @@ pub fn get_reciprocal_point_group(
     is_transpose: bool,
     out: &mut [i64],
 ) -> Result<usize, Refusal>
-    ensures value { result ≡ point_group_answer rotations.now is_time_reversal is_transpose (length out.old) }
-    ensures out_after { out.new ≡ point_group_written rotations.now is_time_reversal is_transpose (length out.old) }
+    ensures { record { answer = result; out = out.new } ≡ get_reciprocal_point_group rotations.now is_time_reversal is_transpose (length out.old) }
 {
     match group_of(rotations, is_time_reversal, is_transpose, out) {
         Ok(n) => Ok(n),
@@ -195,8 +194,7 @@ pub fn reciprocal_rotations(
     is_time_reversal: bool,
     out: &mut [i64],
 ) -> Result<usize, Refusal>
-    ensures value { result ≡ point_group_answer rotations.now is_time_reversal true (length out.old) }
-    ensures out_after { out.new ≡ point_group_written rotations.now is_time_reversal true (length out.old) }
+    ensures { record { answer = result; out = out.new } ≡ get_reciprocal_point_group rotations.now is_time_reversal true (length out.old) }
 {
     get_reciprocal_point_group(rotations, is_time_reversal, true, out)
 }

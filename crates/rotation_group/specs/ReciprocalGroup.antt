@@ -1,12 +1,10 @@
--- `reciprocal_group`, the reciprocal step of the chain: `reciprocal_rotations` of a list that must be a group as given. The tests, the answer
--- and the output, which has n places.
-use Rattle.std.specs.Prelude.{Bool, true, List, ℕ, ℤ, negsuc, length, replicate, Result}
-use Rattle.common.specs.declared.Refusal.{Refusal}
+-- `reciprocal_group`, the reciprocal step of the chain: `reciprocal_rotations` of a list that must be a group as given. Its tests, and
+-- its answer with the output, which has n places, as one outcome.
+use Rattle.std.specs.Prelude.{Bool, true, List, ℕ, ℤ}
 use Rattle.common.specs.Array.{matrices}
-use Rattle.common.specs.Tested.{require, after, output_of, Tested, Accepted, giving}
+use Rattle.common.specs.Tested.{require, after, Tested, Accepted}
 use Rattle.common.specs.declared.Refusal.TheVariants.{NotGroup}
-use Rattle.recip_rotations.specs.Flat.{laid}
-use Rattle.recip_rotations.specs.PointGroup.{input_tests, room_tests, point_group}
+use Rattle.recip_rotations.specs.PointGroup.{input_tests, room_tests, point_group, group_outcome, PointGroup}
 use Rattle.rotation_group.specs.Group.{is_group}
 
 -- of the list as given: lengths and limits, then whether it is a group
@@ -19,11 +17,6 @@ module _ (rotations : List ℤ) (time_reversal : Bool) (n : ℕ) where
   unfolding given_tests room_tests
   reciprocal_tests = after (given_tests rotations n) (room_tests (matrices rotations) time_reversal true)
 
-  unfoldable pub reciprocal_answer : Result ℕ Refusal
+  unfoldable pub reciprocal_group : PointGroup
   unfolding reciprocal_tests point_group
-  reciprocal_answer = giving reciprocal_tests (length (point_group (matrices rotations) time_reversal true))
-
-  -- the matrices, then -1
-  unfoldable pub reciprocal_written : List ℤ
-  unfolding reciprocal_tests point_group
-  reciprocal_written = output_of reciprocal_tests n (laid (point_group (matrices rotations) time_reversal true) (replicate n (negsuc 0)))
+  reciprocal_group = group_outcome reciprocal_tests (point_group (matrices rotations) time_reversal true) n

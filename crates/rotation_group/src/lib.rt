@@ -8,7 +8,7 @@ ghost use Rattle.std.specs.Prelude.{◌≡◌, ◌≤◌, T, length};
 ghost use Rattle.common.specs.Array.{matrices};
 ghost use Rattle.common.specs.Limits.{all_within};
 ghost use Rattle.rotation_group.specs.Group.{is_group};
-ghost use Rattle.rotation_group.specs.ReciprocalGroup.{given_tests, reciprocal_answer, reciprocal_written};
+ghost use Rattle.rotation_group.specs.ReciprocalGroup.{given_tests, reciprocal_group};
 
 use common::Refusal;
 use grgrid::Rotations;
@@ -46,8 +46,7 @@ pub fn reciprocal_group(
     is_time_reversal: bool,
     out: &mut [i64],
 ) -> Result<usize, Refusal>
-    ensures value { result ≡ reciprocal_answer rotations.now is_time_reversal (length out.old) }
-    ensures out_after { out.new ≡ reciprocal_written rotations.now is_time_reversal (length out.old) }
+    ensures { record { answer = result; out = out.new } ≡ reciprocal_group rotations.now is_time_reversal (length out.old) }
 {
     match given_tests(rotations, out.len()) {
         Ok(()) => recip_rotations::reciprocal_rotations(rotations, is_time_reversal, out),

@@ -1,6 +1,6 @@
 -- With swapping a class and that of its partners are one. Its number is the lower of their two.
 use mathlib.Core.Path.{◌≡◌, sym, subst}
-use mathlib.Core.Logic.{◌⊎◌, inl, inr, ⊎_elim, ◌↔◌}
+use mathlib.Core.Logic.{inl, inr, ⊎_elim, ◌↔◌}
 use mathlib.Core.Bool.{Bool, true, false}
 use mathlib.Core.List.{List}
 use Prim.Native.Nat.{ℕ, ◌≤◌, ◌<◌}
@@ -12,9 +12,11 @@ use Rattle.common.specs.Matrix.{Vec}
 use Rattle.grgrid.specs.Grid.{size}
 use Rattle.grgrid.specs.ClassMap.{kept}
 use Rattle.grgrid.proofs.Built.{length-build, build-at}
-use Rattle.grgrid.proofs.Pass.{Least, Equiv}
+use Rattle.grgrid.specs.Orbits.{Least}
+use Rattle.grgrid.proofs.Pass.{Equiv}
 use Rattle.grgrid.proofs.Count.{Classified, classified}
 use Rattle.triplet_grid.specs.Partner.{partner}
+use Rattle.triplet_grid.specs.Classes.{Opposite, Joined, Meets}
 use Rattle.triplet_grid.specs.IrTriplets.{lower_of, numbers_of, map_triplets_of}
 
 -- a map of the points that is its own inverse and takes classes to classes
@@ -22,22 +24,6 @@ pub record Partner (N : ℕ) (E : ℕ → ℕ → Type 0) (π : ℕ → ℕ) : T
   pub inside : (p : ℕ) → p < N → π p < N
   pub twice : (p : ℕ) → p < N → π (π p) ≡ p
   pub moves : (p q : ℕ) → p < N → E p q → E (π p) (π q)
-
--- q is the partner of a point of the class of p
-pub record Opposite (E : ℕ → ℕ → Type 0) (π : ℕ → ℕ) (p q : ℕ) : Type 0 where
-  pub via : ℕ
-  pub reached : E p via
-  pub is : q ≡ π via
-
--- the class of p and, with swapping, the partners of its points
-abbrev pub Joined : Bool → (ℕ → ℕ → Type 0) → (ℕ → ℕ) → ℕ → ℕ → Type 0
-Joined true E π p q = E p q ⊎ Opposite E π p q
-Joined false E π p q = E p q
-
--- p meets q or, with swapping, the partner of q
-abbrev pub Meets : Bool → (ℕ → ℕ → Type 0) → (ℕ → ℕ) → ℕ → ℕ → Type 0
-Meets true E π p q = E p q ⊎ E p (π q)
-Meets false E π p q = E p q
 
 module _ {N : ℕ} {E : ℕ → ℕ → Type 0} {π : ℕ → ℕ} (e : Equiv N E) (k : Partner N E π) where
   over : (p q : ℕ) → p < N → E (π p) q → E p (π q)

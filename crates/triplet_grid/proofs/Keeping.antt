@@ -1,6 +1,6 @@
 -- The operations that keep q0, found matrix by matrix and moved to the front of their list.
 use mathlib.Core.Path.{◌≡◌, refl, sym, ◌∙◌, ap, ap₂}
-use mathlib.Core.Bool.{Bool, true, false}
+use mathlib.Core.Bool.{Bool, true, false, cond}
 use mathlib.Core.List.{List, [], ◌∷◌, ◌++◌, append-nil}
 use Prim.Native.Nat.{ℕ, ◌+◌, ◌-◌, ◌*◌, ◌≤◌}
 use native.Mathlib.Omega.{arith}
@@ -9,7 +9,6 @@ use lib.IntN.{ℤ, pos}
 use lib.ListN.{length, get_or, take, drop, length-append}
 use lib.Seq.{paste, take_at, get_or-append-add, get_or-drop}
 use borrow.Author.Tests.{eq-eqb, ne_eqb}
-use Rattle.integer.specs.Checked.{pick}
 use Rattle.common.specs.Matrix.{Vec, Mat, entries, ◌▹◌}
 use Rattle.common.specs.Array.{number, vector_of, items, rows, matrix_of, matrix_at, matrices_from, matrices, flat}
 use Rattle.common.specs.Limits.{all_within}
@@ -70,9 +69,9 @@ module _ (d : Vec ℕ) (q0 : ℕ) where
       pub front_read : matrix_at group n ≡ matrix_at before n
       front_read = ap (λ l. matrix_at l n) f.held ∙ laid-after before (front n) n (omega (arith, f.few, f.count))
 
-      next : (t : Bool) → eqb (carry d (matrix_at before n) q0) q0 ≡ t → front (n + 1) ≡ front n ++ pick t (matrix_at before n ∷ []) []
+      next : (t : Bool) → eqb (carry d (matrix_at before n) q0) q0 ≡ t → front (n + 1) ≡ front n ++ cond t (matrix_at before n ∷ []) []
       unfolding stabilizer
-      next t e = ap (keeping d q0) (from_more before n) ∙ passing-append keeps (matrices_from before 0 n) (matrix_at before n ∷ []) ∙ ap (λ t. front n ++ pick t (matrix_at before n ∷ []) []) e
+      next t e = ap (keeping d q0) (from_more before n) ∙ passing-append keeps (matrices_from before 0 n) (matrix_at before n ∷ []) ∙ ap (λ t. front n ++ cond t (matrix_at before n ∷ []) []) e
 
       module _ {r : ℕ} (c : r ≡ carry d (matrix_at before n) q0) where
         pub front-more : r ≡ q0 → {m : List (List ℤ)} {after : List ℤ} → m ≡ rows (matrix_at before n) → after ≡ paste group (kept * 9) (entries (matrix_of m) []) 9 → Front (n + 1) (kept + 1) after

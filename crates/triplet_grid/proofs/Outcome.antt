@@ -1,4 +1,4 @@
--- What accepted tests say of the input; and the answer and the outputs, once the tests are known.
+-- What accepted tests say of the input; and the outcome of the call, once the tests are known.
 use mathlib.Core.Path.{◌≡◌, sym, ◌∙◌, ap, subst}
 use mathlib.Core.Bool.{Bool, true, false, ◌&&◌}
 use mathlib.Core.List.{List, map}
@@ -16,13 +16,13 @@ use Rattle.common.specs.Limits.{whole_matrices, rotations_fit, diagonal_fits, po
 use Rattle.common.specs.Tested.{giving, output_of, after, Tested, Accepted}
 use Rattle.common.specs.declared.Refusal.{Refusal}
 use Rattle.common.specs.declared.Refusal.TheVariants.{OutsideLimits, WrongLength}
-use Rattle.common.proofs.Tests.{passed, refused-not-ok, same-refusal}
+use Rattle.common.proofs.Tests.{passed}
 use Rattle.grgrid.specs.Grid.{size}
 use Rattle.grgrid.specs.ClassMap.{kept}
 use Rattle.grgrid.proofs.Accepted.{point-inside}
 pub use Rattle.grgrid.proofs.Refusing.{refused, onward}
 use Rattle.recip_rotations.specs.PointGroup.{room_tests}
-use Rattle.triplet_grid.specs.IrTriplets.{map_triplets_of, input_tests, triplet_tests, classes_at, answer_for, ir_triplets_answer, map_triplets_written, map_qwritten}
+use Rattle.triplet_grid.specs.IrTriplets.{map_triplets_of, input_tests, triplet_tests, classes_at, IrTriplets, ir_triplets_at_q}
 
 pub record InputAccepted (q0 : ℤ) (d rotations : List ℤ) (n m : ℕ) : Type 0 where
   pub whole : T (whole_matrices rotations)
@@ -70,7 +70,7 @@ module _ (q0 : ℤ) (d rotations : List ℤ) (time : Bool) (n m : ℕ) where
   unfolding triplet_tests
   then-room e = sym (ap (λ t. after t room) e)
 
-  -- ---- the answer and the outputs, where t is the outcome of all tests
+  -- ---- the outcome of the call
   module _ (swappable : Bool) where
     abbrev here : List ℕ
     here = classes_at (nat_abs q0) (sides_of d) (matrices rotations) time
@@ -78,30 +78,29 @@ module _ (q0 : ℤ) (d rotations : List ℤ) (time : Bool) (n m : ℕ) where
     abbrev all : List ℕ
     all = map_triplets_of swappable (sides_of d) (nat_abs q0) here
 
-    module _ {t : Tested} (e : t ≡ triplet_tests q0 d rotations time n m) where
-      pub answer-is : answer_for t (kept all (size (sides_of d))) ≡ ir_triplets_answer q0 d rotations time swappable n m
-      unfolding ir_triplets_answer
-      answer-is = ap (λ t. answer_for t (kept all (size (sides_of d)))) e
+    abbrev count : ℤ
+    count = pos (kept all (size (sides_of d)))
 
-      pub triplets-are : output_of t n (map pos all) ≡ map_triplets_written q0 d rotations time swappable n m
-      unfolding map_triplets_written
-      triplets-are = ap (λ t. output_of t n (map pos all)) e
+    abbrev outcome : Tested → IrTriplets
+    outcome t = record { answer = giving t count; map_triplets = output_of t n (map pos all); map_q = output_of t m (map pos here) }
 
-      pub classes-are : output_of t m (map pos here) ≡ map_qwritten q0 d rotations time swappable n m
-      unfolding map_qwritten
-      classes-are = ap (λ t. output_of t m (map pos here)) e
+    outcome-by : {t : Tested} → t ≡ triplet_tests q0 d rotations time n m → outcome t ≡ ir_triplets_at_q q0 d rotations time swappable n m
+    unfolding ir_triplets_at_q
+    outcome-by e = ap outcome e
 
-    -- an answer that is a refusal
-    pub answer-refused : {r : Refusal} → Err r ≡ ir_triplets_answer q0 d rotations time swappable n m → Err r ≡ triplet_tests q0 d rotations time n m
-    unfolding ir_triplets_answer
-    answer-refused e = sym (refusal (triplet_tests q0 d rotations time n m) (pos (kept all (size (sides_of d)))) e)
-      where
-        refusal : (t : Tested) (a : ℤ) {r : Refusal} → Err r ≡ giving t a → t ≡ Err r
-        refusal (Ok _) a e = absurd (refused-not-ok e)
-        refusal (Err s) a e = ap Err (sym (same-refusal e))
+    pub answer-refused : {r : Refusal} → Err r ≡ triplet_tests q0 d rotations time n m → Err r ≡ (ir_triplets_at_q q0 d rotations time swappable n m).answer
+    answer-refused e = ap (λ o. o.answer) (outcome-by e)
 
-    -- where the answer is one, both outputs hold -1 everywhere
-    pub refused-written : (answer : Result ℤ Refusal) → is_err answer ≡ true → answer ≡ ir_triplets_answer q0 d rotations time swappable n m
-        → (replicate n (negsuc 0) ≡ map_triplets_written q0 d rotations time swappable n m) × (replicate m (negsuc 0) ≡ map_qwritten q0 d rotations time swappable n m)
-    refused-written (Ok a) h e = absurd (subst T (sym h) tt)
-    refused-written (Err r) h e = let t = answer-refused e in (triplets-are t, classes-are t)
+    module _ {x y : List ℤ} where
+      pub told : Accepted ≡ triplet_tests q0 d rotations time n m → {k : ℤ} → k ≡ count → x ≡ map pos all → y ≡ map pos here → record { answer = Ok k; map_triplets = x; map_q = y } ≡ ir_triplets_at_q q0 d rotations time swappable n m
+      told e f g h = (λ i. record { answer = Ok (f i); map_triplets = g i; map_q = h i }) ∙ outcome-by e
+
+      -- where the answer is a refusal
+      pub told-refused : {a : Result ℤ Refusal} → is_err a ≡ true → a ≡ (ir_triplets_at_q q0 d rotations time swappable n m).answer → x ≡ replicate n (negsuc 0) → y ≡ replicate m (negsuc 0)
+          → record { answer = a; map_triplets = x; map_q = y } ≡ ir_triplets_at_q q0 d rotations time swappable n m
+      unfolding ir_triplets_at_q
+      told-refused {a} h e f g = step (triplet_tests q0 d rotations time n m) e
+        where
+          step : (t : Tested) → a ≡ giving t count → record { answer = a; map_triplets = x; map_q = y } ≡ outcome t
+          step (Ok _) e = absurd (subst T (sym h ∙ ap is_err e) tt)
+          step (Err r) e = λ i. record { answer = e i; map_triplets = f i; map_q = g i }

@@ -19,7 +19,8 @@ use Rattle.grgrid.specs.ClassMap.{classes, kept}
 use Rattle.grgrid.proofs.Lists.{◌∈◌}
 use Rattle.grgrid.proofs.Picked.{in-passing, of-passing}
 use Rattle.grgrid.proofs.Pass.{Equiv}
-use Rattle.grgrid.proofs.Group.{Group, Orbit, Keeps, orbit-equiv, keeps-group}
+use Rattle.grgrid.specs.Orbits.{Keeps}
+use Rattle.grgrid.proofs.Group.{Group, orbit-equiv, keeps-group}
 use Rattle.grgrid.proofs.Folding.{Sides, Agree, agree-by, index-lt, index-address, address-agree, same_index}
 use Rattle.grgrid.proofs.Acting.{Acts, acts-agree, carry-action}
 use Rattle.grgrid.proofs.MatrixGroup.{MatrixGroup, grouped, joined-acts}
@@ -28,8 +29,9 @@ use Rattle.grgrid.proofs.Count.{Classified}
 use Rattle.recip_rotations.specs.PointGroup.{joins, point_group, joined}
 use Rattle.recip_rotations.proofs.Told.{unique-distinct, told-group}
 use Rattle.triplet_grid.specs.Partner.{stabilizer, third, partner}
+use Rattle.triplet_grid.specs.Classes.{Operation, Carries, Joined, Meets}
 use Rattle.triplet_grid.specs.IrTriplets.{map_q_of, map_triplets_of, classes_at}
-use Rattle.triplet_grid.proofs.Joining.{Partner, Joined, Meets, joined_meets, triplet-classes}
+use Rattle.triplet_grid.proofs.Joining.{Partner, joined_meets, triplet-classes}
 
 -- ---- the members of the stabilizer
 pub in-stabilizer : (d : Vec ℕ) (q0 : ℕ) {M : Mat ℤ} (l : List (Mat ℤ)) → (M ∈ stabilizer d q0 l) ↔ Keeps (carry d) (λ M. M ∈ l) q0 M
@@ -93,10 +95,6 @@ same-group {op = op} {e = e} i g = record {
   inverse = λ x k. let r = g.inverse x ((i x).1 k) in (r.0, (i r.0).0 r.1, r.2);
 }
 
--- an operation that keeps q0 carries p to q
-abbrev pub Carries : Vec ℕ → (Mat ℤ → Type 0) → ℕ → ℕ → ℕ → Type 0
-Carries d P q0 p q = Orbit (carry d) (Keeps (carry d) P q0) p q
-
 module _ (d : Vec ℕ) (s : Sides d) {L : List (Mat ℤ)} (m : MatrixGroup L) {P : Mat ℤ → Type 0} (i : (M : Mat ℤ) → (M ∈ L) ↔ P M) (w : (M : Mat ℤ) → P M → Acts d M)
     (q0 : ℕ) (h : q0 < size d) where
   keepers : Group ◌·◌ identity (Keeps (carry d) P q0)
@@ -126,10 +124,6 @@ module _ (d : Vec ℕ) (s : Sides d) {L : List (Mat ℤ)} (m : MatrixGroup L) {P
   swapped-classes swappable = triplet-classes swappable d q0 carries-equiv carries-partner point-classes
 
 -- ---- the class call
--- an operation is a matrix of the list, or a negative that the call joined to it
-abbrev pub Operation : Bool → List (Mat ℤ) → Mat ℤ → Type 0
-Operation time_reversal l M = (M ∈ l) ⊎ (T (joins time_reversal l) × (M ∈ map negate l))
-
 pub joined-operations : (time_reversal : Bool) (l : List (Mat ℤ)) (M : Mat ℤ) → (M ∈ joined time_reversal l) ↔ Operation time_reversal l M
 joined-operations time_reversal l M = step (joins time_reversal l)
   where

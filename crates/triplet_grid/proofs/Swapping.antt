@@ -11,7 +11,6 @@ use lib.ListN.{length, get_or, set, length-map}
 use lib.Dec.{ltb}
 use borrow.Author.Tests.{ltb-true, ltb-false}
 use Rattle.std.specs.Int.{int_min}
-use Rattle.integer.specs.Checked.{pick}
 use Rattle.common.specs.Matrix.{Vec, Mat, origin}
 use Rattle.common.specs.Array.{vector_of, items}
 use Rattle.grgrid.specs.Grid.{size, index, address}
@@ -40,7 +39,7 @@ partner-is d q0 q1 e = ap (λ a. index d (third (vector_of a) (address d q1))) e
 pub lower-is : (a b : ℕ) → int_min (pos a) (pos b) ≡ pos (lower_of a b)
 lower-is a b = by (ltb b a) refl (ltb a b) refl
   where
-    by : (s : Bool) → ltb b a ≡ s → (t : Bool) → ltb a b ≡ t → cond s (pos b) (pos a) ≡ pos (pick t a b)
+    by : (s : Bool) → ltb b a ≡ s → (t : Bool) → ltb a b ≡ t → cond s (pos b) (pos a) ≡ pos (cond t a b)
     by true h true k = let i = ltb-true b a h in let j = ltb-true a b k in absurd (omega arith)
     by true h false k = refl
     by false h true k = refl
@@ -72,7 +71,7 @@ plain d q0 classes e = build-list classes 0 (size d) e
 lower-low : (a b n : ℕ) → b ≤ n → lower_of a b ≤ n
 lower-low a b n h = by (ltb a b) refl
   where
-    by : (t : Bool) → ltb a b ≡ t → pick t a b ≤ n
+    by : (t : Bool) → ltb a b ≡ t → cond t a b ≤ n
     by true e = let l = ltb-true a b e in omega arith
     by false e = h
 

@@ -1,7 +1,6 @@
--- `ir_triplets_at_q`: the tests, in document 01's order, the answer and the two outputs, which have n and m places.
-use Rattle.std.specs.Prelude.{Bool, true, false, ◌&&◌, List, map, ℕ, eqb, ltb, ℤ, pos, nat_abs, get_or, Result}
+-- `ir_triplets_at_q`: its tests, in document 01's order, and its answer with the two outputs, which have n and m places, as one outcome.
+use Rattle.std.specs.Prelude.{Bool, true, false, ◌&&◌, List, map, ℕ, eqb, ltb, ℤ, pos, nat_abs, get_or, Result, cond}
 use Rattle.common.specs.declared.Refusal.{Refusal}
-use Rattle.integer.specs.Checked.{pick}
 use Rattle.common.specs.Matrix.{Vec, Mat, origin}
 use Rattle.common.specs.Array.{sides_of, matrices}
 use Rattle.common.specs.Limits.{whole_matrices, rotations_fit, diagonal_fits, point_fits}
@@ -20,7 +19,7 @@ map_q_of d q0 l = class_map_of d origin (stabilizer d q0 l)
 
 -- ---- with swapping, a point of number r gets the lower of r and the number of r's partner; proofs/Joining says when that makes one class of two
 abbrev pub lower_of : ℕ → ℕ → ℕ
-lower_of a b = pick (ltb a b) a b
+lower_of a b = cond (ltb a b) a b
 
 abbrev pub swapped_number : Vec ℕ → ℕ → List ℕ → ℕ → ℕ
 swapped_number d q0 classes q1 = let r = get_or classes q1 0 in lower_of (get_or classes (partner d q0 r) 0) r
@@ -51,8 +50,10 @@ unfoldable pub classes_at : ℕ → Vec ℕ → List (Mat ℤ) → Bool → List
 unfolding map_q_of point_group
 classes_at q0 d l time_reversal = map_q_of d q0 (point_group l time_reversal false)
 
-abbrev pub answer_for : Tested → ℕ → Result ℤ Refusal
-answer_for t n = giving t (pos n)
+pub record IrTriplets : Type 0 where
+  pub answer : Result ℤ Refusal
+  pub map_triplets : List ℤ
+  pub map_q : List ℤ
 
 module _ (q0 : ℤ) (d rotations : List ℤ) (time_reversal swappable : Bool) (n m : ℕ) where
   abbrev tests : Tested
@@ -64,14 +65,10 @@ module _ (q0 : ℤ) (d rotations : List ℤ) (time_reversal swappable : Bool) (n
   abbrev triplets : List ℕ
   triplets = map_triplets_of swappable (sides_of d) (nat_abs q0) here
 
-  unfoldable pub ir_triplets_answer : Result ℤ Refusal
+  unfoldable pub ir_triplets_at_q : IrTriplets
   unfolding triplet_tests classes_at map_triplets_of
-  ir_triplets_answer = answer_for tests (kept triplets (size (sides_of d)))
-
-  unfoldable pub map_triplets_written : List ℤ
-  unfolding triplet_tests classes_at map_triplets_of
-  map_triplets_written = output_of tests n (map pos triplets)
-
-  unfoldable pub map_qwritten : List ℤ
-  unfolding triplet_tests classes_at
-  map_qwritten = output_of tests m (map pos here)
+  ir_triplets_at_q = record {
+    answer = giving tests (pos (kept triplets (size (sides_of d))));
+    map_triplets = output_of tests n (map pos triplets);
+    map_q = output_of tests m (map pos here);
+  }

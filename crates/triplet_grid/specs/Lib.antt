@@ -1,2 +1,3 @@
 pub mod Partner
+pub mod Classes
 pub mod IrTriplets

@@ -1,7 +1,7 @@
 // Irreducible triplet search on a generalized regular grid.
 #![tactic(auto)]
 
-ghost use Rattle.std.specs.Prelude.{IfOk, ◌≡◌, true, false, map, ◌+◌, ◌*◌, ◌≤◌, ◌<◌, T, pos, nat_abs, length, get_or, Err};
+ghost use Rattle.std.specs.Prelude.{IfOk, ◌≡◌, true, false, map, ◌+◌, ◌*◌, ◌≤◌, ◌<◌, T, pos, nat_abs, length, get_or, Ok, Err};
 ghost use Rattle.common.specs.Tested.{Accepted};
 ghost use Rattle.common.specs.Matrix.{◌▹◌};
 ghost use Rattle.common.specs.Array.{vector_of, matrix_of, items, matrices};
@@ -12,7 +12,7 @@ ghost use Rattle.grgrid.specs.ClassMap.{kept, Numbered};
 ghost use Rattle.recip_rotations.specs.Flat.{laid};
 ghost use Rattle.recip_rotations.specs.PointGroup.{room_tests};
 ghost use Rattle.triplet_grid.specs.Partner.{stabilizer, third};
-ghost use Rattle.triplet_grid.specs.IrTriplets.{map_q_of, lower_of, map_triplets_of, input_tests, classes_at, ir_triplets_answer, map_triplets_written, map_qwritten};
+ghost use Rattle.triplet_grid.specs.IrTriplets.{map_q_of, lower_of, map_triplets_of, input_tests, classes_at, ir_triplets_at_q};
 
 use common::Refusal;
 use grgrid::{Address, Grid, GridPoint, Rotation, Rotations};
@@ -186,9 +186,11 @@ fn fill_maps(
     map_triplets: &mut [i64],
     map_q: &mut [i64],
 ) -> Result<i64, Refusal>
-    ensures value { result ≡ ir_triplets_answer q0 d rotations.now is_time_reversal swappable (length map_triplets.old) (length map_q.old) }
-    ensures map_triplets_after { IfOk result (λ _. map_triplets.new ≡ map_triplets_written q0 d rotations.now is_time_reversal swappable (length map_triplets.old) (length map_q.old)) }
-    ensures map_q_after { IfOk result (λ _. map_q.new ≡ map_qwritten q0 d rotations.now is_time_reversal swappable (length map_triplets.old) (length map_q.old)) }
+    ensures value { result ≡ (ir_triplets_at_q q0 d rotations.now is_time_reversal swappable (length map_triplets.old) (length map_q.old)).answer }
+    ensures maps { let n = length map_triplets.old in
+        let m = length map_q.old in
+        let o = ir_triplets_at_q q0 d rotations.now is_time_reversal swappable n m in
+        IfOk result (λ k. record { answer = Ok k; map_triplets = map_triplets.new; map_q = map_q.new } ≡ o) }
 {
     triplet_tests(q0, d, rotations, map_triplets.len(), map_q.len())?;
     let g = grgrid::grid_of(d);
@@ -208,9 +210,10 @@ pub fn ir_triplets_at_q(
     map_triplets: &mut [i64],
     map_q: &mut [i64],
 ) -> Result<i64, Refusal>
-    ensures value { result ≡ ir_triplets_answer q0 d rotations.now is_time_reversal swappable (length map_triplets.old) (length map_q.old) }
-    ensures map_triplets_after { map_triplets.new ≡ map_triplets_written q0 d rotations.now is_time_reversal swappable (length map_triplets.old) (length map_q.old) }
-    ensures map_q_after { map_q.new ≡ map_qwritten q0 d rotations.now is_time_reversal swappable (length map_triplets.old) (length map_q.old) }
+    ensures { let n = length map_triplets.old in
+        let m = length map_q.old in
+        let o = ir_triplets_at_q q0 d rotations.now is_time_reversal swappable n m in
+        record { answer = result; map_triplets = map_triplets.new; map_q = map_q.new } ≡ o }
 {
     let answer = fill_maps(
         q0,

@@ -1,7 +1,6 @@
 -- The mark of a candidate by a table of all.
-use Rattle.std.specs.Prelude.{Bool, List, ℤ, pos}
+use Rattle.std.specs.Prelude.{Bool, List, ℤ, pos, cond}
 use Rattle.std.specs.Int.Signed.{le_z, lt_z}
-use Rattle.integer.specs.Checked.{pick}
 use Rattle.common.specs.Every.{every, some}
 use Rattle.mark_candidates.specs.declared.marks.Against.{Against}
 use Rattle.mark_candidates.specs.declared.marks.Against.TheVariants.{Longer, NeverLonger, Open}
@@ -14,7 +13,7 @@ abbrev pub never_longer : Compared → Compared → Bool
 never_longer a o = le_z (most_of a o) (pos 0)
 
 abbrev pub verdict : (longer never : Bool) → Against
-verdict longer never = pick longer Longer (pick never NeverLonger Open)
+verdict longer never = cond longer Longer (cond never NeverLonger Open)
 
 unfoldable pub against : Compared → Compared → Against
 unfolding rises
@@ -22,4 +21,4 @@ against a o = verdict (longer a o) (never_longer a o)
 
 unfoldable pub mark_of : List Compared → Compared → ℤ
 unfolding rises
-mark_of t a = pick (some (longer a) t) (pos 2) (pick (every (never_longer a) t) (pos 1) (pos 0))
+mark_of t a = cond (some (longer a) t) (pos 2) (cond (every (never_longer a) t) (pos 1) (pos 0))

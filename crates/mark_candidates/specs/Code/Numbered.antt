@@ -1,11 +1,10 @@
 -- How the contracts of the steps say the candidates: by their numbers.
-use Rattle.std.specs.Prelude.{ℕ, ◌/◌, ◌%◌, ltb, ℤ, pos, ◌-ℤ◌}
-use Rattle.integer.specs.Checked.{pick}
+use Rattle.std.specs.Prelude.{ℕ, ◌/◌, ◌%◌, ltb, ℤ, pos, ◌-ℤ◌, cond}
 use Rattle.common.specs.Matrix.{Vec}
 
 -- 0, 1, 2, -2, -1
 abbrev pub translation : ℕ → ℤ
-translation i = pick (ltb i 3) (pos i) (pos i -ℤ pos 5)
+translation i = cond (ltb i 3) (pos i) (pos i -ℤ pos 5)
 
 -- candidate i of 125
 unfoldable pub candidate_at : ℕ → Vec ℤ

@@ -1,25 +1,17 @@
-use mathlib.Core.Path.{sym, ◌∙◌}
-use lib.ListN.{length}
+use mathlib.Core.Path.{◌≡◌, ◌∙◌, ap}
+use lib.IntN.{negsuc}
+use lib.ListN.{length, replicate}
 use borrow.Author.Rules.{rules}
-use Rattle.recip_rotations.proofs.Answered.{answered, group-written, blank-written}
+use Rattle.recip_rotations.specs.PointGroup.{get_reciprocal_point_group}
+use Rattle.recip_rotations.proofs.Answered.{told, told-refused}
 use Rattle.recip_rotations.proofs.get_reciprocal_point_group.Goals as goal
 
-pub returns-in-Ok-clause-value : goal.returns-in-Ok-clause-value
-returns-in-Ok-clause-value c =
-    let a = c.args in
-    sym c.in-Ok.is ∙ answered a.rotations.now a.is_time_reversal a.is_transpose (length a.out.now) c.group_of.ensures
+pub returns-in-Ok : goal.returns-in-Ok
+unfolding get_reciprocal_point_group
+returns-in-Ok c = told (length c.args.out.now) c.group_of.ensures c.in-Ok.is
 
-pub returns-in-Ok-clause-out_after : goal.returns-in-Ok-clause-out_after
-returns-in-Ok-clause-out_after c =
-    let a = c.args in
-    group-written a.rotations.now a.is_time_reversal a.is_transpose (length a.out.now) c.group_of.ensures c.in-Ok.is
-
-pub returns-in-Err-clause-value : goal.returns-in-Err-clause-value
-returns-in-Err-clause-value c =
-    let a = c.args in
-    sym c.in-Err.is ∙ answered a.rotations.now a.is_time_reversal a.is_transpose (length a.out.now) c.group_of.ensures
-
-pub returns-in-Err-clause-out_after : goal.returns-in-Err-clause-out_after
-returns-in-Err-clause-out_after c =
-    let a = c.args in
-    blank-written a.rotations.now a.is_time_reversal a.is_transpose (length a.out.now) c.group_of.ensures (length c.group_of.new.out) c.in-Err.is (c.fill.ensures.after (λ y e. e)) (search rules)
+pub returns-in-Err : goal.returns-in-Err
+unfolding get_reciprocal_point_group
+returns-in-Err c =
+    let h : length c.group_of.new.out ≡ length c.args.out.now = search rules in
+    told-refused (length c.args.out.now) c.group_of.ensures c.in-Err.is (c.fill.ensures.after (λ y e. e) ∙ ap (λ n. replicate n (negsuc 0)) h)

@@ -6,7 +6,7 @@ use lib.IntN.{pos, nat_abs}
 use lib.ListN.{length}
 use mir.Facts.{to_z-of_z}
 use borrow.Author.Rules.{rules}
-use Rattle.std.specs.Prelude.{Ok, Err}
+use Rattle.std.specs.Prelude.{Err}
 use Rattle.integer.proofs.Fits.{held-is}
 use Rattle.common.specs.Array.{sides_of, matrices}
 use Rattle.grgrid.specs.Grid.{size}
@@ -16,7 +16,7 @@ use Rattle.grgrid.proofs.Numbers.{numbers_of}
 use Rattle.grgrid.proofs.Sizes.{grid-few}
 use Rattle.triplet_grid.specs.IrTriplets.{input_tests, classes_at, map_triplets_of}
 use Rattle.triplet_grid.proofs.Swapping.{classes-numbered}
-use Rattle.triplet_grid.proofs.Outcome.{call-accepted, input-refused, then-room, answer-is, triplets-are, classes-are}
+use Rattle.triplet_grid.proofs.Outcome.{call-accepted, input-refused, then-room, answer-refused, told}
 use Rattle.triplet_grid.proofs.fill_maps.Goals as goal
 
 pub returns-in_err-triplet_tests-clause-value : goal.returns-in_err-triplet_tests-clause-value
@@ -26,7 +26,7 @@ returns-in_err-triplet_tests-clause-value c =
     let m = length s.map_q.now in
     let h : c.from_residual.result ≡ Err c.in_err-triplet_tests.field-0.0 = search rules in
     let e = sym (c.triplet_tests.ensures ∙ ap (λ q. input_tests q s.d s.rotations.now n m) (to_z-of_z c.ranges.q0)) ∙ c.in_err-triplet_tests.was in
-    h ∙ answer-is s.q0 s.d s.rotations.now s.is_time_reversal n m s.swappable (input-refused s.q0 s.d s.rotations.now s.is_time_reversal n m e)
+    h ∙ answer-refused s.q0 s.d s.rotations.now s.is_time_reversal n m s.swappable (input-refused s.q0 s.d s.rotations.now s.is_time_reversal n m e)
 
 pub grid_of-g-requires : goal.grid_of-g-requires
 grid_of-g-requires c = (call-accepted c.triplet_tests.ensures (to_z-of_z c.ranges.q0) c.in_ok-triplet_tests.was).1.grid
@@ -56,7 +56,7 @@ returns-in_err-classes_at-clause-value c =
     let a = call-accepted c.triplet_tests.ensures (to_z-of_z c.ranges.q0) c.in_ok-triplet_tests.was in
     let h : c.from_residual-in_err-classes_at.result ≡ Err c.in_err-classes_at.field-0.0 = search rules in
     let e = sym c.in_err-classes_at.was ∙ c.classes_at.ensures.value ∙ then-room s.q0 s.d s.rotations.now s.is_time_reversal n m a.0 in
-    h ∙ answer-is s.q0 s.d s.rotations.now s.is_time_reversal n m s.swappable e
+    h ∙ answer-refused s.q0 s.d s.rotations.now s.is_time_reversal n m s.swappable e
 
 pub invariant_of-classes : goal.invariant_of-classes
 invariant_of-classes c =
@@ -84,10 +84,7 @@ returns c =
     let k = c.classes_at.ensures.map_q_after c.in_ok-classes_at.was ∙ ap₂ (λ q d. map pos (classes_at q d ms s.is_time_reversal)) q d in
     let l = numbers_of (classes_at (nat_abs s.q0) (sides_of s.d) ms s.is_time_reversal) k in
     let t = c.number_triplets in
-    record {
-      value = ap Ok (held-is _ t.type_inv ∙ t.ensures.value ∙ (λ i. pos (kept (map_triplets_of s.swappable (d i) (q i) (l i)) (size (d i)))))
-          ∙ answer-is s.q0 s.d s.rotations.now s.is_time_reversal n m s.swappable e;
-      map_triplets_after = t.ensures.map_triplets_after ∙ (λ i. map pos (map_triplets_of s.swappable (d i) (q i) (l i)))
-          ∙ triplets-are s.q0 s.d s.rotations.now s.is_time_reversal n m s.swappable e;
-      map_q_after = k ∙ classes-are s.q0 s.d s.rotations.now s.is_time_reversal n m s.swappable e;
-    }
+    let o = told s.q0 s.d s.rotations.now s.is_time_reversal n m s.swappable e
+    (held-is _ t.type_inv ∙ t.ensures.value ∙ (λ i. pos (kept (map_triplets_of s.swappable (d i) (q i) (l i)) (size (d i)))))
+    (t.ensures.map_triplets_after ∙ (λ i. map pos (map_triplets_of s.swappable (d i) (q i) (l i)))) k in
+    record { value = ap (λ o. o.answer) o; maps = o }

@@ -3,22 +3,13 @@ use lib.IntN.{negsuc}
 use lib.ListN.{length, replicate}
 use mir.Facts.{to_z-of_z}
 use borrow.Author.Rules.{rules}
-use Rattle.triplet_grid.specs.IrTriplets.{ir_triplets_answer}
-use Rattle.triplet_grid.proofs.Outcome.{refused-written}
+use Rattle.triplet_grid.specs.IrTriplets.{ir_triplets_at_q}
+use Rattle.triplet_grid.proofs.Outcome.{told-refused}
 use Rattle.triplet_grid.proofs.ir_triplets_at_q.Goals as goal
 
-pub returns-then-is_err-clause-map_triplets_after : goal.returns-then-is_err-clause-map_triplets_after
-returns-then-is_err-clause-map_triplets_after c =
+pub returns-then-is_err : goal.returns-then-is_err
+returns-then-is_err c =
     let s = c.args in
-    c.fill.ensures.after (λ y k. k) ∙ ap (λ n. replicate n (negsuc 0)) (search rules)
-    ∙ (refused-written s.q0 s.d s.rotations.now s.is_time_reversal (length s.map_triplets.now) (length s.map_q.now) s.swappable c.fill_maps-answer.result
-    (sym c.is_err.ensures.value ∙ c.if-is_err.true)
-    (c.fill_maps-answer.ensures.value ∙ ap (λ q. ir_triplets_answer q s.d s.rotations.now s.is_time_reversal s.swappable (length s.map_triplets.now) (length s.map_q.now)) (to_z-of_z c.ranges.q0))).0
-
-pub returns-then-is_err-clause-map_q_after : goal.returns-then-is_err-clause-map_q_after
-returns-then-is_err-clause-map_q_after c =
-    let s = c.args in
-    c.fill-then-is_err.ensures.after (λ y k. k) ∙ ap (λ n. replicate n (negsuc 0)) (search rules)
-    ∙ (refused-written s.q0 s.d s.rotations.now s.is_time_reversal (length s.map_triplets.now) (length s.map_q.now) s.swappable c.fill_maps-answer.result
-    (sym c.is_err.ensures.value ∙ c.if-is_err.true)
-    (c.fill_maps-answer.ensures.value ∙ ap (λ q. ir_triplets_answer q s.d s.rotations.now s.is_time_reversal s.swappable (length s.map_triplets.now) (length s.map_q.now)) (to_z-of_z c.ranges.q0))).1
+    told-refused s.q0 s.d s.rotations.now s.is_time_reversal (length s.map_triplets.now) (length s.map_q.now) s.swappable (sym c.is_err.ensures.value ∙ c.if-is_err.true)
+    (c.fill_maps-answer.ensures.value ∙ ap (λ q. (ir_triplets_at_q q s.d s.rotations.now s.is_time_reversal s.swappable (length s.map_triplets.now) (length s.map_q.now)).answer) (to_z-of_z c.ranges.q0))
+    (c.fill.ensures.after (λ y k. k) ∙ ap (λ n. replicate n (negsuc 0)) (search rules)) (c.fill-then-is_err.ensures.after (λ y k. k) ∙ ap (λ n. replicate n (negsuc 0)) (search rules))

@@ -3,12 +3,12 @@ use mathlib.Core.Path.{◌≡◌, refl, sym, ◌∙◌, ap, subst}
 use mathlib.Core.Logic.{◌↔◌}
 use mathlib.Core.List.{List, []}
 use lib.IntN.{ℤ}
-use Rattle.std.specs.Prelude.{Option, Result, Ok, Err, IfOk}
+use Rattle.std.specs.Prelude.{Option, Result, Ok, Err, IfOk, cond}
 use Rattle.std.specs.declared.cmp.Ordering.{Ordering}
 use Rattle.std.specs.declared.cmp.Ordering.TheVariants.{Less, Equal, Greater}
 use Rattle.std.specs.Ordering.{is_eq}
 use Rattle.std.proofs.lemmas.Bool.{false≢true}
-use Rattle.integer.specs.Checked.{is_zero, pick}
+use Rattle.integer.specs.Checked.{is_zero}
 use Rattle.integer.proofs.Test.{pick-cases}
 use Rattle.integer.proofs.Size.{nonzero-test}
 use Rattle.common.specs.declared.Refusal.{Refusal}
@@ -44,7 +44,7 @@ formed-right A r (walk.accepted {x = m} f) = record { regular = r; nine = refl; 
 pub answers-right : (A : Mat ℤ) → Right A (hermite3x3 A)
 unfolding hermite3x3
 answers-right A =
-    pick-cases (matrix_within 1000000 A) (pick (is_zero (det A)) (refused Singular) (formed (steps A))) (refused OutsideLimits) (Right A)
+    pick-cases (matrix_within 1000000 A) (cond (is_zero (det A)) (refused Singular) (formed (steps A))) (refused OutsideLimits) (Right A)
     (λ t. pick-cases (is_zero (det A)) (refused Singular) (formed (steps A)) (Right A)
     (λ _. tt)
     (λ n. let r : Regular A = record { nonzero = nonzero-test (det A) n } in formed-right A r (steps-form A (given-fits A t) r)))

@@ -1,7 +1,7 @@
 -- The walk to the Hermite form: every step is the Rust's matrix product from the left.
-use Rattle.std.specs.Prelude.{Bool, ◌&&◌, [], ℕ, ℤ, pos, neg_ℤ, Option, Some, None, List, Result, Ok, Err, IfOk}
+use Rattle.std.specs.Prelude.{Bool, ◌&&◌, [], ℕ, ℤ, pos, neg_ℤ, Option, Some, None, List, Result, Ok, Err, IfOk, cond}
 use Rattle.std.specs.Int.Signed.{lt_z}
-use Rattle.integer.specs.Checked.{fits64, is_zero, pick}
+use Rattle.integer.specs.Checked.{fits64, is_zero}
 use Rattle.integer.specs.Division.{div_euclid}
 use Rattle.common.specs.declared.Refusal.{Refusal}
 use Rattle.common.specs.declared.Refusal.TheVariants.{Singular, OutsideLimits, Overflow}
@@ -25,7 +25,7 @@ abbrev pub combine_by : ℕ → ℕ → Option Combination → Mat ℤ → Optio
 combine_by i j c m = c then λ c. row_step (combination_matrix i j c) m
 
 unfoldable pub clear : ℕ → ℕ → (x y : ℤ) → Mat ℤ → Option (Mat ℤ)
-clear i j x y m = pick (is_zero y) (Some m) (combine_by i j (extended_gcd x y then combination x y) m)
+clear i j x y m = cond (is_zero y) (Some m) (combine_by i j (extended_gcd x y then combination x y) m)
 
 -- of row i, which has x on the diagonal
 unfoldable pub sign : ℕ → ℤ → Mat ℤ → Option (Mat ℤ)
@@ -42,7 +42,7 @@ abbrev pub add_by : ℕ → ℕ → Option ℤ → Mat ℤ → Option (Mat ℤ)
 add_by i j q m = q then λ q. row_step (matrix_of (elementary_add_rows i j q)) m
 
 unfoldable pub reduce : ℕ → ℕ → (x p : ℤ) → Mat ℤ → Option (Mat ℤ)
-reduce i j x p m = pick (is_zero x) (Some m) (add_by i j (neg_floor x p) m)
+reduce i j x p m = cond (is_zero x) (Some m) (add_by i j (neg_floor x p) m)
 
 -- ---- the steps in order
 unfoldable pub columns : Mat ℤ → Option (Mat ℤ)
@@ -66,7 +66,7 @@ formed (Some m) = Ok (entries m [])
 formed None = refused Overflow
 
 unfoldable pub hermite3x3 : Mat ℤ → Result (List ℤ) Refusal
-hermite3x3 m = pick (matrix_within 1000000 m) (pick (is_zero (det m)) (refused Singular) (formed (steps m))) (refused OutsideLimits)
+hermite3x3 m = cond (matrix_within 1000000 m) (cond (is_zero (det m)) (refused Singular) (formed (steps m))) (refused OutsideLimits)
 
 -- an accepted call returns the form of A
 abbrev pub Promised : Mat ℤ → Result (List ℤ) Refusal → Type 0

@@ -2,7 +2,7 @@
 ghost use Rattle.std.specs.Prelude.{◌≡◌, ◌<◌};
 ghost use Rattle.common.specs.Array.{matrix_of};
 ghost use Rattle.hermite3x3.specs.Hermite3x3 as walk;
-ghost use Rattle.hermite3x3.specs.StepsView.{rows_of, entry_of};
+ghost use Rattle.hermite3x3.specs.Code.StepsView.{rows_of, entry_of};
 
 use snf_steps::{columns, elementary};
 

@@ -3,7 +3,6 @@ use mathlib.Core.Path.{◌≡◌, refl, sym, subst}
 use mathlib.Core.Logic.{◌⊎◌, inl, inr}
 use mathlib.Core.Bool.{Bool, true, false, not, ◌&&◌, ◌||◌, cond}
 use lib.Dec.{T}
-use Rattle.integer.specs.Checked.{pick}
 
 pub and_l : (a b : Bool) → T (a && b) → T a
 and_l true b t = tt
@@ -33,7 +32,7 @@ pub cond_cases : {A : Type 0} (c : Bool) (x y : A) (P : A → Type 0) → (T c �
 cond_cases true x y P f g = f tt
 cond_cases false x y P f g = g tt
 
-pub pick-cases : {A : Type 0} (c : Bool) (x y : A) (P : A → Type 0) → (T c → P x) → (T (not c) → P y) → P (pick c x y)
+pub pick-cases : {A : Type 0} (c : Bool) (x y : A) (P : A → Type 0) → (T c → P x) → (T (not c) → P y) → P (cond c x y)
 pick-cases true x y P f g = f tt
 pick-cases false x y P f g = g tt
 

@@ -1,5 +1,5 @@
 -- What fits 64 signed bits, and the answers of the checked operations.
-use Rattle.std.specs.Prelude.{Bool, true, false, ltb, eqb, ℤ, nat_abs, Result, Ok, Err}
+use Rattle.std.specs.Prelude.{Bool, ltb, eqb, ℤ, nat_abs, Result, Ok, Err, cond}
 use Rattle.std.specs.Int.Signed.{mag}
 use Rattle.integer.specs.declared.ArithmeticError.{ArithmeticError}
 use Rattle.integer.specs.declared.ArithmeticError.TheVariants.{Overflow, ZeroDivisor}
@@ -11,14 +11,10 @@ fits64 z = ltb (mag z) 0x8000000000000000
 abbrev pub is_zero : ℤ → Bool
 is_zero z = eqb (nat_abs z) 0
 
-abbrev pub pick : {X : Type 0} → Bool → X → X → X
-pick true a b = a
-pick false a b = b
-
 -- the exact number where it fits
 abbrev pub checked : ℤ → Result ℤ ArithmeticError
-checked z = pick (fits64 z) (Ok z) (Err Overflow)
+checked z = cond (fits64 z) (Ok z) (Err Overflow)
 
 -- a quotient or a remainder of a division by d: both are refused where the quotient does not fit, as in Rust
 abbrev pub divided : (d quotient result : ℤ) → Result ℤ ArithmeticError
-divided d quotient result = pick (is_zero d) (Err ZeroDivisor) (pick (fits64 quotient) (Ok result) (Err Overflow))
+divided d quotient result = cond (is_zero d) (Err ZeroDivisor) (cond (fits64 quotient) (Ok result) (Err Overflow))

@@ -1,9 +1,9 @@
 // Rust's operations on i64 with the contracts that the modules cite: whether the exact number fits, the number, or why there is none.
 #![tactic(auto)]
 
-ghost use Rattle.std.specs.Prelude.{◌≡◌, ℤ, neg_ℤ, ◌+ℤ◌, ◌-ℤ◌, ◌*ℤ◌, Err, ok_or};
+ghost use Rattle.std.specs.Prelude.{◌≡◌, ℤ, neg_ℤ, ◌+ℤ◌, ◌-ℤ◌, ◌*ℤ◌, Err, ok_or, cond};
 ghost use Rattle.std.specs.Int.Signed.{quot_z, rem_z};
-ghost use Rattle.integer.specs.Checked.{fits64, is_zero, pick, checked, divided};
+ghost use Rattle.integer.specs.Checked.{fits64, is_zero, checked, divided};
 ghost use Rattle.integer.specs.declared.ArithmeticError.TheVariants.{Overflow, ZeroDivisor};
 ghost use Rattle.integer.specs.Division.{div_euclid, rem_euclid, Divisible};
 
@@ -57,7 +57,7 @@ pub fn checked_mul(a: i64, b: i64) -> Result<i64, ArithmeticError>
 
 // A quotient or a remainder by d, or why there is none.
 fn divided(d: i64, quotient: Option<i64>) -> Result<i64, ArithmeticError>
-    ensures { result ≡ pick (is_zero d) (Err ZeroDivisor) (ok_or quotient Overflow) }
+    ensures { result ≡ cond (is_zero d) (Err ZeroDivisor) (ok_or quotient Overflow) }
 {
     if d == 0 {
         return Err(ArithmeticError::ZeroDivisor);

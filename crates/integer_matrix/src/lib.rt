@@ -6,7 +6,8 @@ ghost use Rattle.integer.specs.Checked.{fits64};
 ghost use Rattle.common.specs.Matrix.{all_axes, negate, ◌·◌, det, vector};
 ghost use Rattle.common.specs.Limits.{matrix_within};
 ghost use Rattle.common.specs.Array.{along, items, matrix_of, rows};
-ghost use Rattle.common.specs.IntegerMatrix.{products_fit, dot_fits, product_fits, cross_fits, expand_fits, minors_fit, det_fits, negation_fits, largest_of, largest};
+ghost use Rattle.common.specs.IntegerMatrix.{products_fit, dot_fits, product_fits, cross_fits, expand_fits, minors_fit};
+ghost use Rattle.common.specs.IntegerMatrix.{det_fits, negation_fits, largest_of, largest};
 
 pub use common::{flat, nested};
 

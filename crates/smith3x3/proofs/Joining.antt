@@ -1,6 +1,6 @@
 -- The definition by what the two calls returned, and the products by what `product` returned.
 use mathlib.Core.Path.{◌≡◌, refl, ◌∙◌, ap}
-use mathlib.Core.Bool.{Bool, true, false, ◌&&◌}
+use mathlib.Core.Bool.{Bool, true, false, ◌&&◌, cond}
 use mathlib.Core.List.{List, [], ◌∷◌}
 use Prim.Native.Nat.{ℕ, suc, ◌<◌}
 use native.Mathlib.Omega.{arith}
@@ -8,7 +8,6 @@ use lib.IntN.{ℤ, pos}
 use lib.ListN.{length, get_or, drop, drop_of_length-le}
 use lib.Seq.{drop-cons}
 use Rattle.std.specs.Prelude.{Option, Some, None, Result, Ok, Err}
-use Rattle.integer.specs.Checked.{pick}
 use Rattle.common.specs.declared.Refusal.{Refusal}
 use Rattle.common.specs.declared.Refusal.TheVariants.{Overflow}
 use Rattle.common.specs.Matrix.{Vec, Mat, entries, ◌·◌, diagonal}
@@ -39,7 +38,7 @@ both-products d (Some p) (Some q) = Ok (record { d_diag = d; p = p; q = q })
 pub multiplied-by : (d : Vec ℤ) (p q p' q' : Mat ℤ) → both-products (items d) (product_of p' p) (product_of q q') ≡ written (multiplied d p q p' q')
 multiplied-by d p q p' q' = by (product_fits p' p) (product_fits q q')
   where
-    by : (t u : Bool) → both-products (items d) (provided t (entries (p' · p) [])) (provided u (entries (q · q') [])) ≡ written (pick (t && u) (divided d (p' · p) (q · q')) (refused Overflow))
+    by : (t u : Bool) → both-products (items d) (provided t (entries (p' · p) [])) (provided u (entries (q · q') [])) ≡ written (cond (t && u) (divided d (p' · p) (q · q')) (refused Overflow))
     by true true = refl
     by true false = refl
     by false u = refl

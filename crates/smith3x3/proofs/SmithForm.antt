@@ -1,44 +1,43 @@
 -- The theorem: an accepted answer of smith3x3 is the Smith form, its diagonal is the only one, and a refusal is 1, 3 or 4.
 use mathlib.Core.Path.{◌≡◌, refl, sym, ◌∙◌, ap, ap₂, subst}
-use mathlib.Core.Bool.{◌&&◌}
+use mathlib.Core.Bool.{◌&&◌, cond}
 use mathlib.Core.Logic.{inr}
 use Prim.Native.Nat.{ℕ, zero, ◌<◌}
 use native.Mathlib.Nat.{mul-pos}
-use lib.Dec.{T_not, lt→ltb}
+use lib.Dec.{T_not}
 use lib.IntN.{ℤ, pos, nat_abs, ◌*ℤ◌}
-use lib.Signed.{◌<ℤ◌, lt_z_yes}
 use Rattle.std.specs.Prelude.{Option, Some, Result}
-use Rattle.integer.specs.Checked.{is_zero, pick}
+use Rattle.integer.specs.Checked.{is_zero}
 use Rattle.integer.proofs.Test.{pick-cases}
 use Rattle.integer.proofs.Size.{test-nonzero}
 use Rattle.common.specs.declared.Refusal.{Refusal}
 use Rattle.common.specs.declared.Refusal.TheVariants.{Singular, Overflow}
-use Rattle.common.specs.Matrix.{Axis, X, Y, Z, Vec, Mat, side, entry, ◌·◌, det, diagonal}
+use Rattle.common.specs.Matrix.{Vec, Mat, side, ◌·◌, det, diagonal}
 use Rattle.common.specs.IntegerMatrix.{product_fits, det_fits}
 use Rattle.common.proofs.Matrix.{product-assoc, det-product, det-diagonal}
-use Rattle.common.proofs.Unimodular.{Regular, unimodular-product}
+use Rattle.common.proofs.Unimodular.{unimodular-product}
 use Rattle.snf_steps.specs.Then.{◌then◌}
 use Rattle.snf_steps.specs.Stages.{Triple, through, second}
 use Rattle.snf_steps.specs.Finalize.{finalize}
 use Rattle.snf_steps.proofs.Accepted as steps
 use Rattle.snf_steps.proofs.Accepted.{accepted, overflowed}
 use Rattle.snf_steps.proofs.FittingEntries.{Fits}
-use Rattle.snf_steps.proofs.Disturbance.{SoundDiagonal}
-use Rattle.snf_steps.proofs.Ending.{diagonal-nonzero}
 use Rattle.snf_steps.proofs.Settled.{first-kept, second-kept}
 use Rattle.snf_steps.proofs.Ordering.{naturals, Numbers}
-use Rattle.snf_steps.proofs.FinalNumbers.{Under, Chain, finalize-under, finalize-chain}
+use Rattle.snf_steps.proofs.FinalNumbers.{Under, Chain, finalize-chain}
 use Rattle.snf3x3.specs.Snf3x3 as first
 use Rattle.snf3x3.specs.Snf3x3.{answer, round, after, rounds, begun, diagonalise, snf3x3, snf3x3_unlimited}
 use Rattle.snf3x3.proofs.Diagonal as diagonal
-use Rattle.snf3x3.proofs.Diagonal.{Diagonalises, answers-right, unlimited-answers-right, snf3x3-by}
+use Rattle.snf3x3.specs.Diagonalises.{Diagonalises}
+use Rattle.snf3x3.proofs.Signs.{naturals-positive, det-q-sign}
+use Rattle.snf3x3.proofs.Diagonal.{answers-right, unlimited-answers-right, snf3x3-by, finalize-numbers}
 use Rattle.snf3x3.specs.FewRounds.{Given}
 use Rattle.snf3x3.proofs.FewRounds.{Within, rounds-within}
 use Rattle.smith3x3.specs.Smith3x3.{Answer, refused, divided, joined, again, smith3x3}
 use Rattle.smith3x3.specs.declared.Smith.{Smith}
 use Rattle.smith3x3.specs.Written.{written, Promised}
 use Rattle.smith3x3.specs.Factors.{Factors, Brings, SmithForm}
-use Rattle.smith3x3.proofs.Unique.{factors-unique, det-q-sign}
+use Rattle.smith3x3.proofs.Unique.{factors-unique}
 
 -- ---- the numbers of an answer of snf3x3
 pub record Told (R : (x y z : ℕ) → Type 0) (d : Vec ℤ) : Type 0 where
@@ -63,22 +62,14 @@ answer-tells S n o (accepted {x = s} k) =
 
 -- the first call: the last number is a multiple of both others
 pub first-tells : (A : Mat ℤ) → Tells (λ _. Unit {0}) Under (snf3x3 A)
-first-tells A = snf3x3-by A (Tells (λ _. Unit {0}) Under) (λ _. tt) ended
-  where
-    nonzero : {s : Triple} → Regular A → (v : SoundDiagonal A s) → (k : Axis) → zero < nat_abs (entry (diagonal v.diagonal.numbers) k k)
-    nonzero r v k = subst (λ (m : Mat ℤ). zero < nat_abs (entry m k k)) v.diagonal.is (diagonal-nonzero A r v k)
-
-    ended : Regular A → (n : ℕ) (s : Triple) → SoundDiagonal A s → Tells (λ _. Unit {0}) Under (answer n (finalize s))
-    ended r n s v =
-        answer-tells (λ _. Unit {0}) n tt
-        (finalize-under v.diagonal.numbers s (nonzero r v X) (nonzero r v Y) (nonzero r v Z) (record { is = v.diagonal.is; fits = v.sound.fits }))
+first-tells A = snf3x3-by A (Tells (λ _. Unit {0}) Under) (λ _. tt) (λ r n s v. answer-tells (λ _. Unit {0}) n tt (finalize-numbers A r s v))
 
 -- ---- the second call is through in one round
 diagonal-round : (d : Vec ℤ) → round (begun (diagonal d)) ≡ through (begun (diagonal d))
 unfolding round
 diagonal-round d =
     let s = begun (diagonal d) in
-    ap (λ r. r then λ o. pick o.done (second o.left) (Some o)) (first-kept s refl refl refl refl) ∙ second-kept s refl refl
+    ap (λ r. r then λ o. cond o.done (second o.left) (Some o)) (first-kept s refl refl refl refl) ∙ second-kept s refl refl
 
 diagonal-rounds : (d : Vec ℤ) → rounds 100 0 (begun (diagonal d)) ≡ answer 1 (finalize (begun (diagonal d)))
 unfolding rounds
@@ -107,16 +98,10 @@ module _ (d : Vec ℤ) (k : Told Under d) where
       (answer-tells (λ r. r ≡ Overflow) 1 refl (finalize-chain (begun (diagonal d)) (record { x = k.x; y = k.y; z = k.z; so = k.so; shows = record { is = ap diagonal k.is; fits = k.fits } })))
 
 -- ---- the join
-positive : {n : ℕ} → zero < n → pos 0 <ℤ pos n
-positive {n} h = lt_z_yes (lt→ltb 0 n h)
-
 chain-factors : {d : Vec ℤ} → Told Chain d → Factors d
-chain-factors k = subst Factors (sym k.is) (record { positive = each; first = k.so.first; second = k.so.second })
-  where
-    each : (j : Axis) → pos 0 <ℤ side (naturals k.x k.y k.z) j
-    each X = positive k.so.positive-x
-    each Y = positive k.so.positive-y
-    each Z = positive k.so.positive-z
+chain-factors k =
+    let c = k.so in
+    subst Factors (sym k.is) (record { positive = naturals-positive c.positive-x c.positive-y c.positive-z; first = c.first; second = c.second })
 
 abbrev Right : Mat ℤ → Answer → Type 0
 Right A (refused r) = Given r
@@ -124,7 +109,7 @@ Right A (divided d P Q) = SmithForm A d P Q
 
 module _ (A : Mat ℤ) where
   form : {d e : Vec ℤ} {P Q P' Q' : Mat ℤ} → Diagonalises A d P Q → Diagonalises (diagonal d) e P' Q' → Told Chain e → SmithForm A e (P' · P) (Q · Q')
-  form {d} {e} {P} {Q} {P'} {Q'} f s c = record { brings = brings; det-p = one; det-q = det-q-sign brings one factors; factors = factors; only = λ d' P' Q' b g. factors-unique b brings g factors }
+  form {d} {e} {P} {Q} {P'} {Q'} f s c = record { brings = brings; det-p = one; det-q = det-q-sign A (P' · P) (Q · Q') brings.product one brings.unit-q factors.positive; factors = factors; only = λ d' P' Q' b g. factors-unique b brings g factors }
     where
       one : det (P' · P) ≡ pos 1
       one = det-product P' P ∙ ap₂ ◌*ℤ◌ s.det-p f.det-p

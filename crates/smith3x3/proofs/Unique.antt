@@ -1,21 +1,19 @@
--- The invariant factors of a matrix are the only ones, and det Q has the sign of det A.
+-- The invariant factors of a matrix are the only ones.
 use mathlib.Core.Path.{◌≡◌, refl, sym, ◌∙◌, ap, ap₂, subst}
 use mathlib.Core.List.{[], ◌∷◌}
-use Prim.Native.Nat.{ℕ, zero, suc, ◌*◌, ◌<◌}
-use native.Mathlib.Nat.{eq_of_mul-eq-mul_right, mul_comm, mul-pos, lt_irrefl}
+use Prim.Native.Nat.{ℕ, zero, ◌*◌, ◌<◌}
+use native.Mathlib.Nat.{eq_of_mul-eq-mul_right, mul_comm, mul-pos}
 use native.Mathlib.Omega.{arith}
-use lib.Dec.{ltb→lt, lit<}
-use lib.Signed.{◌<ℤ◌}
-use lib.IntN.{ℤ, pos, negsuc, neg_ℤ, nat_abs, ◌*ℤ◌}
+use lib.IntN.{ℤ, pos, nat_abs, ◌*ℤ◌}
 use Rattle.integer.specs.Divides.{Divides}
-use Rattle.smith3x3.specs.Factors.{Factors, Brings, sign}
+use Rattle.snf3x3.proofs.Signs.{is-size, det-brought}
+use Rattle.smith3x3.specs.Factors.{Factors, Brings}
 use Rattle.integer.proofs.Polynomial.{var, mul}
-use Rattle.integer.proofs.Ring.{one-*ℤ, *ℤ-1, *ℤ-assoc}
 use Rattle.integer.proofs.Size.{abs-mul}
 use Rattle.integer.proofs.Reify.{ring, reify}
-use Rattle.integer.proofs.Divides.{divides-refl, divides-zero, divides-trans, divides-comb, divides-antisym, unit-square}
+use Rattle.integer.proofs.Divides.{divides-refl, divides-zero, divides-trans, divides-comb, divides-antisym}
 use Rattle.common.specs.Matrix.{Axis, X, Y, Z, Vec, Mat, side, entry, entries, dot, integers, ◌·◌, det, adjugate, diagonal, inverse}
-use Rattle.common.proofs.Matrix.{𝔸, 𝔹, ◌⊡◌, adjugate_e, solve_mat, entry-matrix, product-assoc, identity-product, product-identity, det-product, det-diagonal, diagonal_e, column, sides}
+use Rattle.common.proofs.Matrix.{𝔸, 𝔹, ◌⊡◌, adjugate_e, solve_mat, entry-matrix, product-assoc, identity-product, product-identity, diagonal_e, column, sides}
 use Rattle.common.proofs.Unimodular.{Unimodular, unimodular-inverse, inverse_left, inverse-right}
 
 -- ---- the adjugate of a product
@@ -64,11 +62,6 @@ module _ {A P Q B : Mat ℤ} (e : Brings A P Q B) where
       (common-left (adjugate Q) (common-right (adjugate P) c))
 
 -- ---- positive numbers, each of which divides the next
--- a positive number by its size
-is-size : {z : ℤ} → pos 0 <ℤ z → (pos (nat_abs z) ≡ z) × (zero < nat_abs z)
-is-size {z = pos n} h = (refl, ltb→lt 0 n h.lt)
-is-size {z = negsuc n} h = absurd h.lt
-
 first-common : {d : Vec ℤ} → Factors d → Common d.x (diagonal d)
 first-common {d} f = record { each = at }
   where
@@ -125,12 +118,9 @@ module _ {A P Q P' Q' : Mat ℤ} {d e : Vec ℤ} (p : Brings A P Q (diagonal d))
       subst (λ (m : Mat ℤ). Divides (d.x *ℤ d.y) m.i) (adjugate-diagonal e) ((minors-along q (minors-along (brings-back p) (minors-common f))).each Z Z)
 
 -- ---- determinants
-pub det-brought : {A P Q : Mat ℤ} {d : Vec ℤ} → Brings A P Q (diagonal d) → d.x *ℤ d.y *ℤ d.z ≡ det P *ℤ det A *ℤ det Q
-det-brought {A} {P} {Q} {d} p = sym (det-diagonal (side d)) ∙ ap det (sym p.product) ∙ det-product (P · A) Q ∙ ap (λ z. z *ℤ det Q) (det-product P A)
-
 det-size : {A P Q : Mat ℤ} {d : Vec ℤ} → Brings A P Q (diagonal d) → nat_abs (det A) ≡ nat_abs (d.x *ℤ d.y *ℤ d.z)
 det-size {A} {P} {Q} {d} p =
-    sym (ap nat_abs (det-brought p)
+    sym (ap nat_abs (det-brought A P Q p.product)
     ∙ abs-mul (det P *ℤ det A) (det Q) ∙ ap₂ (λ x y. x * y) (abs-mul (det P) (det A) ∙ ap (λ x. x * nat_abs (det A)) p.unit-p) p.unit-q ∙ one (nat_abs (det A)))
   where
     one : (n : ℕ) → 1 * n * 1 ≡ n
@@ -159,28 +149,3 @@ factors-unique {d = d} {e = e} p q f g =
   where
     same : (k : Axis) → nat_abs (side d k) ≡ nat_abs (side e k) → side d k ≡ side e k
     same k n = same_number (is-size (f.positive k)).0 (is-size (g.positive k)).0 n
-
--- ---- the sign of det Q
-sign-positive : (n : ℕ) → zero < n → sign (pos n) ≡ pos 1
-sign-positive zero h = absurd (lt_irrefl zero h)
-sign-positive (suc n) h = refl
-
-sign-negative : (n : ℕ) → zero < n → sign (neg_ℤ (pos n)) ≡ negsuc 0
-sign-negative zero h = absurd (lt_irrefl zero h)
-sign-negative (suc n) h = refl
-
--- a number by a unit is positive: the unit is its sign
-sign_of : (a q : ℤ) (n : ℕ) → zero < n → nat_abs q ≡ 1 → a *ℤ q ≡ pos n → q ≡ sign a
-sign_of a q n h u e = by q u (sym (*ℤ-assoc a q q ∙ ap (λ z. a *ℤ z) (unit-square q u) ∙ *ℤ-1 a) ∙ ap (λ z. z *ℤ q) e)
-  where
-    by : (q : ℤ) → nat_abs q ≡ 1 → a ≡ pos n *ℤ q → q ≡ sign a
-    by (pos k) u f = ap pos u ∙ sym (ap sign f ∙ sign-positive (n * k) (mul-pos h (subst (λ (k : ℕ). zero < k) (sym u) (lit< tt))))
-    by (negsuc k) u f = ap negsuc (let z : k ≡ 0 = omega arith in z) ∙ sym (ap sign f ∙ sign-negative (n * suc k) (mul-pos h (let z : zero < suc k = omega arith in z)))
-
-pub det-q-sign : {A P Q : Mat ℤ} {d : Vec ℤ} → Brings A P Q (diagonal d) → det P ≡ pos 1 → Factors d → det Q ≡ sign (det A)
-det-q-sign {A} {P} {Q} {d} p one f =
-    let x = is-size (f.positive X) in
-    let y = is-size (f.positive Y) in
-    let z = is-size (f.positive Z) in
-    sign_of (det A) (det Q) (nat_abs d.x * nat_abs d.y * nat_abs d.z) (mul-pos (mul-pos x.1 y.1) z.1) p.unit-q
-    (sym (ap (λ w. w *ℤ det Q) (ap (λ w. w *ℤ det A) one ∙ one-*ℤ (det A))) ∙ sym (det-brought p) ∙ (λ i. sym x.0 i *ℤ sym y.0 i *ℤ sym z.0 i))

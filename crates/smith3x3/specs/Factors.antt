@@ -1,7 +1,8 @@
 -- The words of the theorem: invariant factors, and a matrix brought to them.
-use Rattle.std.specs.Prelude.{◌≡◌, zero, suc, ℤ, pos, negsuc, nat_abs, ◌<ℤ◌}
+use Rattle.std.specs.Prelude.{◌≡◌, ℤ, pos, nat_abs, ◌<ℤ◌}
 use Rattle.integer.specs.Divides.{Divides}
 use Rattle.common.specs.Matrix.{Axis, Vec, Mat, side, ◌·◌, det, diagonal}
+use Rattle.snf3x3.specs.Diagonalises.{sign}
 
 -- positive numbers, each of which divides the next
 pub record Factors (d : Vec ℤ) : Type 0 where
@@ -14,12 +15,6 @@ pub record Brings (A P Q B : Mat ℤ) : Type 0 where
   pub product : P · A · Q ≡ B
   pub unit-p : nat_abs (det P) ≡ 1
   pub unit-q : nat_abs (det Q) ≡ 1
-
--- 1, 0 or -1
-abbrev pub sign : ℤ → ℤ
-sign (pos zero) = pos 0
-sign (pos (suc n)) = pos 1
-sign (negsuc n) = negsuc 0
 
 -- the Smith form: d with P and Q, and no other d' has P' and Q'
 pub record SmithForm (A : Mat ℤ) (d : Vec ℤ) (P Q : Mat ℤ) : Type 0 where

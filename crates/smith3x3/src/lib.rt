@@ -32,7 +32,9 @@ fn product(l: [i64; 9], r: [i64; 9]) -> Option<[i64; 9]>
 
 // The two P and the two Q joined.
 fn multiplied(first: Snf, second: Snf) -> Result<Smith, Refusal>
-    ensures { result ≡ written (smith.multiplied (vector_of second.d_diag) (matrix_at first.p 0) (matrix_at first.q 0) (matrix_at second.p 0) (matrix_at second.q 0)) }
+    ensures { let p = matrix_at first.p 0 in
+        let q = matrix_at first.q 0 in
+        result ≡ written (smith.multiplied (vector_of second.d_diag) p q (matrix_at second.p 0) (matrix_at second.q 0)) }
 {
     let p = product(second.p, first.p).ok_or(Refusal::Overflow)?;
     let q = product(first.q, second.q).ok_or(Refusal::Overflow)?;

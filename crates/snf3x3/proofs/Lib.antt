@@ -1,4 +1,5 @@
 pub mod Passes
+pub mod Signs
 pub mod Diagonal
 pub mod FailedRound
 pub mod FewRounds

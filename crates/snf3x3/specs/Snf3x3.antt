@@ -1,6 +1,6 @@
 -- Diagonalising a 3 by 3 matrix: the walk of the Rust's snf3x3 on whole numbers, with its rounds.
-use Rattle.std.specs.Prelude.{ℕ, zero, suc, ℤ, Option, Some, None}
-use Rattle.integer.specs.Checked.{is_zero, pick}
+use Rattle.std.specs.Prelude.{ℕ, zero, suc, ℤ, Option, Some, None, cond}
+use Rattle.integer.specs.Checked.{is_zero}
 use Rattle.common.specs.declared.Refusal.{Refusal}
 use Rattle.common.specs.declared.Refusal.TheVariants.{Singular, NotConverged, OutsideLimits, Overflow}
 use Rattle.common.specs.Limits.{matrix_within}
@@ -20,12 +20,12 @@ answer n None = refused Overflow
 answer n (Some s) = diagonalised (record { x = s.a.a; y = s.a.e; z = s.a.i }) s.p (transpose s.q) n
 
 unfoldable pub round : Triple → Option Outcome
-round s = first s then λ o. pick o.done (second o.left) (Some o)
+round s = first s then λ o. cond o.done (second o.left) (Some o)
 
 -- after n rounds: the answer, or what the other rounds give
 abbrev pub after : ℕ → (Triple → Answer) → Option Outcome → Answer
 after n more None = refused Overflow
-after n more (Some o) = pick o.done (answer n (finalize o.left)) (more o.left)
+after n more (Some o) = cond o.done (answer n (finalize o.left)) (more o.left)
 
 -- m rounds are left, n were made
 unfoldable pub rounds : (m n : ℕ) → Triple → Answer
@@ -38,11 +38,11 @@ begun m = record { a = m; p = identity; q = identity }
 
 -- the walk, on a matrix whose determinant fits
 abbrev pub diagonalise : Mat ℤ → Answer
-diagonalise m = pick (is_zero (det m)) (refused Singular) (rounds 100 0 (begun m))
+diagonalise m = cond (is_zero (det m)) (refused Singular) (rounds 100 0 (begun m))
 
 unfoldable pub snf3x3 : Mat ℤ → Answer
-snf3x3 m = pick (matrix_within 1000000 m) (diagonalise m) (refused OutsideLimits)
+snf3x3 m = cond (matrix_within 1000000 m) (diagonalise m) (refused OutsideLimits)
 
 -- the same without the limit of the entries
 unfoldable pub snf3x3_unlimited : Mat ℤ → Answer
-snf3x3_unlimited m = pick (det_fits m) (diagonalise m) (refused Overflow)
+snf3x3_unlimited m = cond (det_fits m) (diagonalise m) (refused Overflow)

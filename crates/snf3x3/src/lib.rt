@@ -1,12 +1,13 @@
 // Diagonalising a 3 by 3 integer matrix.
 #![tactic(auto)]
 
-ghost use Rattle.std.specs.Prelude.{◌≡◌, ◌≤◌, T, Some, Ok};
-ghost use Rattle.common.specs.Array.{matrix_of};
+ghost use Rattle.std.specs.Prelude.{◌≡◌, ◌≤◌, T, Some, Ok, IfOk};
+ghost use Rattle.common.specs.Array.{vector_of, matrix_of, matrix_at};
 ghost use Rattle.common.specs.IntegerMatrix.{det_fits};
-ghost use Rattle.snf_steps.specs.StagesView.{three_of, outcome_of};
+ghost use Rattle.snf_steps.specs.Code.StagesView.{three_of, outcome_of};
 ghost use Rattle.snf3x3.specs.Snf3x3 as walk;
 ghost use Rattle.snf3x3.specs.Written.{written};
+ghost use Rattle.snf3x3.specs.Diagonalises.{Diagonalises};
 ghost use Rattle.snf3x3.specs.FewRounds.{RoundsWithin};
 
 use common::Refusal;
@@ -80,6 +81,7 @@ fn diagonalise(a: [[i64; 3]; 3]) -> Result<Snf, Refusal>
 #[tactic(auto, using(crate::proofs::FewRounds::call_within), unfolding(crate::specs::Snf3x3::snf3x3))]
 pub fn snf3x3(a: [[i64; 3]; 3]) -> Result<Snf, Refusal>
     ensures value { result ≡ written (walk.snf3x3 (matrix_of a)) }
+    ensures diagonalises { IfOk result (λ s. Diagonalises (matrix_of a) (vector_of s.d_diag) (matrix_at s.p 0) (matrix_at s.q 0)) }
     ensures rounds_within { RoundsWithin 82 result }
 {
     if !common::matrix_within(a, 1000000) {

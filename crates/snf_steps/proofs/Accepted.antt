@@ -1,9 +1,8 @@
 -- What holds of every result that is not an overflow.
 use mathlib.Core.Path.{◌≡◌, subst}
-use mathlib.Core.Bool.{Bool, true, false, not}
+use mathlib.Core.Bool.{Bool, true, false, not, cond}
 use lib.Dec.{T}
 use Rattle.std.specs.Prelude.{Option, Some, None}
-use Rattle.integer.specs.Checked.{pick}
 use Rattle.integer.proofs.Test.{pick-cases}
 use Rattle.snf_steps.specs.Then.{◌then◌, provided, when}
 
@@ -41,7 +40,7 @@ module _ {X : Type 0} {P : X → Type 0} where
   accepted-provided true x h = accepted (h tt)
   accepted-provided false x h = overflowed
 
-  pub accepted-pick : (b : Bool) (x y : Option X) → (T b → Accepted P x) → (T (not b) → Accepted P y) → Accepted P (pick b x y)
+  pub accepted-pick : (b : Bool) (x y : Option X) → (T b → Accepted P x) → (T (not b) → Accepted P y) → Accepted P (cond b x y)
   accepted-pick b x y h k = pick-cases b x y (Accepted P) h k
 
   pub accepted-when : (b : Bool) (f : X → Option X) (x : X) → (T b → Accepted P (f x)) → (T (not b) → P x) → Accepted P (when b f x)

@@ -1,13 +1,13 @@
 -- The column steps: they multiply by a matrix with a determinant of 1 or -1, clear the column below its pivot, and leave a pivot that is not 0.
 use mathlib.Core.Path.{◌≡◌, refl, sym, ◌∙◌, ap, ap₂, subst}
-use mathlib.Core.Bool.{Bool, true, false, not, ◌&&◌}
+use mathlib.Core.Bool.{Bool, true, false, not, ◌&&◌, cond}
 use mathlib.Core.List.{[], ◌∷◌}
 use Prim.Native.Nat.{ℕ, zero, ◌<◌}
 use native.Mathlib.Omega.{arith}
 use lib.Dec.{T}
 use lib.IntN.{ℤ, pos, neg_ℤ, nat_abs, ◌+ℤ◌, ◌*ℤ◌}
 use Rattle.std.specs.Prelude.{Some, None, Option}
-use Rattle.integer.specs.Checked.{is_zero, pick}
+use Rattle.integer.specs.Checked.{is_zero}
 use Rattle.integer.specs.Divides.{Divides}
 use Rattle.integer.proofs.Divides.{divides-refl, divides-mul, divides-zero}
 use Rattle.integer.proofs.Test.{pick-cases}
@@ -146,8 +146,8 @@ unfolding first_column
 first-column s w r =
     let m = s.a in
     let Goal : Option ℕ → Type 0 = λ p. Accepted (FirstCleared s) (clear_from p s) in
-    pick-cases (is_zero m.a) (pick (is_zero m.d) (pick (is_zero m.g) None (Some 2)) (Some 1)) (Some 0) Goal
-    (λ x. pick-cases (is_zero m.d) (pick (is_zero m.g) None (Some 2)) (Some 1) Goal
+    pick-cases (is_zero m.a) (cond (is_zero m.d) (cond (is_zero m.g) None (Some 2)) (Some 1)) (Some 0) Goal
+    (λ x. pick-cases (is_zero m.d) (cond (is_zero m.g) None (Some 2)) (Some 1) Goal
     (λ y. pick-cases (is_zero m.g) None (Some 2) Goal
     (λ z. absurd (first-not-zero m r (zero_test m.a x) (zero_test m.d y) (zero_test m.g z)))
     (λ z. clear-below s 2 (swapped-to-top 2 s (record { unit = refl }) (nonzero-by (ap (λ (k : Mat ℤ). k.a) (swap-02 m)) (nonzero-test m.g z)) (turned-02 s))))
@@ -224,7 +224,7 @@ second-not-zero m k r p q =
 
 -- by the tests of e and h
 second-to-top : (s : Pair) (x y : Bool) → Fits s.a → Block s.a → (T (not x) → zero < nat_abs s.a.e) → (T (not y) → zero < nat_abs s.a.h) → (T x → T y → ⊥)
-    → Accepted (SecondPivoted s) (pick (x && not y) (multiply (matrix_of (elementary_swap_rows 1 2)) s) (Some s))
+    → Accepted (SecondPivoted s) (cond (x && not y) (multiply (matrix_of (elementary_swap_rows 1 2)) s) (Some s))
 second-to-top s true true w k p q n = absurd (n tt tt)
 second-to-top s false y w k p q n = accepted (record { moves = moves-none s; fits = w; block = k; nonzero = p tt; gathers = record { each = λ d x y. (x, y); corner = refl } })
 second-to-top s true false w k p q n =

@@ -1,13 +1,13 @@
 -- After a disturbance by `finalize` one turn of `first` or `second` is through, and leaves a diagonal matrix.
 use mathlib.Core.Path.{◌≡◌, refl, sym, ◌∙◌, ap, subst}
-use mathlib.Core.Bool.{Bool, true, false, not, ◌&&◌}
+use mathlib.Core.Bool.{Bool, true, false, not, ◌&&◌, cond}
 use mathlib.Core.List.{[], ◌∷◌}
 use mathlib.Core.Logic.{◌⊎◌, ⊎_elim}
 use Prim.Native.Nat.{ℕ, zero, ◌<◌}
 use lib.Dec.{T}
 use lib.IntN.{ℤ, pos, neg_ℤ, nat_abs, ◌+ℤ◌, ◌*ℤ◌, zero-*ℤ}
 use Rattle.std.specs.Prelude.{Some, None}
-use Rattle.integer.specs.Checked.{is_zero, pick}
+use Rattle.integer.specs.Checked.{is_zero}
 use Rattle.integer.specs.Divides.{Divides}
 use Rattle.integer.proofs.Reify.{ring, reify}
 use Rattle.integer.proofs.Test.{and_l}
@@ -45,11 +45,11 @@ make-zero-still : (i j : ℕ) (a b : ℤ) (s : Pair) → b ≡ pos 0 → make_ze
 unfolding make_zero
 make-zero-still i j a b s e = ap (λ b. make_zero i j a b s) e
 
-second-picked : {A : Type 0} (b : Bool) (x y : A) → T (not b) → pick b x y ≡ y
+second-picked : {A : Type 0} (b : Bool) (x y : A) → T (not b) → cond b x y ≡ y
 second-picked true x y t = absurd t
 second-picked false x y t = refl
 
-no-swap : {A : Type 0} (b c : Bool) (x y : A) → T (not b) → pick (b && c) x y ≡ y
+no-swap : {A : Type 0} (b c : Bool) (x y : A) → T (not b) → cond (b && c) x y ≡ y
 no-swap true c x y t = absurd t
 no-swap false c x y t = refl
 
@@ -72,7 +72,7 @@ unfolding first_column
 first-sweeps x y z w p f h =
     let m = first_disturbed x y z w in
     let s : Pair = record { a = m; p = p } in
-    subst (λ v. Accepted (FirstSwept x y z w) (clear_from v s)) (sym (second-picked (is_zero x) (pick (is_zero y) (pick (is_zero (pos 0)) None (Some 2)) (Some 1)) (Some 0) (test-nonzero x h)))
+    subst (λ v. Accepted (FirstSwept x y z w) (clear_from v s)) (sym (second-picked (is_zero x) (cond (is_zero y) (cond (is_zero (pos 0)) None (Some 2)) (Some 1)) (Some 0) (test-nonzero x h)))
     (accepted-bind (zero_first_column 2) (make-zero-does 0 1 x y s refl h (entry-size f Y X) f) (λ u c.
     let b = c.by in
     let rows = ap (λ (v : Pair). v.a) c.is ∙ combine-01 b.s b.t (neg_ℤ b.v) b.u m in

@@ -1,13 +1,13 @@
 -- The divisions of the extended gcd, counted: so many make the whole walk and no fewer do, and there are at most 127 of them for numbers of 64 bits.
 use mathlib.Core.Path.{◌≡◌, refl, sym, ◌∙◌, ap, subst}
-use mathlib.Core.Bool.{Bool, true, false}
+use mathlib.Core.Bool.{Bool, true, false, cond}
 use Prim.Native.Nat.{ℕ, zero, suc, ◌+◌, ◌^◌, ◌≤◌, ◌<◌}
 use mathlib.Core.Logic.{⊎_elim}
 use native.Mathlib.Nat.{le_of_lt, lt_of_lt_of_le, eq-zero-or-pos}
 use native.Mathlib.Omega.{arith}
 use lib.IntN.{ℤ, nat_abs}
 use Rattle.std.specs.Prelude.{Option, Some, None}
-use Rattle.integer.specs.Checked.{is_zero, pick}
+use Rattle.integer.specs.Checked.{is_zero}
 use Rattle.integer.specs.Division.{rem_euclid}
 use Rattle.integer.proofs.Test.{pick-cases}
 use Rattle.integer.proofs.Order.{NonNeg}
@@ -30,10 +30,10 @@ module _ (n : ℕ) (e : Euclid) where
   trimmed h None overflowed = refl
 
   counted : ((m : Option Euclid) → Accepted (λ f. f ≡ divided e) m → (m then euclid more) ≡ (m then euclid n)) → (b : Bool) → is_zero e.r1 ≡ b
-      → euclid (pick b 0 (suc more)) e ≡ pick b (Some e) (step e then euclid n)
+      → euclid (cond b 0 (suc more)) e ≡ cond b (Some e) (step e then euclid n)
   unfolding euclid
   counted h true p = refl
-  counted h false p = ap (λ (t : Bool). pick t (Some e) (step e then euclid more)) p ∙ h (step e) (step-divides e)
+  counted h false p = ap (λ (t : Bool). cond t (Some e) (step e then euclid more)) p ∙ h (step e) (step-divides e)
 
 pub divisions-enough : (n : ℕ) (e : Euclid) → euclid (divisions n e.r e.r1) e ≡ euclid n e
 unfolding divisions euclid

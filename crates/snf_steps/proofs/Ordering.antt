@@ -1,6 +1,6 @@
 -- The numbers on the diagonal through the first steps of `finalize`: signs and order.
 use mathlib.Core.Path.{◌≡◌, refl, sym, ◌∙◌, ap, subst}
-use mathlib.Core.Bool.{Bool, true, false, not}
+use mathlib.Core.Bool.{Bool, true, false, not, cond}
 use Prim.Native.Nat.{ℕ, zero, ◌≤◌, ◌<◌}
 use native.Mathlib.Omega.{arith}
 use lib.Dec.{T, ltb, ltb→lt, nltb→le}
@@ -8,7 +8,6 @@ use lib.IntN.{ℤ, pos, negsuc, neg_ℤ, nat_abs}
 use lib.Signed.{lt_z}
 use borrow.Author.Tests.{le-ltb}
 use Rattle.std.specs.Prelude.{Option, Some}
-use Rattle.integer.specs.Checked.{pick}
 use Rattle.common.specs.Matrix.{Vec, Mat, transpose, ◌·◌, diagonal}
 use Rattle.common.specs.Array.{matrix_of}
 use Rattle.snf_steps.specs.Then.{when}
@@ -88,27 +87,27 @@ make-diag-positive-shows v s k =
 
 -- ---- the lesser and the greater of two numbers
 abbrev pub lesser : ℕ → ℕ → ℕ
-lesser a b = pick (ltb b a) b a
+lesser a b = cond (ltb b a) b a
 
 abbrev pub greater : ℕ → ℕ → ℕ
-greater a b = pick (ltb b a) a b
+greater a b = cond (ltb b a) a b
 
 pub order-cases : (a b : ℕ) (P : ℕ → ℕ → Type 0) → (a ≤ b → P a b) → (b < a → P b a) → P (lesser a b) (greater a b)
 order-cases a b P f g = go (ltb b a) (λ t. f (nltb→le b a t)) (λ t. g (ltb→lt b a t))
   where
-    go : (t : Bool) → (T (not t) → P a b) → (T t → P b a) → P (pick t b a) (pick t a b)
+    go : (t : Bool) → (T (not t) → P a b) → (T t → P b a) → P (cond t b a) (cond t a b)
     go true f g = g tt
     go false f g = f tt
 
 pub already : {a b : ℕ} → a ≤ b → (lesser a b ≡ a) × (greater a b ≡ b)
-already {a} {b} h = let e = le-ltb b a h in (ap (λ (t : Bool). pick t b a) e, ap (λ (t : Bool). pick t a b) e)
+already {a} {b} h = let e = le-ltb b a h in (ap (λ (t : Bool). cond t b a) e, ap (λ (t : Bool). cond t a b) e)
 
 -- ---- order
 module _ (a b : ℕ) where
   exchanged : (P : ℕ → ℕ → Triple → Type 0) (swap : Triple → Option Triple) (s : Triple) → P a b s → Accepted (P b a) (swap s) → Accepted (P (lesser a b) (greater a b)) (when (ltb b a) swap s)
   exchanged P swap s k e = go (ltb b a)
     where
-      go : (t : Bool) → Accepted (P (pick t b a) (pick t a b)) (when t swap s)
+      go : (t : Bool) → Accepted (P (cond t b a) (cond t a b)) (when t swap s)
       go true = e
       go false = accepted k
 

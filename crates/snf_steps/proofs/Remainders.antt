@@ -1,11 +1,11 @@
 -- The loop of the extended gcd, with its count: where it ends, and one more division.
 use mathlib.Core.Path.{◌≡◌, refl, sym, ◌∙◌, ap}
-use mathlib.Core.Bool.{Bool, true, false, ◌&&◌}
+use mathlib.Core.Bool.{Bool, true, false, ◌&&◌, cond}
 use Prim.Native.Nat.{ℕ, zero, suc, ◌+◌}
 use native.Mathlib.Omega.{arith}
 use lib.IntN.{ℤ, ◌*ℤ◌, ◌-ℤ◌}
 use Rattle.std.specs.Prelude.{Option, Some, None}
-use Rattle.integer.specs.Checked.{fits64, is_zero, pick}
+use Rattle.integer.specs.Checked.{fits64, is_zero}
 use Rattle.integer.specs.Division.{div_euclid, rem_euclid}
 use Rattle.snf_steps.specs.Then.{◌then◌, provided}
 use Rattle.snf_steps.specs.declared.gcd.Euclid.{Euclid}
@@ -65,7 +65,7 @@ pub ended : (n i : ℕ) (e : Euclid) → is_zero e.r1 ≡ true → walked n i e 
 unfolding euclid divisions
 ended zero i e h = ap (λ (k : ℕ). after k e) (no_more i)
 ended (suc n) i e h =
-    ap (λ (t : Bool). pick t (Some e) (step e then euclid n) then after (i + pick t 0 (suc (divisions n e.r1 (rem_euclid e.r e.r1))))) h
+    ap (λ (t : Bool). cond t (Some e) (step e then euclid n) then after (i + cond t 0 (suc (divisions n e.r1 (rem_euclid e.r e.r1))))) h
     ∙ ap (λ (k : ℕ). after k e) (no_more i)
 
 pub none_left : {n : ℕ} (i : ℕ) (e : Euclid) → n ≡ 0 → walked n i e ≡ after i e
@@ -86,5 +86,5 @@ module _ (n i : ℕ) (e : Euclid) where
   pub divided : {k : ℕ} {r : Option Euclid} → k ≡ suc n → is_zero e.r1 ≡ false → r ≡ step e → walked k i e ≡ (r then walked n (i + 1))
   unfolding euclid divisions
   divided h t p =
-      ap (λ (k : ℕ). walked k i e) h ∙ ap (λ (t : Bool). pick t (Some e) (step e then euclid n) then after (i + pick t 0 (suc more))) t
+      ap (λ (k : ℕ). walked k i e) h ∙ ap (λ (t : Bool). cond t (Some e) (step e then euclid n) then after (i + cond t 0 (suc more))) t
       ∙ stepped (step e) (gcd.step-divides e) ∙ ap (λ (r : Option Euclid). r then walked n (i + 1)) (sym p)

@@ -1,6 +1,6 @@
 -- Where a row and a column are clear already, or a diagonal is settled, the steps change nothing.
 use mathlib.Core.Path.{◌≡◌, refl, sym, ◌∙◌, ap, ap₂}
-use mathlib.Core.Bool.{Bool, true, false, not, ◌&&◌}
+use mathlib.Core.Bool.{Bool, true, false, not, ◌&&◌, cond}
 use Prim.Native.Nat.{ℕ}
 use lib.Dec.{T, leb→le}
 use lib.IntN.{ℤ, pos, negsuc}
@@ -9,7 +9,7 @@ use lib.Signed.{lt_z, le_z, rem_z}
 use Rattle.std.specs.Prelude.{Option, Some, None}
 use Rattle.integer.proofs.Test.{is_true, and_l, and_r}
 use Rattle.integer.proofs.Size.{zero_test}
-use Rattle.integer.specs.Checked.{is_zero, pick}
+use Rattle.integer.specs.Checked.{is_zero}
 use Rattle.common.specs.Array.{matrix_of}
 use Rattle.snf_steps.specs.Then.{◌then◌, provided, when}
 use Rattle.snf_steps.specs.Gcd.{extended_gcd}
@@ -18,7 +18,7 @@ use Rattle.snf_steps.specs.declared.columns.Combination.{Combination}
 use Rattle.snf_steps.specs.Columns.{Pair, multiply, combination, combine_by, make_zero, clear_from, first_column, second_column, zero_second_column}
 use Rattle.snf_steps.specs.Stages.{Triple, rows_of, columns_of, with_rows, with_columns, on_columns, one_loop, through, first_tests, first_end, first, second_tests, second_end, second}
 use Rattle.snf_steps.specs.Finalize.{swap_diag_elems, order01, order12, finalize_sort, finalize_disturb, disturb01, disturb12, leaving, put_in_order}
-use Rattle.snf_steps.specs.Settled.{divides, in_order, off_diagonal_zero, settled}
+use Rattle.snf_steps.specs.Code.Settled.{divides, in_order, off_diagonal_zero, settled}
 
 not-below : (x y : ℤ) → T (le_z x y) → lt_z y x ≡ false
 not-below (pos a) (pos b) t = le-ltb b a (leb→le a b t)
@@ -33,21 +33,21 @@ zero-kept i j a s e = ap (λ b. make_zero i j a b s) e
 -- and where b is not 0, the step is that of the gcd
 pub zero-made : (i j : ℕ) (a b : ℤ) (s : Pair) {c : Option Combination} → is_zero b ≡ false → c ≡ (extended_gcd a b then combination a b) → combine_by i j c s ≡ make_zero i j a b s
 unfolding make_zero
-zero-made i j a b s n e = λ k. pick (sym n k) (Some s) (combine_by i j (e k) s)
+zero-made i j a b s n e = λ k. cond (sym n k) (Some s) (combine_by i j (e k) s)
 
 first-column-kept : (s : Pair) → s.a.d ≡ pos 0 → s.a.g ≡ pos 0 → first_column s ≡ Some s
 unfolding first_column
-first-column-kept s d0 g0 = ap₂ (λ d g. clear_from (pick (is_zero s.a.a) (pick (is_zero d) (pick (is_zero g) None (Some 2)) (Some 1)) (Some 0)) s) d0 g0 ∙ from (is_zero s.a.a)
+first-column-kept s d0 g0 = ap₂ (λ d g. clear_from (cond (is_zero s.a.a) (cond (is_zero d) (cond (is_zero g) None (Some 2)) (Some 1)) (Some 0)) s) d0 g0 ∙ from (is_zero s.a.a)
   where
-    from : (t : Bool) → clear_from (pick t None (Some 0)) s ≡ Some s
+    from : (t : Bool) → clear_from (cond t None (Some 0)) s ≡ Some s
     from true = refl
     from false = ap (λ r. r then λ s. make_zero 0 2 s.a.a s.a.g s) (zero-kept 0 1 s.a.a s d0) ∙ zero-kept 0 2 s.a.a s g0
 
 second-column-kept : (s : Pair) → s.a.h ≡ pos 0 → second_column s ≡ Some s
 unfolding second_column
 second-column-kept s h0 =
-    ap (λ h. pick (is_zero s.a.e && not (is_zero h)) (multiply (matrix_of (elementary_swap_rows 1 2)) s) (Some s) then zero_second_column) h0
-    ∙ ap (λ (t : Bool). pick t (multiply (matrix_of (elementary_swap_rows 1 2)) s) (Some s) then zero_second_column) (and-false (is_zero s.a.e)) ∙ zero-kept 1 2 s.a.e s h0
+    ap (λ h. cond (is_zero s.a.e && not (is_zero h)) (multiply (matrix_of (elementary_swap_rows 1 2)) s) (Some s) then zero_second_column) h0
+    ∙ ap (λ (t : Bool). cond t (multiply (matrix_of (elementary_swap_rows 1 2)) s) (Some s) then zero_second_column) (and-false (is_zero s.a.e)) ∙ zero-kept 1 2 s.a.e s h0
   where
     and-false : (b : Bool) → (b && false) ≡ false
     and-false true = refl

@@ -1,7 +1,7 @@
 -- The steps that clear a column, on a and the matrix that goes with it: P, or the transpose of Q.
-use Rattle.std.specs.Prelude.{Bool, not, ◌&&◌, [], ◌∷◌, ℕ, eqb, ℤ, pos, neg_ℤ, get_or, Option, Some, None}
+use Rattle.std.specs.Prelude.{Bool, not, ◌&&◌, [], ◌∷◌, ℕ, eqb, ℤ, pos, neg_ℤ, get_or, Option, Some, None, cond}
 use Rattle.std.specs.Int.Signed.{quot_z}
-use Rattle.integer.specs.Checked.{is_zero, pick}
+use Rattle.integer.specs.Checked.{is_zero}
 use Rattle.common.specs.Matrix.{Axis, all_axes, Mat, ◌·◌}
 use Rattle.common.specs.Array.{matrix_of}
 use Rattle.common.specs.Limits.{within, matrix_within}
@@ -44,15 +44,15 @@ abbrev pub small_combination : Combination → Bool
 small_combination c = (small c.s && small c.t) && (small c.v && small c.u)
 
 unfoldable pub make_zero : ℕ → ℕ → ℤ → ℤ → Pair → Option Pair
-make_zero i j a b s = pick (is_zero b) (Some s) (combine_by i j (extended_gcd a b then combination a b) s)
+make_zero i j a b s = cond (is_zero b) (Some s) (combine_by i j (extended_gcd a b then combination a b) s)
 
 -- ---- the first column
 -- the first row whose entry is not 0
 abbrev pub search_first_pivot : Mat ℤ → Option ℕ
-search_first_pivot m = pick (is_zero m.a) (pick (is_zero m.d) (pick (is_zero m.g) None (Some 2)) (Some 1)) (Some 0)
+search_first_pivot m = cond (is_zero m.a) (cond (is_zero m.d) (cond (is_zero m.g) None (Some 2)) (Some 1)) (Some 0)
 
 abbrev pub to_top : ℕ → Pair → Option Pair
-to_top i s = pick (eqb i 0) (Some s) (multiply (matrix_of (elementary_swap_rows 0 i)) s)
+to_top i s = cond (eqb i 0) (Some s) (multiply (matrix_of (elementary_swap_rows 0 i)) s)
 
 abbrev pub zero_first_column : ℕ → Pair → Option Pair
 zero_first_column j s = make_zero 0 j s.a.a (get_or (s.a.a ∷ s.a.d ∷ s.a.g ∷ []) j (pos 0)) s
@@ -66,7 +66,7 @@ first_column s = clear_from (search_first_pivot s.a) s
 
 -- ---- the second column
 abbrev pub second_to_top : Pair → Option Pair
-second_to_top s = pick (is_zero s.a.e && not (is_zero s.a.h)) (multiply (matrix_of (elementary_swap_rows 1 2)) s) (Some s)
+second_to_top s = cond (is_zero s.a.e && not (is_zero s.a.h)) (multiply (matrix_of (elementary_swap_rows 1 2)) s) (Some s)
 
 abbrev pub zero_second_column : Pair → Option Pair
 zero_second_column s = make_zero 1 2 s.a.e s.a.h s

@@ -1,6 +1,6 @@
 -- The extended gcd. Its remainders are Euclidean, so that only the two numbers themselves can be negative.
-use Rattle.std.specs.Prelude.{Bool, ◌&&◌, ℕ, zero, suc, ℤ, pos, ◌*ℤ◌, ◌-ℤ◌, Option, Some}
-use Rattle.integer.specs.Checked.{fits64, is_zero, pick}
+use Rattle.std.specs.Prelude.{Bool, ◌&&◌, ℕ, zero, suc, ℤ, pos, ◌*ℤ◌, ◌-ℤ◌, Option, Some, cond}
+use Rattle.integer.specs.Checked.{fits64, is_zero}
 use Rattle.integer.specs.Division.{div_euclid, rem_euclid}
 use Rattle.snf_steps.specs.declared.gcd.Euclid.{Euclid}
 use Rattle.snf_steps.specs.declared.gcd.Counted.{Counted}
@@ -26,7 +26,7 @@ step e = let q = div_euclid e.r e.r1 in provided (step_fits q e) (next q e)
 -- at most n divisions
 unfoldable pub euclid : ℕ → Euclid → Option Euclid
 euclid zero e = Some e
-euclid (suc n) e = pick (is_zero e.r1) (Some e) (step e then euclid n)
+euclid (suc n) e = cond (is_zero e.r1) (Some e) (step e then euclid n)
 
 unfoldable pub extended_gcd : ℤ → ℤ → Option Euclid
 extended_gcd a b = euclid 1000 (start a b)
@@ -34,7 +34,7 @@ extended_gcd a b = euclid 1000 (start a b)
 -- how many divisions it makes, of at most n: the remainders alone decide it
 unfoldable pub divisions : ℕ → ℤ → ℤ → ℕ
 divisions zero r r' = 0
-divisions (suc n) r r' = pick (is_zero r') 0 (suc (divisions n r' (rem_euclid r r')))
+divisions (suc n) r r' = cond (is_zero r') 0 (suc (divisions n r' (rem_euclid r r')))
 
 -- those of `extended_gcd a b`: the walk with so many comes to the same result (`steps-enough`), and with fewer its last remainder is not 0 (`no-fewer`)
 abbrev pub steps : ℤ → ℤ → ℕ

@@ -2,9 +2,7 @@ pub mod Then
 pub mod Gcd
 pub mod Elementary
 pub mod Columns
-pub mod ColumnsView
 pub mod Stages
-pub mod StagesView
 pub mod Finalize
 pub mod Pivot
-pub mod Settled
+pub mod Code

@@ -1,6 +1,6 @@
 -- `first` and `second`: rows with p, columns with q, then what the pivot divides.
-use Rattle.std.specs.Prelude.{Bool, true, false, ◌&&◌, ℤ, Option, Some}
-use Rattle.integer.specs.Checked.{is_zero, pick}
+use Rattle.std.specs.Prelude.{Bool, true, false, ◌&&◌, ℤ, Option, Some, cond}
+use Rattle.integer.specs.Checked.{is_zero}
 use Rattle.common.specs.Matrix.{Mat, transpose}
 use Rattle.common.specs.Array.{matrix_of}
 use Rattle.snf_steps.specs.Then.{◌then◌}
@@ -52,8 +52,8 @@ first_finalize d y z s = neg_quotient y d then λ u. neg_quotient z d then λ v.
 
 abbrev pub first_tests : (d y z : ℤ) → Triple → Option Outcome
 first_tests d y z s =
-    pick (is_zero y && is_zero z) (through s)
-    (is_multiple y d then λ b. pick b (is_multiple z d then λ c. pick c (first_finalize d y z s) (again s)) (again s))
+    cond (is_zero y && is_zero z) (through s)
+    (is_multiple y d then λ b. cond b (is_multiple z d then λ c. cond c (first_finalize d y z s) (again s)) (again s))
 
 abbrev pub first_end : Triple → Option Outcome
 first_end s = first_tests s.a.a s.a.d s.a.g s
@@ -66,7 +66,7 @@ abbrev pub second_finalize : (d z : ℤ) → Triple → Option Outcome
 second_finalize d z s = neg_quotient z d then λ v. on_rows (multiply (matrix_of (below_second v))) s then through
 
 abbrev pub second_tests : (d z : ℤ) → Triple → Option Outcome
-second_tests d z s = pick (is_zero z) (through s) (is_multiple z d then λ b. pick b (second_finalize d z s) (again s))
+second_tests d z s = cond (is_zero z) (through s) (is_multiple z d then λ b. cond b (second_finalize d z s) (again s))
 
 abbrev pub second_end : Triple → Option Outcome
 second_end s = second_tests s.a.e s.a.h s

@@ -3,7 +3,7 @@ ghost use Rattle.std.specs.Prelude.{◌≡◌, ◌<◌};
 ghost use Rattle.common.specs.Array.{matrix_of};
 ghost use Rattle.snf_steps.specs.Then.{◌then◌};
 ghost use Rattle.snf_steps.specs.Columns as columns;
-ghost use Rattle.snf_steps.specs.ColumnsView.{matrices_of, pair_of, entry_of};
+ghost use Rattle.snf_steps.specs.Code.ColumnsView.{matrices_of, pair_of, entry_of};
 ghost use Rattle.snf_steps.specs.Gcd.{extended_gcd};
 
 use crate::{elementary, gcd, mixing};

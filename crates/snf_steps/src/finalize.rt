@@ -3,8 +3,8 @@ ghost use Rattle.std.specs.Prelude.{◌≡◌, ◌&&◌, ◌<◌};
 ghost use Rattle.std.specs.Int.Signed.{le_z};
 ghost use Rattle.common.specs.Array.{matrix_of};
 ghost use Rattle.snf_steps.specs.Finalize as finalize;
-ghost use Rattle.snf_steps.specs.Settled.{divides, in_order, off_diagonal_zero, settled};
-ghost use Rattle.snf_steps.specs.StagesView.{three_of, triple_of, on_diagonal};
+ghost use Rattle.snf_steps.specs.Code.Settled.{divides, in_order, off_diagonal_zero, settled};
+ghost use Rattle.snf_steps.specs.Code.StagesView.{three_of, triple_of, on_diagonal};
 
 use crate::elementary::{
     checked_is_multiple, elementary_add_rows, elementary_flip_sign_row, elementary_swap_rows,

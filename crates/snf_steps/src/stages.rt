@@ -3,9 +3,9 @@ ghost use Rattle.std.specs.Prelude.{◌≡◌, ◌&&◌};
 ghost use Rattle.integer.specs.Checked.{is_zero};
 ghost use Rattle.common.specs.Array.{matrix_of};
 ghost use Rattle.snf_steps.specs.Columns as columns;
-ghost use Rattle.snf_steps.specs.ColumnsView.{matrices_of};
+ghost use Rattle.snf_steps.specs.Code.ColumnsView.{matrices_of};
 ghost use Rattle.snf_steps.specs.Stages as stages;
-ghost use Rattle.snf_steps.specs.StagesView.{three_of, triple_of, outcome_of};
+ghost use Rattle.snf_steps.specs.Code.StagesView.{three_of, triple_of, outcome_of};
 
 use crate::columns::{Pair, first_column, multiply, second_column};
 use crate::elementary::{

@@ -1,7 +1,6 @@
-use Rattle.std.proofs.Common.{◌≡◌, ℕ, suc, ◌+◌, ◌-◌, ◌<◌, Some, None, Err, sym, ◌∙◌, ap, arith, rules}
-use Rattle.integer.specs.Checked.{pick}
+use Rattle.std.proofs.Common.{◌≡◌, ℕ, suc, ◌+◌, ◌-◌, ◌<◌, Some, None, Err, sym, ◌∙◌, ap, arith, rules, cond}
 use Rattle.snf_steps.specs.Finalize.{finalize}
-use Rattle.snf_steps.specs.StagesView.{three_of, triple_of, outcome_of}
+use Rattle.snf_steps.specs.Code.StagesView.{three_of, triple_of, outcome_of}
 use Rattle.common.specs.declared.Refusal.TheVariants.{Overflow}
 use Rattle.snf3x3.specs.Snf3x3.{answer, rounds}
 use Rattle.snf3x3.specs.Written.{written}
@@ -32,7 +31,7 @@ returns-in_err-f c =
     let f : c.finalize.result ≡ None = search rules in
     let e : c.from_residual-in_err-f.result ≡ Err Overflow = search rules in
     e ∙ sym (ap written (l.invariant ∙ one_pass (99 - l.n) l.n (three_of l.t) (left l.n c.loop-n-test.true) (sym c.round.ensures ∙ ap outcome_of r)
-    ∙ (λ i. pick (c.if-o.true i) (answer (suc l.n) ((sym c.finalize.ensures ∙ ap triple_of f) i)) (rounds (99 - l.n) (suc l.n) y))))
+    ∙ (λ i. cond (c.if-o.true i) (answer (suc l.n) ((sym c.finalize.ensures ∙ ap triple_of f) i)) (rounds (99 - l.n) (suc l.n) y))))
 
 pub returns-then-o : goal.returns-then-o
 returns-then-o c =
@@ -42,7 +41,7 @@ returns-then-o c =
     let f : c.finalize.result ≡ Some c.in_ok-f.f = search rules in
     c.answer.ensures ∙ ap (λ (k : ℕ). written (answer k (Some (three_of c.in_ok-f.f)))) (next l.n)
     ∙ sym (ap written (l.invariant ∙ one_pass (99 - l.n) l.n (three_of l.t) (left l.n c.loop-n-test.true) (sym c.round.ensures ∙ ap outcome_of r)
-    ∙ (λ i. pick (c.if-o.true i) (answer (suc l.n) ((sym c.finalize.ensures ∙ ap triple_of f) i)) (rounds (99 - l.n) (suc l.n) y))))
+    ∙ (λ i. cond (c.if-o.true i) (answer (suc l.n) ((sym c.finalize.ensures ∙ ap triple_of f) i)) (rounds (99 - l.n) (suc l.n) y))))
 
 pub loop-n-preserved : goal.loop-n-preserved
 loop-n-preserved c =
@@ -50,7 +49,7 @@ loop-n-preserved c =
     let y = three_of c.in_ok-o.o.left in
     let r : c.round.result ≡ Some c.in_ok-o.o = search rules in
     l.invariant ∙ one_pass (99 - l.n) l.n (three_of l.t) (left l.n c.loop-n-test.true) (sym c.round.ensures ∙ ap outcome_of r)
-    ∙ (λ i. pick (c.if-o.false i) (answer (suc l.n) (finalize y)) (rounds (99 - l.n) (suc l.n) y))
+    ∙ (λ i. cond (c.if-o.false i) (answer (suc l.n) (finalize y)) (rounds (99 - l.n) (suc l.n) y))
     ∙ (λ i. rounds (later l.n i) (sym (next l.n) i) y)
 
 pub returns : goal.returns

@@ -1,5 +1,5 @@
 use Rattle.std.proofs.Common.{◌≡◌, ◌-◌}
-use Rattle.snf_steps.specs.StagesView.{three_of}
+use Rattle.snf_steps.specs.Code.StagesView.{three_of}
 use Rattle.snf3x3.specs.Snf3x3.{rounds}
 use Rattle.snf3x3.proofs.rounds.Given as goal
 

@@ -6,7 +6,7 @@ use Rattle.snf_steps.specs.Gcd.{extended_gcd}
 use Rattle.snf_steps.specs.Columns.{combination}
 use Rattle.snf_steps.proofs.Fitting.{not-zero}
 use Rattle.hermite3x3.specs.Hermite3x3.{row_step}
-use Rattle.hermite3x3.specs.StepsView.{entry_of}
+use Rattle.hermite3x3.specs.Code.StepsView.{entry_of}
 use Rattle.hermite3x3.proofs.Stepping.{clear-made}
 use Rattle.hermite3x3.proofs.steps.clear.Goals as goal
 

@@ -3,7 +3,7 @@ use Rattle.common.specs.Array.{matrix_of}
 use Rattle.snf_steps.specs.Elementary.{elementary_add_rows}
 use Rattle.snf_steps.proofs.Fitting.{not-zero}
 use Rattle.hermite3x3.specs.Hermite3x3.{row_step, neg_floor}
-use Rattle.hermite3x3.specs.StepsView.{entry_of}
+use Rattle.hermite3x3.specs.Code.StepsView.{entry_of}
 use Rattle.hermite3x3.proofs.Stepping.{reduce-made}
 use Rattle.hermite3x3.proofs.steps.reduce.Goals as goal
 

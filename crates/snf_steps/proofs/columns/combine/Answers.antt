@@ -5,7 +5,7 @@ use Rattle.snf_steps.specs.declared.columns.Combination.{Combination}
 use Rattle.snf_steps.specs.declared.columns.Pair.{Pair}
 use Rattle.snf_steps.specs.Elementary.{combining}
 use Rattle.snf_steps.specs.Columns.{multiply, small_combination, small_matrix}
-use Rattle.snf_steps.specs.ColumnsView.{matrices_of}
+use Rattle.snf_steps.specs.Code.ColumnsView.{matrices_of}
 use Rattle.snf_steps.proofs.SmallRows.{small-step}
 use Rattle.snf_steps.proofs.columns.combine.Goals as goal
 

@@ -2,7 +2,7 @@ use Rattle.std.proofs.Common.{◌≡◌, Some, ◌∙◌, rules}
 use Rattle.snf_steps.specs.Then.{◌then◌}
 use Rattle.snf_steps.specs.Gcd.{extended_gcd}
 use Rattle.snf_steps.specs.Columns.{combination}
-use Rattle.snf_steps.specs.ColumnsView.{matrices_of, entry_of}
+use Rattle.snf_steps.specs.Code.ColumnsView.{matrices_of, entry_of}
 use Rattle.snf_steps.proofs.Fitting.{not-zero}
 use Rattle.snf_steps.proofs.Settled.{zero-made}
 use Rattle.snf_steps.proofs.columns.make_zero.Goals as goal

@@ -1,6 +1,6 @@
 use Rattle.std.proofs.Common.{sym}
 use Rattle.integer.proofs.Test.{holds}
-use Rattle.snf_steps.specs.StagesView.{three_of}
+use Rattle.snf_steps.specs.Code.StagesView.{three_of}
 use Rattle.snf_steps.proofs.Settled.{settled-kept}
 use Rattle.snf_steps.proofs.finalize.put_in_order.Goals as goal
 

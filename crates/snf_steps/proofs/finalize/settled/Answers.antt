@@ -1,6 +1,6 @@
 use Rattle.std.proofs.Common.{◌≡◌, ◌&&◌, Bool, ◌∙◌, ap, rules}
 use Rattle.common.specs.Array.{matrix_of}
-use Rattle.snf_steps.specs.Settled.{in_order}
+use Rattle.snf_steps.specs.Code.Settled.{in_order}
 use Rattle.snf_steps.proofs.finalize.settled.Goals as goal
 
 pub returns-then-off_diagonal_zero : goal.returns-then-off_diagonal_zero

@@ -1,6 +1,6 @@
 use Rattle.std.proofs.Common.{◌≡◌, ◌&&◌, true, refl, sym, rules}
 use Rattle.integer.specs.Checked.{is_zero}
-use Rattle.snf_steps.specs.StagesView.{three_of}
+use Rattle.snf_steps.specs.Code.StagesView.{three_of}
 use Rattle.snf_steps.proofs.Fitting.{two-zeros}
 use Rattle.snf_steps.proofs.Settled.{first-kept}
 use Rattle.snf_steps.proofs.stages.first.Goals as goal

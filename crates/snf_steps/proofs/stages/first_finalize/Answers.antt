@@ -4,7 +4,7 @@ use Rattle.snf_steps.specs.Then.{◌then◌}
 use Rattle.snf_steps.specs.Elementary.{below_first, neg_quotient}
 use Rattle.snf_steps.specs.Columns.{multiply}
 use Rattle.snf_steps.specs.Stages.{on_rows, through}
-use Rattle.snf_steps.specs.StagesView.{three_of}
+use Rattle.snf_steps.specs.Code.StagesView.{three_of}
 use Rattle.snf_steps.proofs.stages.first_finalize.Goals as goal
 
 pub returns : goal.returns

@@ -2,7 +2,7 @@ use Rattle.std.proofs.Common.{◌≡◌, ◌&&◌, true, refl, sym, ◌∙◌, a
 use Rattle.integer.specs.Checked.{is_zero}
 use Rattle.snf_steps.specs.Then.{◌then◌}
 use Rattle.snf_steps.specs.Stages.{second, second_end}
-use Rattle.snf_steps.specs.StagesView.{three_of, outcome_of}
+use Rattle.snf_steps.specs.Code.StagesView.{three_of, outcome_of}
 use Rattle.snf_steps.proofs.Fitting.{two-zeros}
 use Rattle.snf_steps.proofs.Settled.{second-kept}
 use Rattle.snf_steps.proofs.stages.second.Goals as goal

@@ -1,0 +1,3 @@
+pub mod ColumnsView
+pub mod Settled
+pub mod StagesView

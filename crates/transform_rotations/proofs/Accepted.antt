@@ -16,7 +16,7 @@ use Rattle.common.specs.declared.Refusal.TheVariants.{OutsideLimits, WrongLength
 use Rattle.common.proofs.Tests.{passed}
 use Rattle.transform_rotations.specs.Transform.{to_d, inverse_d, transform_d}
 use Rattle.transform_rotations.specs.TransformRotations.{input_tests}
-use Rattle.transform_rotations.specs.Steps.{transform_over, transform_by}
+use Rattle.transform_rotations.specs.Code.Steps.{transform_over, transform_by}
 use borrow.Author.Tests.{eqb-true}
 
 pub record InputAccepted (rotations d : List ℤ) (q : List (List ℤ)) (n : ℕ) : Type 0 where

@@ -19,7 +19,7 @@ use Rattle.grgrid.proofs.Folding.{Sides}
 use Rattle.grgrid.proofs.Acting.{grid}
 use Rattle.grgrid.proofs.Accepted.{grid-fits}
 use Rattle.transform_rotations.specs.Transform.{transform_d, rounded}
-use Rattle.transform_rotations.specs.TransformRotations.{all_whole, transformed_list, input_tests, transform_tests, transform_answer, transform_written}
+use Rattle.transform_rotations.specs.TransformRotations.{all_whole, transformed_list, input_tests, transform_tests, transform_rotations}
 
 -- ---- the diagonal numbers
 pub sides-fit : (d : List ℤ) → T (diagonal_fits d) → (k : Axis) → T (side_fits (side (vector_of d) k))
@@ -39,8 +39,8 @@ module _ (rotations d : List ℤ) (q : List (List ℤ)) (n : ℕ) where
   whole = require (all_whole (vector_of d) (matrix_of q) (matrices rotations)) SymmetryBroken Accepted
 
   -- an accepted call
-  pub written-tests : transform_answer rotations d q n ≡ Accepted → transform_tests rotations d q n ≡ Accepted
-  unfolding transform_answer
+  pub written-tests : (transform_rotations rotations d q n).answer ≡ Accepted → transform_tests rotations d q n ≡ Accepted
+  unfolding transform_rotations
   written-tests e = e
 
   pub tests-input : transform_tests rotations d q n ≡ Accepted → input_tests rotations d q n ≡ Accepted
@@ -58,6 +58,11 @@ module _ (rotations d : List ℤ) (q : List (List ℤ)) (n : ℕ) where
 
   -- ---- the output
   pub written-flat : transform_tests rotations d q n ≡ Accepted
-      → transform_written rotations d q n ≡ flat (map (λ r. rounded (transform_d (vector_of d) (matrix_of q) r)) (matrices rotations))
-  unfolding transform_written
+      → (transform_rotations rotations d q n).out ≡ flat (map (λ r. rounded (transform_d (vector_of d) (matrix_of q) r)) (matrices rotations))
+  unfolding transform_rotations
   written-flat e = ap (λ s. output_of s n (transformed_list (vector_of d) (matrix_of q) (matrices rotations))) e
+
+  pub outcome-by : {t : Tested} → t ≡ transform_tests rotations d q n → {l : List ℤ} → l ≡ output_of t n (transformed_list (vector_of d) (matrix_of q) (matrices rotations))
+      → record { answer = t; out = l } ≡ transform_rotations rotations d q n
+  unfolding transform_rotations
+  outcome-by e f = λ i. record { answer = e i; out = (f ∙ ap (λ t. output_of t n (transformed_list (vector_of d) (matrix_of q) (matrices rotations))) e) i }

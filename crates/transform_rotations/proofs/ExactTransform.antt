@@ -12,7 +12,7 @@ use lib.ListN.{length}
 use lib.Ieee.{binary64, of_int}
 use Rattle.common.specs.Tested.{Accepted}
 use Rattle.float.proofs.Whole.{eq→whole}
-use Rattle.common.specs.Matrix.{Vec, Mat, det_over, ◌·◌, det, diagonal, identity, negate, inverse}
+use Rattle.common.specs.Matrix.{Mat, det_over, ◌·◌, det, diagonal, identity, negate, inverse}
 use Rattle.common.specs.Array.{vector_of, sides_of, matrix_of, matrices, flat}
 use Rattle.common.specs.Limits.{matrix_within, diagonal_fits}
 use Rattle.common.specs.FloatMatrix.{floats}
@@ -23,20 +23,13 @@ use Rattle.common.proofs.Unimodular.{Regular, Unimodular, regular-product, unimo
 use Rattle.grgrid.proofs.Lists.{◌∈◌}
 use Rattle.grgrid.proofs.Acting.{Acts, grid}
 use Rattle.grgrid.proofs.MatrixGroup.{MatrixGroup, grid-regular, transformed, transformed-acts}
-use Rattle.transform_rotations.specs.Transform.{to_d, transform_d, is_whole, rounded}
-use Rattle.transform_rotations.specs.TransformRotations.{singular_q, input_tests, transform_tests, transform_written}
+use Rattle.transform_rotations.specs.Transform.{to_d, transform_d, is_whole}
+use Rattle.transform_rotations.specs.TransformRotations.{singular_q, input_tests, transform_tests, transform_rotations}
+use Rattle.transform_rotations.specs.ExactTransform.{Fractions, transform_of, EveryTransform}
 use Rattle.transform_rotations.proofs.ExactMatrix.{int-exact}
 use Rattle.transform_rotations.proofs.ExactEntries.{det_q, all-accepted, all-exact}
 use Rattle.transform_rotations.proofs.Accepted.{input-accepted}
 use Rattle.transform_rotations.proofs.ExactCall.{sides-fit, sides-positive, grid-is, tests-input, tests-whole, whole-tests, written-flat}
-
--- The nine fractions of R are the whole numbers of M. The fraction at (j, k) is the entry of Q⁻¹·R·Q times dj over dk, so that M is D·Q⁻¹·R·Q·D⁻¹.
-abbrev pub Fractions : Vec ℤ → Mat ℤ → Mat ℤ → Mat ℤ → Type 0
-Fractions d q r m = m · diagonal d ≡ diagonal d · (inverse q · r · q)
-
--- what the call makes of R
-abbrev pub transform_of : Vec ℤ → Mat ℤ → Mat ℤ → Mat ℤ
-transform_of d q r = rounded (transform_d d q r)
 
 -- ---- one rotation
 module _ (d : List ℤ) (q r : Mat ℤ) (D : T (diagonal_fits d)) (Q : T (matrix_within 1000 q)) (R : T (matrix_within 100 r)) (u : Unimodular q) where
@@ -102,18 +95,27 @@ module _ (rotations d : List ℤ) (q : List (List ℤ)) (n : ℕ) (u : Unimodula
 
   module _ (t : transform_tests rotations d q n ≡ Accepted) where
     -- then the output is those of each rotation in order
-    pub call_returns : transform_written rotations d q n ≡ flat (map (transform_of (vector_of d) (matrix_of q)) (matrices rotations))
+    pub call_returns : (transform_rotations rotations d q n).out ≡ flat (map (transform_of (vector_of d) (matrix_of q)) (matrices rotations))
     call_returns = written-flat rotations d q n t
 
-    pub call-matrices : matrices (transform_written rotations d q n) ≡ map (transform_of (vector_of d) (matrix_of q)) (matrices rotations)
+    pub call-matrices : matrices (transform_rotations rotations d q n).out ≡ map (transform_of (vector_of d) (matrix_of q)) (matrices rotations)
     call-matrices = ap matrices call_returns ∙ matrices-flat (map (transform_of (vector_of d) (matrix_of q)) (matrices rotations))
 
     -- ---- lists for demand 3
     on-grid : (r : Mat ℤ) → r ∈ matrices rotations → transform_of (vector_of d) (matrix_of q) r · grid (sides_of d) ≡ grid (sides_of d) · (inverse (matrix_of q) · r · matrix_of q)
     on-grid r k = subst (λ D. transform_of (vector_of d) (matrix_of q) r · D ≡ D · (inverse (matrix_of q) · r · matrix_of q)) (grid-is d (input-accepted rotations d q n (tests-input rotations d q n t)).grid) (call-fractions t r k)
 
-    pub call-group : MatrixGroup (matrices rotations) → MatrixGroup (matrices (transform_written rotations d q n))
+    pub call-group : MatrixGroup (matrices rotations) → MatrixGroup (matrices (transform_rotations rotations d q n).out)
     call-group g = subst MatrixGroup (sym call-matrices) (transformed g (sides-positive d (input-accepted rotations d q n (tests-input rotations d q n t)).grid) u (transform_of (vector_of d) (matrix_of q)) on-grid)
 
-    pub call-acts : (M : Mat ℤ) → M ∈ matrices (transform_written rotations d q n) → Acts (sides_of d) M
+    pub call-acts : (M : Mat ℤ) → M ∈ matrices (transform_rotations rotations d q n).out → Acts (sides_of d) M
     call-acts M k = transformed-acts (transform_of (vector_of d) (matrix_of q)) (λ r. inverse (matrix_of q) · r · matrix_of q) on-grid M (subst (λ l. M ∈ l) call-matrices k)
+
+-- ---- the theorem
+pub exact-transform : EveryTransform
+unfolding transform_rotations
+exact-transform rotations d q n u = record {
+  accepts = call-accepts rotations d q n u;
+  returns = call_returns rotations d q n u;
+  exact = call-fractions rotations d q n u;
+}

@@ -9,7 +9,7 @@ use Rattle.common.specs.Array.{rows}
 use Rattle.common.specs.Tested.{answer_of}
 use Rattle.float.specs.Rounding.{round_of, abs_of, nint_of}
 use Rattle.transform_rotations.specs.Transform.{transform_d, is_whole, rounded}
-use Rattle.transform_rotations.specs.TransformRotations.{singular_q, input_tests, transform_tests, transform_written}
+use Rattle.transform_rotations.specs.TransformRotations.{singular_q, input_tests, transform_tests, transform_rotations}
 
 pub record Row : Type 0 where
   pub computed : List ℤ
@@ -25,7 +25,7 @@ exchange = pos 0 ∷ pos 1 ∷ pos 0 ∷ pos 1 ∷ pos 0 ∷ pos 0 ∷ pos 0 ∷
 
 -- the answer and the output, with Q the identity
 abbrev transformed : List ℤ → List ℤ
-transformed d = answer_of (transform_tests exchange d (rows identity) 9) ∷ transform_written exchange d (rows identity) 9
+transformed d = answer_of (transform_tests exchange d (rows identity) 9) ∷ (transform_rotations exchange d (rows identity) 9).out
 
 abbrev table : List Row
 table =
@@ -34,5 +34,5 @@ table =
     ∷ []
 
 points : Right table
-unfolding transform_written transform_tests input_tests singular_q transform_d is_whole rounded nint_of round_of abs_of round of_bits of_int to_signed add sub mul div lt eq
+unfolding transform_rotations transform_tests input_tests singular_q transform_d is_whole rounded nint_of round_of abs_of round of_bits of_int to_signed add sub mul div lt eq
 points = (refl, (refl, tt))

@@ -14,7 +14,7 @@ use Rattle.common.specs.Array.{matrix_of, rows, matrix_at, matrices_from, flat}
 use Rattle.common.specs.Every.{every}
 use Rattle.common.specs.FloatMatrix.{float_matrix}
 use Rattle.transform_rotations.specs.Transform.{is_whole, rounded}
-use Rattle.transform_rotations.specs.Steps.{all_near}
+use Rattle.transform_rotations.specs.Code.Steps.{all_near}
 
 -- ---- lists
 module _ (out : List ℤ) (at : ℕ) (m : Mat ℤ) (h : at + 9 ≤ length out) where

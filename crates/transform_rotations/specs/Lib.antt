@@ -1,3 +1,4 @@
 pub mod Transform
 pub mod TransformRotations
-pub mod Steps
+pub mod ExactTransform
+pub mod Code

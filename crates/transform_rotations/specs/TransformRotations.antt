@@ -1,4 +1,4 @@
--- `transform_rotations`: the tests, the answer and the output, which has n places.
+-- `transform_rotations`: its tests, and its answer with the output, which has n places, as one outcome.
 use Rattle.std.specs.Prelude.{Bool, not, ◌&&◌, List, map, ℕ, leb, eqb, ℤ, pos, length}
 use Rattle.std.specs.Float.{binary64}
 use Rattle.std.specs.Float.Ieee.{of_int, eq}
@@ -35,12 +35,15 @@ input_tests rotations d q n =
 
 unfoldable pub transform_tests : List ℤ → List ℤ → List (List ℤ) → ℕ → Tested
 unfolding input_tests
-transform_tests rotations d q n = after (input_tests rotations d q n) (require (all_whole (vector_of d) (matrix_of q) (matrices rotations)) SymmetryBroken Accepted)
+transform_tests rotations d q n =
+    after (input_tests rotations d q n) (require (all_whole (vector_of d) (matrix_of q) (matrices rotations)) SymmetryBroken Accepted)
 
-unfoldable pub transform_answer : List ℤ → List ℤ → List (List ℤ) → ℕ → Tested
-unfolding transform_tests
-transform_answer rotations d q n = transform_tests rotations d q n
+pub record TransformRotations : Type 0 where
+  pub answer : Tested
+  pub out : List ℤ
 
-unfoldable pub transform_written : List ℤ → List ℤ → List (List ℤ) → ℕ → List ℤ
+unfoldable pub transform_rotations : List ℤ → List ℤ → List (List ℤ) → ℕ → TransformRotations
 unfolding transform_tests
-transform_written rotations d q n = output_of (transform_tests rotations d q n) n (transformed_list (vector_of d) (matrix_of q) (matrices rotations))
+transform_rotations rotations d q n =
+    let t = transform_tests rotations d q n in
+    record { answer = t; out = output_of t n (transformed_list (vector_of d) (matrix_of q) (matrices rotations)) }

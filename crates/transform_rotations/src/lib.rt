@@ -14,8 +14,8 @@ ghost use Rattle.common.specs.Every.{every};
 ghost use Rattle.common.specs.FloatMatrix.{floats, row_d, float_vector, float_matrix};
 ghost use Rattle.common.specs.Limits.{all_within, matrix_within, whole_matrices, diagonal_fits};
 ghost use Rattle.transform_rotations.specs.Transform.{to_d, is_whole, rounded};
-ghost use Rattle.transform_rotations.specs.TransformRotations.{singular_q, all_whole, transformed_list, input_tests, transform_tests, transform_answer, transform_written};
-ghost use Rattle.transform_rotations.specs.Steps.{inverse_row, inverse_over, scaled_row, transform_over, transform_by, near, all_near};
+ghost use Rattle.transform_rotations.specs.TransformRotations.{singular_q, all_whole, transformed_list, input_tests, transform_tests, transform_rotations};
+ghost use Rattle.transform_rotations.specs.Code.Steps.{inverse_row, inverse_over, scaled_row, transform_over, transform_by, near, all_near};
 
 use common::{BoundedMatrix, Refusal, Rotations};
 
@@ -58,7 +58,7 @@ fn scaled_row(a: [f64; 3], dj: f64, d: [f64; 3]) -> [f64; 3]
     [a[0] * dj / d[0], a[1] * dj / d[1], a[2] * dj / d[2]]
 }
 
-#[tactic(auto, unfolding(crate::specs::Steps::transform_over))]
+#[tactic(auto, unfolding(crate::specs::Code::Steps::transform_over))]
 fn transform(q_inv: [[f64; 3]; 3], q: [[f64; 3]; 3], d: [f64; 3], r: [[f64; 3]; 3]) -> [[f64; 3]; 3]
     ensures { result ≡ rows (transform_over (float_matrix q_inv) (float_matrix q) (float_vector d) (float_matrix r)) }
 {
@@ -147,7 +147,7 @@ fn row_near(n: [i64; 3], a: [f64; 3]) -> bool
     near(n[0], a[0]) && near(n[1], a[1]) && near(n[2], a[2])
 }
 
-#[tactic(auto, unfolding(crate::specs::Steps::all_near))]
+#[tactic(auto, unfolding(crate::specs::Code::Steps::all_near))]
 fn all_near(n: [[i64; 3]; 3], m: [[f64; 3]; 3]) -> bool
     ensures { result ≡ all_near (matrix_of n) (float_matrix m) }
 {
@@ -265,8 +265,7 @@ pub fn transform_rotations(
     q: [[i64; 3]; 3],
     out: &mut [i64],
 ) -> Result<(), Refusal>
-    ensures value { result ≡ transform_answer rotations.now d q (length out.old) }
-    ensures out_after { out.new ≡ transform_written rotations.now d q (length out.old) }
+    ensures { record { answer = result; out = out.new } ≡ transform_rotations rotations.now d q (length out.old) }
 {
     match transform_tests(rotations, d, q, out) {
         Ok(()) => Ok(()),

@@ -6,7 +6,7 @@ use Rattle.common.specs.Every.{every}
 use Rattle.common.specs.Tested.{require, Accepted}
 use Rattle.common.specs.declared.Refusal.TheVariants.{SymmetryBroken}
 use Rattle.transform_rotations.specs.Transform.{transform_d, is_whole, rounded}
-use Rattle.transform_rotations.specs.Steps.{inverse_over, transform_by}
+use Rattle.transform_rotations.specs.Code.Steps.{inverse_over, transform_by}
 use Rattle.transform_rotations.proofs.Accepted.{ready, same}
 use Rattle.transform_rotations.proofs.transform_all.Goals as goal
 

@@ -14,7 +14,7 @@ use Rattle.common.specs.Tested.{require, Accepted}
 use Rattle.common.specs.declared.Refusal.TheVariants.{SymmetryBroken}
 use Rattle.common.proofs.Tests.{not-accepted}
 use Rattle.transform_rotations.specs.Transform.{to_d}
-use Rattle.transform_rotations.specs.Steps.{transform_over, transform_by}
+use Rattle.transform_rotations.specs.Code.Steps.{transform_over, transform_by}
 use Rattle.transform_rotations.proofs.Turns.{turned_none, turned_on, broken, all_whole_lem, all_listed, rounded-rows, near-whole}
 use Rattle.transform_rotations.proofs.transform_each.Goals as goal
 

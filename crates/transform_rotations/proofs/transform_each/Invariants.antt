@@ -1,7 +1,7 @@
 use Prim.Native.Nat.{◌/◌}
 use lib.ListN.{length}
 use Rattle.common.specs.FloatMatrix.{float_vector, float_matrix}
-use Rattle.transform_rotations.specs.Steps.{transform_by}
+use Rattle.transform_rotations.specs.Code.Steps.{transform_by}
 use Rattle.transform_rotations.proofs.Turns.{Turned}
 use Rattle.transform_rotations.proofs.transform_each.Given as goal
 

@@ -11,7 +11,9 @@ use Rattle.transform_rotations.specs.Transform.{to_d}
 -- a row of the inverse, from the two columns after its number, in a circle
 abbrev pub inverse_row : List Float → List Float → Float → List Float
 inverse_row p q det =
-    items (vector (λ k. div binary64 (cross floats (get_or p (number (next k)) nan) (get_or q (number (next k)) nan) (get_or p (number (next (next k))) nan) (get_or q (number (next (next k))) nan)) det))
+    items (vector (λ k. div binary64
+    (cross floats (get_or p (number (next k)) nan) (get_or q (number (next k)) nan)
+    (get_or p (number (next (next k))) nan) (get_or q (number (next (next k))) nan)) det))
 
 abbrev pub inverse_over : Mat Float → Float → Mat Float
 inverse_over m det = map_mat (λ x. div binary64 x det) (adjugate_over floats m)
@@ -21,7 +23,9 @@ abbrev pub scaled_row : List Float → Float → List Float → List Float
 scaled_row p dj d = items (vector (λ k. div binary64 (mul binary64 (get_or p (number k) nan) dj) (get_or d (number k) nan)))
 
 unfoldable pub transform_over : Mat Float → Mat Float → Vec Float → Mat Float → Mat Float
-transform_over inverse q d r = matrix (λ j k. div binary64 (mul binary64 (entry (product_over floats (product_over floats inverse r) q) j k) (side d j)) (side d k))
+transform_over inverse q d r =
+    matrix (λ j k. div binary64
+    (mul binary64 (entry (product_over floats (product_over floats inverse r) q) j k) (side d j)) (side d k))
 
 -- of a rotation of whole numbers
 abbrev pub transform_by : Mat Float → Mat Float → Vec Float → Mat ℤ → Mat Float

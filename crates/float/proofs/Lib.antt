@@ -15,4 +15,5 @@ pub mod Pattern
 pub mod SqrtValue
 pub mod Digits
 pub mod SqrtNearest
+pub mod CorrectRounding
 pub mod Examples

@@ -8,6 +8,7 @@ use lib.Ieee.Back.{round_whole}
 use lib.Ieee.Scale.{finite}
 use lib.Ieee.Positive.{num, den}
 use Rattle.float.specs.Rounding.{whole_below, whole_above, whole_nearest, signed, round_of, floor_of, ceil_of}
+use Rattle.float.specs.CorrectRounding.{Below, Above, Nearest}
 use Rattle.float.proofs.Sign.{neg-neg}
 use Rattle.float.proofs.Rounds.{round-neg, round-self, unique, fits-says}
 
@@ -23,27 +24,14 @@ module _ (a c q r : ℕ) (e : a ≡ q * c + r) (R : r < c) where
   nearest-down h = div-eq_of_lt-le (2 * c) (omega arith) (omega arith)
 
 -- ---- which whole number it is: the largest one below, the least one above, the nearest
-pub record Below (a c k : ℕ) : Type 0 where
-  pub from : k * c ≤ a
-  pub to : a < k * c + c
-
 pub below_right : (a c : ℕ) → 0 < c → Below a c (whole_below a c)
 below_right a c C = let e = div-add-mod' a c in let r = mod-lt a C in record { from = omega arith; to = omega arith }
-
-pub record Above (a c k : ℕ) : Type 0 where
-  pub from : a ≤ k * c
-  pub to : k * c < a + c
 
 pub above-right : (a c : ℕ) → 0 < c → Above a c (whole_above a c)
 above-right a c C =
     let e = div-add-mod' (a + (c - 1)) c in
     let r = mod-lt (a + (c - 1)) C in
     record { from = omega arith; to = omega arith }
-
--- k - 1/2 ≤ a / c < k + 1/2: the nearest, and at a half the larger one
-pub record Nearest (a c k : ℕ) : Type 0 where
-  pub from : 2 * (k * c) ≤ 2 * a + c
-  pub to : 2 * a < 2 * (k * c) + c
 
 pub nearest-right : (a c : ℕ) → 0 < c → Nearest a c (whole_nearest a c)
 nearest-right a c C =

@@ -6,6 +6,7 @@ use lib.Ieee.Exact.{HasValue}
 use lib.Ieee.Scale.{finite}
 use lib.Ieee.Positive.{positive, num, den, den_pos, own_value, value→cross, positive-finite, positive_of_value}
 use Rattle.float.specs.Sqrt.{sqrt_of}
+use Rattle.float.specs.CorrectRounding.{Nearer}
 use Rattle.float.proofs.Order.{by-test}
 use Rattle.float.proofs.Rounds.{unique, place, fits-says}
 use Rattle.float.proofs.Root.{NearRoot, near-exists}
@@ -176,12 +177,7 @@ units_of (fin s (suc w) e) fy p =
     let P = place 1074 e f.fine in
     (suc w, P.0, f.digits, mul_assoc (suc w) (up e) (2 ^ 1074) ∙ ap (λ (x : ℕ). suc w * x) P.1 ∙ sym (mul_assoc (suc w) (2 ^ P.0) (down e)))
 
--- ---- the theorem: the root of x lies nearer to r than to y. Where y is above r, the middle (r + y) / 2 is above the root, and where y is below, it is below.
-pub record Nearer (x r y : Float) : Type 0 where
-  pub above : num r * den y < num y * den r → 4 * num x * ((den r * den y) * (den r * den y)) < (num r * den y + num y * den r) * (num r * den y + num y * den r) * den x
-  pub below : num y * den r < num r * den y → (num r * den y + num y * den r) * (num r * den y + num y * den r) * den x < 4 * num x * ((den r * den y) * (den r * den y))
-
--- y goes in by its size: a negative one lies farther from the root still
+-- ---- the theorem: the root of x lies nearer to r than to y
 pub sqrt-nearest : (x y : Float) → T (fits binary64 x) → T (positive x) → T (fits binary64 y) → T (finite y) → Nearer x (sqrt_of x) y
 sqrt-nearest x y fx px fy py =
     let S = split x fx px in

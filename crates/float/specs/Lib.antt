@@ -1,3 +1,4 @@
 pub mod Value
 pub mod Rounding
 pub mod Sqrt
+pub mod CorrectRounding

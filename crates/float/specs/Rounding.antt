@@ -1,5 +1,5 @@
--- Rust's `round`, `floor`, `ceil` and `abs` of an f64, and `nint`. Of lib.Ieee are the cast to an i64, `to_signed 63`, the cast of an i64, `of_int binary64`, and
--- `finite`.
+-- Rust's `round`, `floor`, `ceil` and `abs` of an f64, and `nint`. Of lib.Ieee are the cast to an i64,
+-- `to_signed 63`, the cast of an i64, `of_int binary64`, and `finite`.
 use Rattle.std.specs.Prelude.{ℕ, ◌+◌, ◌-◌, ◌*◌, ◌/◌, Bool, true, false, ℤ, from_bits, Float}
 use Rattle.std.specs.Float.{nan, inf, fin, binary64}
 use Rattle.std.specs.Float.Ieee.{up, down, round, sub, of_int, to_signed}

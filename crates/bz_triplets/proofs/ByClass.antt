@@ -1,7 +1,7 @@
 -- The walk over a class map: the triplets of the classes that it has passed stand in the front of the three outputs.
 use mathlib.Core.Path.{◌≡◌, refl, sym, ◌∙◌, ap, ap₂}
 use mathlib.Core.Logic.{⊎_elim}
-use mathlib.Core.Bool.{true, false}
+use mathlib.Core.Bool.{true, false, cond}
 use mathlib.Core.List.{List, [], ◌∷◌, ◌++◌, map, map-append, append-nil, append_assoc}
 use Prim.Native.Nat.{ℕ, zero, suc, ◌+◌, ◌*◌, ◌<◌, ◌≤◌}
 use native.Mathlib.Nat.{le_of_suc-le-suc, not-suc-le-zero, eq-or-lt_of_le}
@@ -12,7 +12,6 @@ use lib.Ieee.{Float}
 use lib.ListN.{length, get_or, set, take, drop, length-append, length-drop, length-set}
 use lib.Seq.{length-take-le, take_all, take_at, take-suc-set, sets-eq}
 use Rattle.std.specs.Prelude.{Ok, Err}
-use Rattle.integer.specs.Checked.{pick}
 use Rattle.common.specs.declared.Refusal.{Refusal}
 use Rattle.grgrid.specs.Own.{is_place, own_places, own_points}
 use Rattle.grgrid.proofs.Numbers.{own-more, own_same}
@@ -24,7 +23,7 @@ use Rattle.bz_triplets.specs.declared.choices.Step.TheVariants as step
 use Rattle.bz_triplets.specs.declared.choices.Triplet.{Triplet}
 use Rattle.bz_triplets.specs.Choosing.{start, left, closed}
 use Rattle.bz_triplets.specs.BzTriplets.{State, read_each, places_of, mark_of, length_of, triplet_list, marks, lengths}
-use Rattle.bz_triplets.specs.TripletsView.{found_by, choice_view, state_of, step_place, Room}
+use Rattle.bz_triplets.specs.Code.TripletsView.{found_by, choice_view, state_of, step_place, Room}
 
 -- ---- the three places of a triplet, one after the other
 pub places-stored : (t : Triplet) (at : ℕ) (out : List ℤ) → at + 3 ≤ length out → {a b c : ℤ} → a ≡ step_place t.step t.choice.x.at → b ≡ step_place t.step t.choice.y.at → c ≡ step_place t.step t.choice.z.at
@@ -170,7 +169,7 @@ module _ (f : ℕ → Read State) (classes : List ℤ) where
     where
       later : (m : List ℕ) × (own_points classes n ≡ own_points classes q ++ (q ∷ m)) → (m : List ℕ) × (own_points classes (suc n) ≡ own_points classes q ++ (q ∷ m))
       later r =
-          let last = pick (is_place (get_or classes n (pos 0)) n) (n ∷ []) [] in
+          let last = cond (is_place (get_or classes n (pos 0)) n) (n ∷ []) [] in
           (r.0 ++ last, ap (λ l. l ++ last) r.1 ∙ append_assoc (own_points classes q) (q ∷ r.0) last)
 
   -- a triplet that is refused, and all is refused

@@ -1,19 +1,19 @@
--- What accepted tests say of the input of `bz_triplets_at_q`, and its answer and outputs from those of the walk over the classes.
+-- What accepted tests say of the input of `bz_triplets_at_q`, and its outcome from that of the walk over the classes.
 use mathlib.Core.Path.{◌≡◌, refl, sym, ◌∙◌, ap, ap₂}
-use mathlib.Core.Bool.{Bool, ◌&&◌, ◌||◌}
+use mathlib.Core.Bool.{Bool, true, ◌&&◌, ◌||◌, true≢false}
 use mathlib.Core.List.{List}
 use Prim.Native.Nat.{ℕ, ◌*◌, ◌<◌}
 use native.Mathlib.Nat.{lt_of_lt_of_le, le_trans}
 use lib.Dec.{T, eqb, lit≤}
 use lib.IntN.{ℤ, pos, negsuc, nat_abs}
-use lib.ListN.{length}
+use lib.ListN.{length, replicate}
 use lib.Ieee.{Float, binary64, of_int}
 use lib.Signed.{non_neg, mag}
 use mir.Syntax.{w64}
 use mir.Val.{SFits}
 use mir.Facts.{to_z-of_z}
 use borrow.Author.Tests.{eqb-true}
-use Rattle.std.specs.Prelude.{Result, Ok, Err}
+use Rattle.std.specs.Prelude.{Result, Ok, Err, is_err, IfOk}
 use Rattle.integer.proofs.Fits.{held}
 use Rattle.integer.proofs.Test.{holds, and_l, and_r, is_true}
 use Rattle.common.specs.Matrix.{Vec}
@@ -34,8 +34,8 @@ use Rattle.bzgrid.specs.BzGridAddresses.{grid_type_of}
 use Rattle.bzgrid.proofs.Accepted.{passes}
 use Rattle.bzsearch.specs.Lattice.{lattice_fits}
 use Rattle.bztable.specs.Reading.{Read, got, whole_addresses, address_of, list_of}
-use Rattle.bz_triplets.specs.BzTriplets.{State, Walk, walk_of, point_of, triplet_of, triplet_at, read_each, is_dense, input_tests, triplets_read, states_read, triplet_list, marks, lengths, bz_triplets_answer, triplets_written, left_written, left_length_written}
-use Rattle.bz_triplets.specs.TripletsView.{Room}
+use Rattle.bz_triplets.specs.BzTriplets.{State, Walk, walk_of, point_of, triplet_of, triplet_at, read_each, is_dense, input_tests, triplets_read, states_read, triplet_list, marks, lengths, BzTriplets, triplet_tests, bz_triplets_at_q}
+use Rattle.bz_triplets.specs.Code.TripletsView.{Room}
 
 -- ---- an address that was read was asked for by a number that is not negative
 pub asked-for : (addresses : List ℤ) (q0 : ℤ) {a : Vec ℤ} → got a ≡ address_of addresses q0 → T (non_neg q0)
@@ -88,7 +88,7 @@ module _ (i : Input) where
   states = states_read i.q0 i.addresses i.map i.classes i.d i.q i.lattice i.t
 
   abbrev pub answer : Tested
-  answer = bz_triplets_answer i.q0 i.addresses i.map i.classes i.d i.q i.lattice i.t i.n i.m i.l
+  answer = triplet_tests i.q0 i.addresses i.map i.classes i.d i.q i.lattice i.t i.n i.m i.l
 
   abbrev pub lengths_fit : ℕ → Bool
   lengths_fit own = whole_addresses i.addresses && (eqb i.n (own * 3) && (eqb i.m own && eqb i.l own))
@@ -134,7 +134,7 @@ module _ (i : Input) where
     input-accepted e = input-passed (sym (e ∙ ap₂ inputs same same-type))
 
     pub tests-read : {r : Result GridType Refusal} → r ≡ inputs q0 t → (r then λ k. read k then λ _. Accepted) ≡ answer
-    unfolding bz_triplets_answer
+    unfolding triplet_tests
     tests-read e = ap (λ r. r then λ k. read k then λ _. Accepted) (e ∙ ap₂ inputs same same-type)
 
   module _ (k : GridType) where
@@ -170,16 +170,27 @@ module _ (i : Input) where
           go (Ok l) h = same-ok h
           go (Err e) h = absurd (refused-not-ok (sym h))
 
-  -- ---- the outputs of the call
-  module _ {s : Tested} (e : s ≡ answer) where
-    pub call-triplets : output_of s i.n (triplet_list states) ≡ triplets_written i.q0 i.addresses i.map i.classes i.d i.q i.lattice i.t i.n i.m i.l
-    unfolding triplets_written
-    call-triplets = ap (λ s. output_of s i.n (triplet_list states)) e
+  -- ---- the outcome of the call
+  abbrev call : BzTriplets
+  call = bz_triplets_at_q i.q0 i.addresses i.map i.classes i.d i.q i.lattice i.t i.n i.m i.l
 
-    pub call-marks : output_of s i.m (marks states) ≡ left_written i.q0 i.addresses i.map i.classes i.d i.q i.lattice i.t i.n i.m i.l
-    unfolding left_written
-    call-marks = ap (λ s. output_of s i.m (marks states)) e
+  abbrev outcome : Tested → BzTriplets
+  outcome s = record {
+    answer = s;
+    out = output_of s i.n (triplet_list states);
+    left = output_of s i.m (marks states);
+    left_length = filled_or (of_int binary64 (negsuc 0)) s i.l (lengths states);
+  }
 
-    pub call-lengths : filled_or (of_int binary64 (negsuc 0)) s i.l (lengths states) ≡ left_length_written i.q0 i.addresses i.map i.classes i.d i.q i.lattice i.t i.n i.m i.l
-    unfolding left_length_written
-    call-lengths = ap (λ s. filled_or (of_int binary64 (negsuc 0)) s i.l (lengths states)) e
+  module _ {out left : List ℤ} {left_length : List Float} where
+    pub chosen : (s : Tested) → s ≡ answer → (s ≡ Accepted → out ≡ triplet_list states) → (s ≡ Accepted → left ≡ marks states) → (s ≡ Accepted → left_length ≡ lengths states)
+        → IfOk s (λ _. record { answer = Accepted; out = out; left = left; left_length = left_length } ≡ call)
+    unfolding bz_triplets_at_q
+    chosen (Ok _) e f g h = (λ j. record { answer = Accepted; out = f refl j; left = g refl j; left_length = h refl j }) ∙ ap outcome e
+    chosen (Err r) e f g h = tt
+
+    pub refused : (s : Tested) → is_err s ≡ true → s ≡ answer → out ≡ replicate i.n (negsuc 0) → left ≡ replicate i.m (negsuc 0) → left_length ≡ replicate i.l (of_int binary64 (negsuc 0))
+        → record { answer = s; out = out; left = left; left_length = left_length } ≡ call
+    unfolding bz_triplets_at_q
+    refused (Ok _) k e f g h = absurd (true≢false (sym k))
+    refused (Err r) k e f g h = (λ j. record { answer = Err r; out = f j; left = g j; left_length = h j }) ∙ ap outcome e

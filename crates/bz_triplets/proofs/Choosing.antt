@@ -2,7 +2,7 @@
 -- falls: each new least is below it, and the next threshold is not above the new least.
 use mathlib.Core.Path.{◌≡◌, refl, sym, ◌∙◌, ap, subst}
 use mathlib.Core.Logic.{◌⊎◌, ⊎_elim}
-use mathlib.Core.Bool.{Bool, not}
+use mathlib.Core.Bool.{Bool, not, cond}
 use mathlib.Core.List.Memᴰ.{append_cases}
 use mathlib.Core.List.Memᴰ.{append_left}
 use mathlib.Core.List.Memᴰ.{append_right}
@@ -17,7 +17,6 @@ use lib.Dec.{T, T_not, not_T}
 use lib.Ieee.{Float, binary64, sub, lt, le, fits}
 use lib.Ieee.Scale.{finite}
 use lib.Seq.{append_snoc}
-use Rattle.integer.specs.Checked.{pick}
 use Rattle.integer.proofs.Test.{pick-cases}
 use Rattle.float.specs.Value.{zero_f}
 use Rattle.float.proofs.Order.{finite_number, numbers, not-lt, lt→not, lt_trans, lt-cut}
@@ -120,7 +119,7 @@ module _ {C F : Type 0} (closes : C → Bool) (len : C → F) (lt : F → F → 
           (λ t. (last, t))
           (λ t. (last, refl, one_more (len c) (λ y m. absurd (not-nil (subst (λ l. y ∈ l) e m))) (t, o.not_more (len c) k)))
       said (left x b) (m, e, a) =
-          pick-cases (closes c) (closed c) (pick (lt (len c) (less x)) (left (len c) c) (left x b)) After
+          pick-cases (closes c) (closed c) (cond (lt (len c) (less x)) (left (len c) c) (left x b)) After
           (λ t. (last, t))
           (λ t. pick-cases (lt (len c) (less x)) (left (len c) c) (left x b) After
           (λ u. (last, refl, one_more (len c) (λ y n. fallen x y u (a y n)) (t, o.not_more (len c) k)))

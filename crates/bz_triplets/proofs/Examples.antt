@@ -10,7 +10,7 @@ use Rattle.common.specs.Matrix.{identity, map_mat}
 use Rattle.common.specs.Array.{rows}
 use Rattle.grgrid.specs.Grid.{index}
 use Rattle.bzsearch.specs.Lattice.{bz_tolerance}
-use Rattle.bz_triplets.specs.BzTriplets.{squared_distance, lqd_inv, try_at, chosen, triplet_of, input_tests, triplets_read, states_read, bz_triplets_answer, triplets_written, left_written, left_length_written}
+use Rattle.bz_triplets.specs.BzTriplets.{squared_distance, lqd_inv, try_at, chosen, triplet_of, input_tests, triplets_read, states_read, bz_triplets_at_q}
 
 -- one image of each point
 abbrev addresses : List ℤ
@@ -37,10 +37,10 @@ pub record Row : Type 0 where
   pub lengths : List Float
 
 pub record Right (r : Row) : Type 0 where
-  pub answer : bz_triplets_answer (pos 1) addresses r.map classes d113 q lattice r.t 6 2 2 ≡ Accepted
-  pub triplets : triplets_written (pos 1) addresses r.map classes d113 q lattice r.t 6 2 2 ≡ r.triplets
-  pub marks : left_written (pos 1) addresses r.map classes d113 q lattice r.t 6 2 2 ≡ r.marks
-  pub lengths : left_length_written (pos 1) addresses r.map classes d113 q lattice r.t 6 2 2 ≡ r.lengths
+  pub answer : (bz_triplets_at_q (pos 1) addresses r.map classes d113 q lattice r.t 6 2 2).answer ≡ Accepted
+  pub triplets : (bz_triplets_at_q (pos 1) addresses r.map classes d113 q lattice r.t 6 2 2).out ≡ r.triplets
+  pub marks : (bz_triplets_at_q (pos 1) addresses r.map classes d113 q lattice r.t 6 2 2).left ≡ r.marks
+  pub lengths : (bz_triplets_at_q (pos 1) addresses r.map classes d113 q lattice r.t 6 2 2).left_length ≡ r.lengths
 
 abbrev AllRight : List Row → Type 0
 AllRight [] = Unit {0}
@@ -71,6 +71,6 @@ abbrev table : List Row
 table = listed (pos 2) (pos 0 ∷ pos 1 ∷ pos 2 ∷ pos 3 ∷ []) ∷ listed (pos 1) (replicate 24 (pos 24) ++ replicate 4 (pos 0)) ∷ empty ∷ []
 
 points : AllRight table
-unfolding bz_triplets_answer triplets_written left_written left_length_written states_read input_tests triplets_read triplet_of chosen try_at squared_distance lqd_inv bz_tolerance index abs_of size round add sub mul div lt le of_int of_bits
+unfolding bz_triplets_at_q states_read input_tests triplets_read triplet_of chosen try_at squared_distance lqd_inv bz_tolerance index abs_of size round add sub mul div lt le of_int of_bits
 points =
     (record { answer = refl; triplets = refl; marks = refl; lengths = refl }, (record { answer = refl; triplets = refl; marks = refl; lengths = refl }, (record { answer = refl; triplets = refl; marks = refl; lengths = refl }, tt)))

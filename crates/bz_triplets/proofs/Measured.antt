@@ -14,7 +14,7 @@ use Rattle.bzsearch.specs.SearchView.{float_nine}
 use Rattle.bzsearch.proofs.Sizes.{side-whole}
 use Rattle.bz_triplets.specs.declared.choices.Measure.{Measure}
 use Rattle.bz_triplets.specs.BzTriplets.{lqd_inv, walk_of}
-use Rattle.bz_triplets.specs.TripletsView.{row_over, walk_by}
+use Rattle.bz_triplets.specs.Code.TripletsView.{row_over, walk_by}
 
 -- the rows of lattice · Q, each over the diagonal numbers
 abbrev rows_over : List (List Float) → List Float → List (List Float)

@@ -17,7 +17,7 @@ use Rattle.bztable.specs.Reading.{Read, got, address_at}
 use Rattle.bz_triplets.specs.declared.choices.Step.{Step}
 use Rattle.bz_triplets.specs.declared.choices.Step.TheVariants as step
 use Rattle.bz_triplets.specs.BzTriplets.{Walk, sum_of, tried_sum, try_read, try_at}
-use Rattle.bz_triplets.specs.TripletsView.{found_by, is_closed}
+use Rattle.bz_triplets.specs.Code.TripletsView.{found_by, is_closed}
 
 -- ---- the sum
 module _ {a b c : List ℤ} (h : Sized 10000000000000 a × (Sized 10000000000000 b × Sized 10000000000000 c)) where

@@ -1,5 +1,6 @@
 -- `bz_triplets_at_q`: for each class a triplet of images of q0, q1 and q2. The image table and the class map may hold anything.
-use Rattle.std.specs.Prelude.{Bool, true, false, ◌&&◌, ◌||◌, List, [], ◌∷◌, ◌++◌, map as map_list, ℕ, zero, suc, ◌+◌, ◌*◌, ◌-◌, eqb, ℤ, pos, negsuc, nat_abs, ◌+ℤ◌, length, Float, Result, Ok, Err}
+use Rattle.std.specs.Prelude.{Bool, true, false, ◌&&◌, ◌||◌, List, [], ◌∷◌, ◌++◌, map as map_list, ℕ, zero, suc, ◌+◌}
+use Rattle.std.specs.Prelude.{◌*◌, ◌-◌, eqb, ℤ, pos, negsuc, nat_abs, ◌+ℤ◌, length, Float, Result, Ok, Err}
 use Rattle.std.specs.Float.{binary64}
 use Rattle.std.specs.Float.Ieee.{sub, div, of_int, lt}
 use Rattle.integer.specs.Same.{same}
@@ -25,7 +26,9 @@ use Rattle.bz_triplets.specs.Choosing.{Found, start, left, closed, tried, nested
 -- ---- the squared length of a sum, operation by operation as the Rust works it out
 -- lattice · Q · diag(1 / d)
 unfoldable pub lqd_inv : Mat Float → Mat ℤ → Vec ℕ → Mat Float
-lqd_inv lattice q d = let m = product_over floats lattice (map_mat (of_int binary64) q) in matrix (λ j k. div binary64 (entry m j k) (of_int binary64 (pos (side d k))))
+lqd_inv lattice q d =
+    let m = product_over floats lattice (map_mat (of_int binary64) q) in
+    matrix (λ j k. div binary64 (entry m j k) (of_int binary64 (pos (side d k))))
 
 unfoldable pub squared_distance : Mat Float → Vec ℤ → Float
 squared_distance m g = length_squared (apply_over floats m (map_vec (of_int binary64) g))
@@ -142,7 +145,11 @@ module _ (q0 : ℤ) (addresses classes d : List ℤ) (q : List (List ℤ)) (latt
       (require (is_dense (grid_type_of t) || point_fits q0 (pos (size (sides_of d)))) OutsideLimits (grid_type_of t)))
 
 abbrev pub walk_of : (addresses d : List ℤ) → List (List ℤ) → List (List Float) → Walk
-walk_of addresses d q lattice = record { lqd = lqd_inv (float_matrix lattice) (matrix_of q) (sides_of d); tolerance = bz_tolerance (float_matrix lattice) (sides_of d); addresses = addresses }
+walk_of addresses d q lattice = record {
+  lqd = lqd_inv (float_matrix lattice) (matrix_of q) (sides_of d);
+  tolerance = bz_tolerance (float_matrix lattice) (sides_of d);
+  addresses = addresses;
+}
 
 module _ (q0 : ℤ) (addresses map classes d : List ℤ) (q : List (List ℤ)) (lattice : List (List Float)) (t : GridType) where
   abbrev pub triplet_at : Vec ℤ → ℕ → Read State
@@ -153,6 +160,12 @@ module _ (q0 : ℤ) (addresses map classes d : List ℤ) (q : List (List ℤ)) (
   unfolding triplet_of lqd_inv
   triplets_read = address_of addresses q0 then λ a0. read_each (triplet_at a0) (own_points classes (length classes))
 
+pub record BzTriplets : Type 0 where
+  pub answer : Tested
+  pub out : List ℤ
+  pub left : List ℤ
+  pub left_length : List Float
+
 module _ (q0 : ℤ) (addresses map classes d : List ℤ) (q : List (List ℤ)) (lattice : List (List Float)) (t : ℤ) where
   -- what a call reads whose tests pass
   unfoldable pub states_read : List State
@@ -160,18 +173,15 @@ module _ (q0 : ℤ) (addresses map classes d : List ℤ) (q : List (List ℤ)) (
   states_read = list_of (grid_type_of t then triplets_read q0 addresses map classes d q lattice)
 
   module _ (n m l : ℕ) where
-    unfoldable pub bz_triplets_answer : Tested
+    unfoldable pub triplet_tests : Tested
     unfolding input_tests triplets_read
-    bz_triplets_answer = input_tests q0 addresses classes d q lattice t n m l then λ k. triplets_read q0 addresses map classes d q lattice k then λ _. Accepted
+    triplet_tests = input_tests q0 addresses classes d q lattice t n m l then λ k. triplets_read q0 addresses map classes d q lattice k then λ _. Accepted
 
-    unfoldable pub triplets_written : List ℤ
-    unfolding bz_triplets_answer states_read
-    triplets_written = output_of bz_triplets_answer n (triplet_list states_read)
-
-    unfoldable pub left_written : List ℤ
-    unfolding bz_triplets_answer states_read
-    left_written = output_of bz_triplets_answer m (marks states_read)
-
-    unfoldable pub left_length_written : List Float
-    unfolding bz_triplets_answer states_read
-    left_length_written = filled_or (of_int binary64 (negsuc 0)) bz_triplets_answer l (lengths states_read)
+    unfoldable pub bz_triplets_at_q : BzTriplets
+    unfolding triplet_tests states_read
+    bz_triplets_at_q = record {
+      answer = triplet_tests;
+      out = output_of triplet_tests n (triplet_list states_read);
+      left = output_of triplet_tests m (marks states_read);
+      left_length = filled_or (of_int binary64 (negsuc 0)) triplet_tests l (lengths states_read);
+    }

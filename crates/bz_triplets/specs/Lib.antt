@@ -1,3 +1,3 @@
 pub mod Choosing
 pub mod BzTriplets
-pub mod TripletsView
+pub mod Code

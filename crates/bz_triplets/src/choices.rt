@@ -5,7 +5,7 @@ ghost use Rattle.bzsearch.specs.SearchView.{float_nine};
 ghost use Rattle.bztable.specs.Reading.{got};
 ghost use Rattle.bz_triplets.specs.Choosing.{start, nested};
 ghost use Rattle.bz_triplets.specs.BzTriplets.{squared_distance, sum_of, is_zero, tried_sum, try_at, place_in};
-ghost use Rattle.bz_triplets.specs.TripletsView.{state_of, state_read, places_in, walk_by, shorter, is_closed, choice_view};
+ghost use Rattle.bz_triplets.specs.Code.TripletsView.{state_of, state_read, places_in, walk_by, shorter, is_closed, choice_view};
 
 use crate::places::{Choice, Place, Places};
 use bztable::reading;
@@ -131,7 +131,9 @@ pub fn search_choices(
     q2: Places,
     m: Measure,
 ) -> Result<Triplet, Refusal>
-    ensures { state_read result ≡ nested (try_at (walk_by m table.now.addresses.now)) (got start) (record { x = places_in q0; y = places_in q1; z = places_in q2 }) }
+    ensures { state_read result
+        ≡ nested (try_at (walk_by m table.now.addresses.now)) (got start)
+        (record { x = places_in q0; y = places_in q1; z = places_in q2 }) }
 {
     let none = Place { at: 0 };
     let mut found = Triplet {

@@ -7,8 +7,9 @@ ghost use Rattle.grgrid.specs.Own.{own_points};
 ghost use Rattle.grgrid.specs.Sides.{sides};
 ghost use Rattle.bzgrid.specs.declared.GridType.TheVariants.{Sparse, Dense};
 ghost use Rattle.bztable.specs.Reading.{got, vector_read};
-ghost use Rattle.bz_triplets.specs.BzTriplets.{places_read, chosen, first_of, triplet_of, read_each, places_of, mark_of, length_of, triplet_list, marks, lengths};
-ghost use Rattle.bz_triplets.specs.TripletsView.{state_of, state_read, places_listed, walk_by, step_place, Room};
+ghost use Rattle.bz_triplets.specs.BzTriplets.{places_read, chosen, first_of, triplet_of, read_each, places_of};
+ghost use Rattle.bz_triplets.specs.BzTriplets.{mark_of, length_of, triplet_list, marks, lengths};
+ghost use Rattle.bz_triplets.specs.Code.TripletsView.{state_of, state_read, places_listed, walk_by, step_place, Room};
 
 use crate::choices;
 use crate::choices::{Measure, Step, Triplet};
@@ -87,7 +88,8 @@ fn triplet_of(
     q1: Place,
     m: Measure,
 ) -> Result<Triplet, Refusal>
-    ensures { state_read result ≡ triplet_of table.now.t (sides table.now.g) table.now.map.now (walk_by m table.now.addresses.now) (vector_of a0.v) q0.at q1.at }
+    ensures { let w = walk_by m table.now.addresses.now in
+        state_read result ≡ triplet_of table.now.t (sides table.now.g) table.now.map.now w (vector_of a0.v) q0.at q1.at }
 {
     let a1 = first_of(table, q1.at)?;
     let q2 = Place {
@@ -151,9 +153,15 @@ pub fn fill_triplets(
     left_length: &mut [f64],
 ) -> Result<(), Refusal>
     requires { Room class_map.now (length out.old) (length left.old) (length left_length.old) }
-    ensures out_after { giving result out.new ≡ (read_each (triplet_of table.now.t (sides table.now.g) table.now.map.now (walk_by m table.now.addresses.now) (vector_of a0.v) q0.at) (own_points class_map.now (length class_map.now)) then λ l. got (triplet_list l)) }
-    ensures left_after { giving result left.new ≡ (read_each (triplet_of table.now.t (sides table.now.g) table.now.map.now (walk_by m table.now.addresses.now) (vector_of a0.v) q0.at) (own_points class_map.now (length class_map.now)) then λ l. got (marks l)) }
-    ensures left_length_after { giving result left_length.new ≡ (read_each (triplet_of table.now.t (sides table.now.g) table.now.map.now (walk_by m table.now.addresses.now) (vector_of a0.v) q0.at) (own_points class_map.now (length class_map.now)) then λ l. got (lengths l)) }
+    ensures out_after { let w = walk_by m table.now.addresses.now in
+        let f = triplet_of table.now.t (sides table.now.g) table.now.map.now w (vector_of a0.v) q0.at in
+        giving result out.new ≡ (read_each f (own_points class_map.now (length class_map.now)) then λ l. got (triplet_list l)) }
+    ensures left_after { let w = walk_by m table.now.addresses.now in
+        let f = triplet_of table.now.t (sides table.now.g) table.now.map.now w (vector_of a0.v) q0.at in
+        giving result left.new ≡ (read_each f (own_points class_map.now (length class_map.now)) then λ l. got (marks l)) }
+    ensures left_length_after { let w = walk_by m table.now.addresses.now in
+        let f = triplet_of table.now.t (sides table.now.g) table.now.map.now w (vector_of a0.v) q0.at in
+        giving result left_length.new ≡ (read_each f (own_points class_map.now (length class_map.now)) then λ l. got (lengths l)) }
 {
     let mut at = 0;
     for (q1, class) in class_map.iter().enumerate() {

@@ -5,7 +5,7 @@ mod choices;
 mod classes;
 mod places;
 
-ghost use Rattle.std.specs.Prelude.{◌≡◌, ◌&&◌, ◌||◌, [], ◌*◌, T, eqb, pos, nat_abs, length};
+ghost use Rattle.std.specs.Prelude.{◌≡◌, ◌&&◌, ◌||◌, [], ◌*◌, T, eqb, pos, nat_abs, length, IfOk};
 ghost use Rattle.std.specs.Int.Signed.{non_neg};
 ghost use Rattle.common.specs.Tested.{Accepted};
 ghost use Rattle.common.specs.Matrix.{entries};
@@ -17,8 +17,8 @@ ghost use Rattle.grgrid.specs.Sides.{sides};
 ghost use Rattle.bzsearch.specs.Lattice.{bz_tolerance, lattice_fits};
 ghost use Rattle.bzsearch.specs.SearchView.{float_nine};
 ghost use Rattle.bztable.specs.Reading.{whole_addresses};
-ghost use Rattle.bz_triplets.specs.BzTriplets.{lqd_inv, point_of, is_dense, input_tests, states_read, triplet_list, marks, lengths, bz_triplets_answer, triplets_written, left_written, left_length_written};
-ghost use Rattle.bz_triplets.specs.TripletsView.{row_over};
+ghost use Rattle.bz_triplets.specs.BzTriplets.{lqd_inv, point_of, is_dense, input_tests, triplet_tests, BzTriplets, bz_triplets_at_q};
+ghost use Rattle.bz_triplets.specs.Code.TripletsView.{row_over};
 
 use bzgrid::GridType;
 use bztable::reading;
@@ -144,10 +144,15 @@ fn triplet_tests(
     left: &mut [i64],
     left_length: &mut [f64],
 ) -> Result<(), Refusal>
-    ensures value { result ≡ bz_triplets_answer q0 addresses.now map.now class_map.now d q lattice bz_grid_type (length out.old) (length left.old) (length left_length.old) }
-    ensures out_after { result ≡ Accepted → out.new ≡ triplet_list (states_read q0 addresses.now map.now class_map.now d q lattice bz_grid_type) }
-    ensures left_after { result ≡ Accepted → left.new ≡ marks (states_read q0 addresses.now map.now class_map.now d q lattice bz_grid_type) }
-    ensures left_length_after { result ≡ Accepted → left_length.new ≡ lengths (states_read q0 addresses.now map.now class_map.now d q lattice bz_grid_type) }
+    ensures value { let n = length out.old in
+        let m = length left.old in
+        let l = length left_length.old in
+        result ≡ triplet_tests q0 addresses.now map.now class_map.now d q lattice bz_grid_type n m l }
+    ensures chosen { let n = length out.old in
+        let m = length left.old in
+        let l = length left_length.old in
+        let o : BzTriplets = record { answer = Accepted; out = out.new; left = left.new; left_length = left_length.new } in
+        IfOk result (λ _. o ≡ bz_triplets_at_q q0 addresses.now map.now class_map.now d q lattice bz_grid_type n m l) }
 {
     let t = input_tests(
         q0,
@@ -199,10 +204,11 @@ pub fn bz_triplets_at_q(
     left: &mut [i64],
     left_length: &mut [f64],
 ) -> Result<(), Refusal>
-    ensures value { result ≡ bz_triplets_answer q0 addresses.now map.now class_map.now d q lattice bz_grid_type (length out.old) (length left.old) (length left_length.old) }
-    ensures out_after { out.new ≡ triplets_written q0 addresses.now map.now class_map.now d q lattice bz_grid_type (length out.old) (length left.old) (length left_length.old) }
-    ensures left_after { left.new ≡ left_written q0 addresses.now map.now class_map.now d q lattice bz_grid_type (length out.old) (length left.old) (length left_length.old) }
-    ensures left_length_after { left_length.new ≡ left_length_written q0 addresses.now map.now class_map.now d q lattice bz_grid_type (length out.old) (length left.old) (length left_length.old) }
+    ensures { let n = length out.old in
+        let m = length left.old in
+        let l = length left_length.old in
+        let o : BzTriplets = record { answer = result; out = out.new; left = left.new; left_length = left_length.new } in
+        o ≡ bz_triplets_at_q q0 addresses.now map.now class_map.now d q lattice bz_grid_type n m l }
 {
     let answer = triplet_tests(
         q0,

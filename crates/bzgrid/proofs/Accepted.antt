@@ -1,4 +1,4 @@
--- What the tests of the input leave known, and the call from them and the tables.
+-- What the tests of the input leave known, and the outcome of the call from them and the tables.
 use mathlib.Core.Path.{◌≡◌, refl, sym, ◌∙◌, ap}
 use mathlib.Core.Bool.{Bool, true, false, not, ◌&&◌}
 use mathlib.Core.List.{List}
@@ -8,8 +8,7 @@ use lib.IntN.{ℤ}
 use lib.Ieee.{Float}
 use borrow.Author.Tests.{not-true}
 use Rattle.std.specs.Prelude.{Result, Ok, Err}
-use Rattle.bzgrid.specs.declared.Lengths.{Lengths}
-use Rattle.common.specs.Tested.{require, ◌then◌, told_of}
+use Rattle.common.specs.Tested.{require, ◌then◌}
 use Rattle.integer.proofs.Test.{and_l, and_r, holds}
 use Rattle.common.specs.Array.{matrix_of}
 use Rattle.common.specs.FloatMatrix.{float_matrix}
@@ -20,8 +19,7 @@ use Rattle.common.proofs.Tests.{refused-not-ok}
 use Rattle.bzgrid.specs.declared.GridType.{GridType}
 use Rattle.bzsearch.specs.Lattice.{singular, lattice_fits}
 use Rattle.bzsearch.specs.Search.{Search, unimodular}
-use Rattle.bzgrid.specs.BzGridAddresses.{grid_type_of, search_of, within_limits, input_tests, build_answer, build_addresses, build_map, build_grg, bz_answer, addresses_written, map_written, grg_written}
-use Rattle.bzgrid.specs.Walked.{blank}
+use Rattle.bzgrid.specs.BzGridAddresses.{grid_type_of, search_of, within_limits, input_tests, unbuilt, built, built_for, bz_grid_addresses}
 
 -- ---- a call that gives a value passed each of its tests
 module _ {A : Type 0} {a : A} where
@@ -70,32 +68,10 @@ module _ (d : List ℤ) (q : List (List ℤ)) (ps : List ℤ) (lattice : List (L
 
   -- ---- the call, with outputs of lengths x, y and z
   module _ (t : ℤ) (x y z : ℕ) where
-    abbrev Answers : Result Lengths Refusal → (a m b : List ℤ) → Type 0
-    Answers r a m b = (r ≡ bz_answer d q ps lattice t x y z) × ((a ≡ addresses_written d q ps lattice t x y z) × ((m ≡ map_written d q ps lattice t x y z) × (b ≡ grg_written d q ps lattice t x y z)))
+    pub accepted-call : {k : GridType} → input_tests d q ps lattice t ≡ Ok k → {s : Search} → s ≡ search_of d q ps lattice → built k s x y z ≡ bz_grid_addresses d q ps lattice t x y z
+    unfolding bz_grid_addresses
+    accepted-call h e = λ i. built_for (sym h i) (e i) x y z
 
-    abbrev answer : GridType → Result Lengths Refusal
-    answer k = build_answer k (search_of d q ps lattice) x y z
-
-    abbrev addresses : GridType → List ℤ
-    addresses k = build_addresses k (search_of d q ps lattice) x y z
-
-    abbrev map : GridType → List ℤ
-    map k = build_map k (search_of d q ps lattice) x y z
-
-    abbrev grg : GridType → List ℤ
-    grg k = build_grg k (search_of d q ps lattice) x y z
-
-    pub accepted-call : {k : GridType} {s : Search} → input_tests d q ps lattice t ≡ Ok k → s ≡ search_of d q ps lattice
-        → {r : Result Lengths Refusal} {a m b : List ℤ} → r ≡ build_answer k s x y z → a ≡ build_addresses k s x y z → m ≡ build_map k s x y z → b ≡ build_grg k s x y z → Answers r a m b
-    unfolding bz_answer addresses_written map_written grg_written
-    accepted-call {k} h es e p q' w = (
-      e ∙ ap (λ s. build_answer k s x y z) es ∙ ap (λ r. r then answer) (sym h),
-      (
-        p ∙ ap (λ s. build_addresses k s x y z) es ∙ ap (told_of addresses x) (sym h),
-        (q' ∙ ap (λ s. build_map k s x y z) es ∙ ap (told_of map y) (sym h), w ∙ ap (λ s. build_grg k s x y z) es ∙ ap (told_of grg z) (sym h)),
-      ),
-    )
-
-    pub refused-call : {r : Refusal} → input_tests d q ps lattice t ≡ Err r → {a m b : List ℤ} → a ≡ blank x → m ≡ blank y → b ≡ blank z → Answers (Err r) a m b
-    unfolding bz_answer addresses_written map_written grg_written
-    refused-call h p q' w = (ap (λ r. r then answer) (sym h), (p ∙ ap (told_of addresses x) (sym h), (q' ∙ ap (told_of map y) (sym h), w ∙ ap (told_of grg z) (sym h))))
+    pub refused-call : {r : Refusal} → input_tests d q ps lattice t ≡ Err r → unbuilt x y z r ≡ bz_grid_addresses d q ps lattice t x y z
+    unfolding bz_grid_addresses
+    refused-call h = ap (λ r. built_for r (search_of d q ps lattice) x y z) (sym h)

@@ -1,6 +1,6 @@
 -- What a walk over all points leaves in an output that has room: the table of either layout.
 use mathlib.Core.Path.{◌≡◌, refl, sym, ◌∙◌, ap, ap₂}
-use mathlib.Core.Bool.{Bool, true, false, not}
+use mathlib.Core.Bool.{Bool, true, false, not, cond}
 use mathlib.Core.List.{List, [], ◌∷◌, ◌++◌, append_assoc}
 use Prim.Native.Nat.{ℕ, zero, suc, ◌+◌, ◌*◌, ◌-◌, ◌≤◌}
 use native.Mathlib.Nat.{mul-le-mul_left}
@@ -9,17 +9,16 @@ use lib.Dec.{T, eqb}
 use lib.IntN.{ℤ, pos, negsuc}
 use lib.ListN.{length, take, drop, replicate, length-append, length-drop, length-replicate}
 use lib.Seq.{drop-drop}
-use Rattle.integer.specs.Checked.{pick}
 use Rattle.integer.proofs.Test.{and_l, and_r}
 use Rattle.common.specs.Array.{items}
 use Rattle.grgrid.specs.Build.{rows}
 use Rattle.bzgrid.specs.Table.{Image, first, others, dense, sparse, address_list, point_list}
 use Rattle.bzgrid.specs.BzGridAddresses.{all_found, padded}
-use Rattle.bzgrid.specs.Writing.{put_at, Tables, tables, store, stored, restart, written, if_sparse}
-use Rattle.bzgrid.specs.Walked.{later, before, after, blank}
+use Rattle.bzgrid.specs.Code.Writing.{put_at, Tables, tables, store, stored, restart, written, if_sparse}
+use Rattle.bzgrid.specs.Code.Walked.{later, before, after, blank}
 use Rattle.bzgrid.proofs.Runs.{at_stored, Found, cells, length-cells, cells-append, run, apart, drop-same, split-same}
 
-at-point : (sparse : Bool) (i : ℕ) (t : Tables) (xs : List Image) → Found xs → (stored (restart sparse i t) xs).at ≡ t.at + length (pick sparse (drop 1 xs) xs)
+at-point : (sparse : Bool) (i : ℕ) (t : Tables) (xs : List Image) → Found xs → (stored (restart sparse i t) xs).at ≡ t.at + length (cond sparse (drop 1 xs) xs)
 at-point false i t xs some = at_stored xs (restart false i t) refl
 at-point true i t [] some = absurd some
 at-point true i t (x ∷ ys) some = at_stored ys (store (restart true i t) x) refl
@@ -50,7 +49,7 @@ module _ (g : ℕ → List Image) where
 
   -- a table of either layout
   abbrev pub table : Bool → ℕ → List Image
-  table s n = pick s (sparse g n) (dense g n)
+  table s n = cond s (sparse g n) (dense g n)
 
   pub length-table : (s : Bool) (n : ℕ) → T (all_found g n) → length (table s n) ≡ if_sparse s n + before s g n
   length-table false n all = omega arith

@@ -1,6 +1,6 @@
 -- The map of a table: the counts that the walk leaves, and the doubled mesh before them.
 use mathlib.Core.Path.{◌≡◌, refl, sym, ◌∙◌, ap, ap₂}
-use mathlib.Core.Bool.{Bool, true, false}
+use mathlib.Core.Bool.{Bool, true, false, cond}
 use mathlib.Core.List.{List, [], ◌∷◌, ◌++◌, append_assoc, append-nil}
 use Prim.Native.Nat.{ℕ, zero, suc, ◌+◌, ◌*◌, ◌-◌, ◌≤◌, ◌<◌}
 use native.Mathlib.Numerals.{add-one}
@@ -11,7 +11,6 @@ use lib.Seq.{get_or-drop, drop-drop, drop_at, length-take-le}
 use Rattle.std.proofs.lemmas.List.{get_or-take}
 use Rattle.std.specs.Prelude.{◌/◌}
 use native.Mathlib.Nat.{le_refl}
-use Rattle.integer.specs.Checked.{pick}
 use Rattle.common.specs.Matrix.{Vec}
 use Rattle.common.specs.Array.{vector_of, row_at}
 use Rattle.grgrid.specs.Grid.{size, index}
@@ -19,8 +18,8 @@ use Rattle.grgrid.specs.Build.{rows}
 use Rattle.bzsearch.specs.Search.{numbers_from}
 use Rattle.bzgrid.specs.Table.{Image, listed, dense_map, others, doubled, placed, empty, sparse_map, address_list}
 use Rattle.bzgrid.specs.BzGridAddresses.{padded}
-use Rattle.bzgrid.specs.Writing.{put_at, if_sparse, counted, placed_flat, with_mesh}
-use Rattle.bzgrid.specs.Walked.{before, blank}
+use Rattle.bzgrid.specs.Code.Writing.{put_at, if_sparse, counted, placed_flat, with_mesh}
+use Rattle.bzgrid.specs.Code.Walked.{before, blank}
 use Rattle.bzgrid.proofs.Runs.{put-after, drop-same, split-same}
 use Rattle.bzgrid.proofs.Layouts.{table}
 
@@ -79,7 +78,7 @@ pub mesh-front : (sparse : Bool) (d : Vec ℕ) (l map : List ℤ) (m : ℕ) → 
     → with_mesh sparse d (take (3 * m) l) (length (take (3 * m) l) / 3) map ≡ with_mesh sparse d l m map
 mesh-front sparse d l map m h =
     ap (λ k. with_mesh sparse d (take (3 * m) l) k map) count
-    ∙ ap (λ r. pick sparse (r ++ drop (size d) map) map) (placed-front d l (replicate (size d) (pos (size d))) m m (le_refl m))
+    ∙ ap (λ r. cond sparse (r ++ drop (size d) map) map) (placed-front d l (replicate (size d) (pos (size d))) m m (le_refl m))
   where
     count : length (take (3 * m) l) / 3 ≡ m
     count = omega (arith, length-take-le (3 * m) l h)
@@ -123,7 +122,7 @@ module _ (d : Vec ℕ) (g : ℕ → List Image) (b : ℕ) where
 
   pub mapped : (s : Bool) (a : ℕ) → if_sparse s (8 * size d) + (size d + 1) ≤ b
       → with_mesh s (doubled d) (padded (address_list (table g s (size d))) a) (length (table g s (size d))) (counted (before s g) (if_sparse s (8 * size d)) (blank b) (suc (size d)))
-      ≡ padded (pick s (sparse_map d g) (dense_map g (size d))) b
+      ≡ padded (cond s (sparse_map d g) (dense_map g (size d))) b
   mapped false a m = dense-map (omega arith)
   mapped true a m =
       let xs = table g true (size d) in

@@ -1,15 +1,14 @@
 -- From what the walk and the test of the lengths leave to what the call answers and writes.
 use mathlib.Core.Path.{◌≡◌, refl, sym, ◌∙◌, ap, ap₂, subst, subst₂}
-use mathlib.Core.Bool.{Bool, true, false, false≢true, ◌&&◌}
+use mathlib.Core.Bool.{Bool, true, false, false≢true, ◌&&◌, cond}
 use mathlib.Core.List.{List}
 use Prim.Native.Nat.{ℕ, ◌+◌, ◌*◌, ◌≤◌, ◌<◌}
 use native.Mathlib.Omega.{arith}
 use lib.Dec.{T, leb, leb→le}
 use lib.IntN.{ℤ}
 use lib.ListN.{length}
-use Rattle.std.specs.Prelude.{Ok, Err}
-use Rattle.integer.specs.Checked.{pick}
-use Rattle.integer.proofs.Test.{and_l, and_r, holds}
+use Rattle.std.specs.Prelude.{Option, Some, None, Result, Ok, Err, IfOk}
+use Rattle.integer.proofs.Test.{and_l, and_r, holds, is_true}
 use Rattle.common.specs.Matrix.{Axis, X, Y, Z, Vec, side}
 use Rattle.common.specs.Array.{sides_of}
 use Rattle.common.specs.Limits.{diagonal_fits}
@@ -17,26 +16,26 @@ use Rattle.common.specs.Tested.{require, output_of, Tested, Accepted, giving}
 use Rattle.common.specs.declared.Refusal.{Refusal}
 use Rattle.common.specs.declared.Refusal.TheVariants.{SearchFailed, WrongLength}
 use Rattle.common.proofs.Matrix.{side-vector}
+use Rattle.common.proofs.Tests.{same-refusal, refused-not-ok}
 use Rattle.grgrid.specs.Grid.{size}
 use Rattle.grgrid.proofs.Accepted.{side-small, few-points, grid-fits}
 use Rattle.bzgrid.specs.declared.GridType.{GridType}
 use Rattle.bzgrid.specs.declared.GridType.TheVariants.{Sparse, Dense}
 use Rattle.bzgrid.specs.declared.Lengths.{Lengths}
-use Rattle.std.specs.Prelude.{Option, Some, None}
 use Rattle.bzsearch.specs.Search.{Search}
 use Rattle.bzgrid.specs.Table.{Image, images_at, dense_map, sparse_map, doubled, address_list, point_list}
-use Rattle.bzgrid.specs.BzGridAddresses.{is_sparse, table_of, map_of, map_length, all_found, lengths_of, has_room, padded, build_tests, build_answer, build_addresses, build_map, build_grg}
-use Rattle.bzgrid.specs.Writing.{if_sparse, with_mesh}
-use Rattle.bzgrid.specs.Walked.{walk_of, blank, WrittenTo, lengths_for, judged, is_built, Filled, MeshFits}
+use Rattle.bzgrid.specs.BzGridAddresses.{is_sparse, table_of, map_of, map_length, all_found, lengths_of, has_room, padded, BzGridAddresses, unbuilt, build_tests, built}
+use Rattle.bzgrid.specs.Code.Writing.{if_sparse, with_mesh}
+use Rattle.bzgrid.specs.Code.Walked.{walk_of, blank, WrittenTo, lengths_for, judged, MeshFits}
 use Rattle.bzgrid.proofs.Layouts.{table, length-table, addresses-laid, points-laid}
 use Rattle.bzgrid.proofs.Mapped.{size-doubled, mapped}
 
 -- ---- what the walk answers
-told-images : (f : Bool) (k : ℕ) {m : ℕ} → Some m ≡ pick f (Some k) None → (f ≡ true) × (m ≡ k)
+told-images : (f : Bool) (k : ℕ) {m : ℕ} → Some m ≡ cond f (Some k) None → (f ≡ true) × (m ≡ k)
 told-images true k e = (refl, cc)
 told-images false k e = let z : ◌≡◌ {A = Bool} false true = cc in absurd (false≢true z)
 
-told-missing : (f : Bool) (k : ℕ) → None ≡ pick f (Some k) None → f ≡ false
+told-missing : (f : Bool) (k : ℕ) → None ≡ cond f (Some k) None → f ≡ false
 told-missing true k e = let z : ◌≡◌ {A = Bool} false true = cc in absurd (false≢true z)
 told-missing false k e = refl
 
@@ -46,7 +45,7 @@ module _ (d : Vec ℕ) (g : ℕ → List Image) where
   table_is Sparse = refl
   table_is Dense = refl
 
-  map_is : (t : GridType) → map_of t d g ≡ pick (is_sparse t) (sparse_map d g) (dense_map g (size d))
+  map_is : (t : GridType) → map_of t d g ≡ cond (is_sparse t) (sparse_map d g) (dense_map g (size d))
   map_is Sparse = refl
   map_is Dense = refl
 
@@ -82,12 +81,12 @@ room_for sp n m x y z r =
     let q = and_r (leb (3 * m) x) (leb b y && leb m z) r in
     (leb→le (3 * m) x (and_l (leb (3 * m) x) (leb b y && leb m z) r), leb→le b y (and_l (leb b y) (leb m z) q), leb→le m z (and_r (leb b y) (leb m z) q))
 
-built-room : (l : Lengths) (x y z : ℕ) → T (is_built (judged l x y z)) → T (has_room l x y z)
-built-room l x y z = by (has_room l x y z)
+built-room : (l : Lengths) (x y z : ℕ) {k : Lengths} → Ok k ≡ judged l x y z → T (has_room l x y z)
+built-room l x y z {k} = by (has_room l x y z)
   where
-    by : (h : Bool) → T (is_built (pick h (Ok l) (Err WrongLength))) → T h
-    by true b = tt
-    by false b = b
+    by : (h : Bool) → Ok k ≡ cond h (Ok l) (Err WrongLength) → T h
+    by true e = tt
+    by false e = absurd (refused-not-ok (sym e))
 
 module _ (t : GridType) (s : Search) (x y z : ℕ) where
   abbrev g : ℕ → List Image
@@ -99,13 +98,30 @@ module _ (t : GridType) (s : Search) (x y z : ℕ) where
   abbrev tests : Bool → Bool → Tested
   tests f h = require f SearchFailed (require h WrongLength Accepted)
 
+  -- by the tests' answer
+  abbrev pub outcome : Tested → BzGridAddresses
+  outcome k = record {
+    answer = giving k (lengths_of t s.d g);
+    addresses = output_of k x (padded (address_list (table_of t g n)) x);
+    map = output_of k y (padded (map_of t s.d g) y);
+    grg = output_of k z (padded (point_list (table_of t g n)) z);
+  }
+
+  pub refused : {r : Refusal} → Err r ≡ (built t s x y z).answer → unbuilt x y z r ≡ built t s x y z
+  unfolding built
+  refused {r} = by (build_tests t s x y z)
+    where
+      by : (k : Tested) → Err r ≡ giving k (lengths_of t s.d g) → unbuilt x y z r ≡ outcome k
+      by (Ok _) e = absurd (refused-not-ok e)
+      by (Err q) e = ap (unbuilt x y z) (same-refusal e)
+
   -- the code's names: whether the table is sparse, and the number of points
   module _ {sp : Bool} {k : ℕ} (es : sp ≡ is_sparse t) (ek : k ≡ n) where
     told : {w : Option ℕ} → w ≡ walk_of sp g k → w ≡ walk_of (is_sparse t) g n
     told e = e ∙ ap₂ (λ b j. walk_of b g j) es ek
 
-    pub failed : None ≡ walk_of sp g k → Err SearchFailed ≡ build_answer t s x y z
-    unfolding build_answer build_tests
+    pub failed : None ≡ walk_of sp g k → Err SearchFailed ≡ (built t s x y z).answer
+    unfolding built build_tests
     failed e = sym (ap (λ f. giving (tests f (has_room (lengths_of t s.d g) x y z)) (lengths_of t s.d g)) (told-missing (all_found g n) _ (told e)))
 
     module _ {m : ℕ} (e : Some m ≡ walk_of sp g k) where
@@ -120,25 +136,33 @@ module _ (t : GridType) (s : Search) (x y z : ℕ) where
           ap₂ (λ b j. lengths_for b j m) es ek
           ∙ ap₂ (λ c j. record { addresses = 3 * c; map = j; grg = c }) (count ∙ ap length (sym (table_is s.d g t))) (map-length s.d g t)
 
-      pub answered : judged (lengths_for sp k m) x y z ≡ build_answer t s x y z
-      unfolding build_answer build_tests
+      pub answered : judged (lengths_for sp k m) x y z ≡ (built t s x y z).answer
+      unfolding built build_tests
       answered = ap (λ l. judged l x y z) lengths ∙ by (has_room (lengths_of t s.d g) x y z) ∙ ap (λ f. giving (tests f (has_room (lengths_of t s.d g) x y z)) (lengths_of t s.d g)) (sym found)
         where
-          by : (h : Bool) → pick h (Ok (lengths_of t s.d g)) (Err WrongLength) ≡ giving (tests true h) (lengths_of t s.d g)
+          by : (h : Bool) → cond h (Ok (lengths_of t s.d g)) (Err WrongLength) ≡ giving (tests true h) (lengths_of t s.d g)
           by true = refl
           by false = refl
 
-      module _ (built : T (is_built (judged (lengths_for sp k m) x y z))) where
+      module _ {l : Lengths} (j : Ok l ≡ judged (lengths_for sp k m) x y z) where
         room : (3 * m ≤ x) × (if_sparse (is_sparse t) (8 * n) + (n + 1) ≤ y) × (m ≤ z)
-        room = room_for (is_sparse t) n m x y z (subst T (ap₂ (λ b j. has_room (lengths_for b j m) x y z) es ek) (built-room (lengths_for sp k m) x y z built))
+        room = room_for (is_sparse t) n m x y z (subst T (ap₂ (λ b j. has_room (lengths_for b j m) x y z) es ek) (built-room (lengths_for sp k m) x y z j))
 
-        pub filled : {a m₁ b m₂ : List ℤ} {d : Vec ℕ} → (T (all_found g k) → WrittenTo sp g k (if_sparse sp (8 * k)) (blank x) (blank y) (blank z) a m₁ b)
-            → d ≡ doubled s.d → m₂ ≡ with_mesh sp d a m m₁ → Filled t s x y z a m₂ b
-        filled {a} {m₁} {b} h ed q = record {
-          addresses = laid ∙ ap (λ xs. padded (address_list xs) x) (sym (table_is s.d g t));
-          map = q ∙ (λ i. with_mesh (es i) (ed i) (laid i) (count i) (w.map i)) ∙ mapped s.d g y (is_sparse t) x room.1 ∙ ap (λ l. padded l y) (sym (map_is s.d g t));
-          grg = w.grg ∙ points-laid g (is_sparse t) n x z (holds found) (subst (λ k. k ≤ z) count room.2) ∙ ap (λ xs. padded (point_list xs) z) (sym (table_is s.d g t));
-        }
+        passed : build_tests t s x y z ≡ Accepted
+        unfolding build_tests
+        passed = ap₂ tests found (ap (λ l. has_room l x y z) (sym lengths) ∙ is_true (has_room (lengths_for sp k m) x y z) (built-room (lengths_for sp k m) x y z j))
+
+        whole : {a m₁ b m₂ : List ℤ} {d : Vec ℕ} → (T (all_found g k) → WrittenTo sp g k (if_sparse sp (8 * k)) (blank x) (blank y) (blank z) a m₁ b)
+            → d ≡ doubled s.d → m₂ ≡ with_mesh sp d a m m₁ → record { answer = Ok l; addresses = a; map = m₂; grg = b } ≡ built t s x y z
+        unfolding built
+        whole {a} {m₁} {b} h ed q =
+            (λ i. record {
+              answer = (j ∙ answered ∙ ap (λ k. giving k (lengths_of t s.d g)) passed) i;
+              addresses = (laid ∙ ap (λ xs. padded (address_list xs) x) (sym (table_is s.d g t))) i;
+              map = (q ∙ (λ i. with_mesh (es i) (ed i) (laid i) (count i) (w.map i)) ∙ mapped s.d g y (is_sparse t) x room.1 ∙ ap (λ l. padded l y) (sym (map_is s.d g t))) i;
+              grg = (w.grg ∙ points-laid g (is_sparse t) n x z (holds found) (subst (λ k. k ≤ z) count room.2) ∙ ap (λ xs. padded (point_list xs) z) (sym (table_is s.d g t))) i;
+            })
+            ∙ ap outcome (sym passed)
           where
             w : WrittenTo (is_sparse t) g n (if_sparse (is_sparse t) (8 * n)) (blank x) (blank y) (blank z) a m₁ b
             w = subst₂ (λ c j. WrittenTo c g j (if_sparse c (8 * j)) (blank x) (blank y) (blank z) a m₁ b) es ek (h (subst (λ j. T (all_found g j)) (sym ek) (holds found)))
@@ -146,46 +170,7 @@ module _ (t : GridType) (s : Search) (x y z : ℕ) where
             laid : a ≡ padded (address_list (table g (is_sparse t) n)) x
             laid = w.addresses ∙ addresses-laid g (is_sparse t) n x z (holds found) (subst (λ k. 3 * k ≤ x) count room.0)
 
--- ---- -1 in every place where the tables are refused
-accepts : (x : Tested) (k : Lengths) {l : Lengths} → Ok l ≡ giving x k → x ≡ Accepted
-accepts (Ok _) k e = refl
-accepts (Err r) k e = let z : ◌≡◌ {A = Bool} false true = cc in absurd (false≢true z)
-
-refuses : (x : Tested) (k : Lengths) {r : Refusal} → Err r ≡ giving x k → x ≡ Err r
-refuses (Ok _) k e = let z : ◌≡◌ {A = Bool} false true = cc in absurd (false≢true z)
-refuses (Err r) k e = cc
-
-module _ {q : Tested} (n : ℕ) (l : List ℤ) {o : List ℤ} where
-  pub left : q ≡ Accepted → o ≡ l → o ≡ output_of q n l
-  left e p = p ∙ ap (λ q. output_of q n l) (sym e)
-
-  pub wiped : {r : Refusal} → q ≡ Err r → o ≡ blank n → o ≡ output_of q n l
-  wiped e p = p ∙ ap (λ q. output_of q n l) (sym e)
-
-module _ (t : GridType) (s : Search) (x y z : ℕ) where
-  abbrev Holds : (a m b : List ℤ) → Type 0
-  Holds a m b = (a ≡ build_addresses t s x y z) × ((m ≡ build_map t s x y z) × (b ≡ build_grg t s x y z))
-
-  abbrev images : List Image
-  images = table_of t (images_at s) (size s.d)
-
-  abbrev addresses : List ℤ
-  addresses = padded (address_list images) x
-
-  abbrev map : List ℤ
-  map = padded (map_of t s.d (images_at s)) y
-
-  abbrev grg : List ℤ
-  grg = padded (point_list images) z
-
-  pub built-holds : {l : Lengths} {a m b : List ℤ} → Ok l ≡ build_answer t s x y z → Filled t s x y z a m b → Holds a m b
-  unfolding build_answer build_addresses build_map build_grg
-  built-holds e f =
-      let h = accepts (build_tests t s x y z) (lengths_of t s.d (images_at s)) e in
-      (left x addresses h f.addresses, (left y map h f.map, left z grg h f.grg))
-
-  pub refused-holds : {r : Refusal} {a m b : List ℤ} → Err r ≡ build_answer t s x y z → a ≡ blank x → m ≡ blank y → b ≡ blank z → Holds a m b
-  unfolding build_answer build_addresses build_map build_grg
-  refused-holds e p q r =
-      let h = refuses (build_tests t s x y z) (lengths_of t s.d (images_at s)) e in
-      (wiped x addresses h p, (wiped y map h q, wiped z grg h r))
+      pub filled : {a m₁ b : List ℤ} (m₂ : List ℤ) {d : Vec ℕ} → (T (all_found g k) → WrittenTo sp g k (if_sparse sp (8 * k)) (blank x) (blank y) (blank z) a m₁ b) → d ≡ doubled s.d
+          → (r : Result Lengths Refusal) → r ≡ judged (lengths_for sp k m) x y z → IfOk r (λ _. m₂ ≡ with_mesh sp d a m m₁) → IfOk r (λ l. record { answer = Ok l; addresses = a; map = m₂; grg = b } ≡ built t s x y z)
+      filled m₂ h ed (Ok l) j q = whole j h ed q
+      filled m₂ h ed (Err r) j q = tt

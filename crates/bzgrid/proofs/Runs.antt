@@ -9,15 +9,20 @@ use borrow.Rule.Slice.PartMut.{put_mid, Post-is}
 use lib.Dec.{T, eqb}
 use Rattle.common.specs.Array.{items, vector_of}
 use lib.IntN.{ℤ}
-use lib.ListN.{length, take, drop, replicate, length-append, length-drop, replicate-append-replicate}
+use lib.ListN.{length, set, take, drop, replicate, length-append, length-drop, replicate-append-replicate}
 use lib.Seq.{sets, sets-eq, take_at, drop-append-add, drop-append-le, drop-drop}
 use Rattle.bzgrid.specs.Table.{Image}
-use Rattle.bzgrid.specs.Writing.{put_at, Tables, store, stored}
+use Rattle.bzgrid.specs.Code.Writing.{put, put_at, Tables, store, stored}
+
+-- the library's word
+put-sets : (v l : List ℤ) (i : ℕ) → put l i v ≡ sets l i v
+put-sets [] l i = refl
+put-sets (x ∷ v) l i = put-sets v (set l i x) (suc i)
 
 module _ (w k : ℕ) (l v : List ℤ) where
   pub put_in : w * k + w ≤ length l → put_at w l k v ≡ sets l (w * k) v
   unfolding put_at
-  put_in h = rw (le-leb (w * k + w) (length l) h)
+  put_in h = rw (le-leb (w * k + w) (length l) h) (put-sets v l (w * k))
 
   pub put-out : length l < w * k + w → put_at w l k v ≡ l
   unfolding put_at

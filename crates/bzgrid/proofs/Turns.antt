@@ -1,7 +1,7 @@
 -- The walk over the points, turn by turn.
 use mathlib.Core.Path.{◌≡◌, refl, sym, ◌∙◌, ap, ap₂, subst}
 use mathlib.Core.Logic.{⊎_elim}
-use mathlib.Core.Bool.{Bool, true, false, not}
+use mathlib.Core.Bool.{Bool, true, false, not, cond}
 use mathlib.Core.List.{List, [], ◌∷◌}
 use Prim.Native.Nat.{ℕ, zero, suc, ◌+◌, ◌-◌, ◌<◌, ◌≤◌}
 use native.Mathlib.Nat.{not-suc-le-zero, le_of_suc-le-suc, eq-or-lt_of_le}
@@ -10,14 +10,13 @@ use native.Mathlib.Omega.{arith}
 use lib.Dec.{T, eqb, eqb-suc-zero, not_T}
 use lib.IntN.{ℤ, pos}
 use lib.ListN.{length, length-append}
-use Rattle.integer.specs.Checked.{pick}
 use Rattle.integer.proofs.Test.{and_in, is_true, is_false, fails}
 use Rattle.std.specs.Prelude.{Some, None}
 use Rattle.grgrid.specs.Build.{rows}
 use Rattle.bzgrid.specs.Table.{Image}
 use Rattle.bzgrid.specs.BzGridAddresses.{all_found}
-use Rattle.bzgrid.specs.Writing.{put_at, Tables, tables, stored, restart, if_sparse, counted}
-use Rattle.bzgrid.specs.Walked.{before, after, walk_of, WrittenTo}
+use Rattle.bzgrid.specs.Code.Writing.{put_at, Tables, tables, stored, restart, if_sparse, counted}
+use Rattle.bzgrid.specs.Code.Walked.{before, after, walk_of, WrittenTo}
 use Rattle.bzgrid.proofs.Runs.{next-stored, Found}
 use Rattle.bzgrid.proofs.Layouts.{below, here, at-written}
 
@@ -26,7 +25,7 @@ moved : (xs : List Image) (t : Tables) → ((stored t xs).next ≡ t.next → �
 moved [] t h = h refl
 moved (x ∷ xs) t h = fails (eqb-suc-zero (length xs))
 
-restarted : (sparse : Bool) (u : Tables) (i k : ℕ) {a b : List ℤ} {x y : ℕ} → a ≡ u.addresses → b ≡ u.grg → k ≡ u.at → x ≡ pick sparse i k → y ≡ pick sparse k (k + 1)
+restarted : (sparse : Bool) (u : Tables) (i k : ℕ) {a b : List ℤ} {x y : ℕ} → a ≡ u.addresses → b ≡ u.grg → k ≡ u.at → x ≡ cond sparse i k → y ≡ cond sparse k (k + 1)
     → tables a b x y ≡ restart sparse i u
 restarted true u i k p q e f h = λ j. tables (p j) (q j) (f j) ((h ∙ e) j)
 restarted false u i k p q e f h = λ j. tables (p j) (q j) ((f ∙ e) j) ((h ∙ ap (λ m. m + 1) e) j)
@@ -72,7 +71,7 @@ module _ {sparse : Bool} {g : ℕ → List Image} {n base : ℕ} {a₀ m₀ b₀
     count-put : {m' : List ℤ} → m' ≡ put_at 1 m (base + i) (pos (k - from) ∷ []) → m' ≡ counted (before sparse g) base m₀ (suc i)
     count-put p = p ∙ ap₂ (λ l c. put_at 1 l (base + i) (pos c ∷ [])) r.map count
 
-    module _ {a' b' : List ℤ} {x y x' y' : ℕ} (ex : x ≡ pick sparse i k) (ey : y ≡ pick sparse k (k + 1)) (e : tables a' b' x' y' ≡ stored (tables a b x y) (g i)) where
+    module _ {a' b' : List ℤ} {x y x' y' : ℕ} (ex : x ≡ cond sparse i k) (ey : y ≡ cond sparse k (k + 1)) (e : tables a' b' x' y' ≡ stored (tables a b x y) (g i)) where
       pub turn : {m' : List ℤ} → m' ≡ put_at 1 m (base + i) (pos (k - from) ∷ []) → (y' ≡ y → ⊥) → Reached sparse g n base a₀ m₀ b₀ a' m' b' x' (i + 1)
       turn p h = subst (Reached sparse g n base a₀ m₀ b₀ a' _ b' x') (sym (add-one i)) (record {
         found = all;
@@ -91,7 +90,7 @@ module _ {sparse : Bool} {g : ℕ → List Image} {n base : ℕ} {a₀ m₀ b₀
       -- no image was stored
       pub missing : i < n → y' ≡ y → {P : Type 0} → (None ≡ walk_of sparse g n) × (T (all_found g n) → P)
       missing l h =
-          (ap (λ f. pick f (Some (if_sparse sparse n + before sparse g n)) None) (sym (is_false (all_found g n) (not_T (all_found g n) lacks))), λ all. absurd (lacks all))
+          (ap (λ f. cond f (Some (if_sparse sparse n + before sparse g n)) None) (sym (is_false (all_found g n) (not_T (all_found g n) lacks))), λ all. absurd (lacks all))
         where
           lacks : T (all_found g n) → ⊥
           lacks all = none (g i) (found_at g n i l all) (sym (next-stored (g i) (tables a b x y)) ∙ sym (ap (λ (t : Tables). t.next) e) ∙ h)
@@ -104,6 +103,6 @@ module _ {sparse : Bool} {g : ℕ → List Image} {n base : ℕ} {a₀ m₀ b₀
       → (Some k ≡ walk_of sparse g n) × (T (all_found g n) → WrittenTo sparse g n base a₀ m₀ b₀ a m' b)
   ended {a} {m} {b} {k} r q ef p =
       let s = subst (Reached sparse g n base a₀ m₀ b₀ a m b k) q r in (
-        ap Some s.place ∙ ap (λ f. pick f (Some (if_sparse sparse n + before sparse g n)) None) (sym (is_true (all_found g n) s.found)),
+        ap Some s.place ∙ ap (λ f. cond f (Some (if_sparse sparse n + before sparse g n)) None) (sym (is_true (all_found g n) s.found)),
         λ all. record { addresses = s.addresses; grg = s.grg; map = count-put s ef p },
       )

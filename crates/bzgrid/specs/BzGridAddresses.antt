@@ -1,13 +1,13 @@
--- `bz_grid_addresses`: the tests, in document 01's order, the answer and the three outputs.
-use Rattle.std.specs.Prelude.{Bool, true, false, not, ◌&&◌, List, ◌++◌, ℕ, zero, suc, ◌+◌, ◌*◌, ◌-◌, leb, eqb, ℤ, pos, negsuc, Float, length, replicate, Result, Ok, Err}
+-- `bz_grid_addresses`: its tests, in document 01's order, and its answer with the three outputs, as one outcome.
+use Rattle.std.specs.Prelude.{Bool, true, false, not, ◌&&◌, List, ◌++◌, ℕ, zero, suc, ◌+◌, ◌*◌, ◌-◌, leb, eqb, ℤ, pos}
+use Rattle.std.specs.Prelude.{negsuc, Float, length, replicate, Result, Ok, Err, cond}
 use Rattle.common.specs.declared.Refusal.{Refusal}
 use Rattle.integer.specs.Same.{same}
-use Rattle.integer.specs.Checked.{pick}
 use Rattle.common.specs.Matrix.{Vec}
 use Rattle.common.specs.Array.{vector_of, sides_of, matrix_of}
 use Rattle.common.specs.FloatMatrix.{float_matrix}
 use Rattle.common.specs.Limits.{matrix_within, diagonal_fits, shift_fits}
-use Rattle.common.specs.Tested.{require, output_of, Tested, Accepted, ◌then◌, giving, told_of}
+use Rattle.common.specs.Tested.{require, output_of, Tested, Accepted, ◌then◌, giving}
 use Rattle.common.specs.declared.Refusal.TheVariants.{OutsideLimits, BadGridType, NotUnimodularQ, SingularReciprocalLattice, SearchFailed, WrongLength}
 use Rattle.grgrid.specs.Grid.{size}
 use Rattle.bzgrid.specs.declared.GridType.{GridType}
@@ -18,7 +18,7 @@ use Rattle.bzsearch.specs.Search.{Search, new_search, unimodular}
 use Rattle.bzgrid.specs.Table.{Image, images_at, dense, dense_map, sparse, sparse_map, empty, address_list, point_list}
 
 abbrev pub grid_type_of : ℤ → Result GridType Refusal
-grid_type_of t = pick (same t (pos 1)) (Ok Sparse) (pick (same t (pos 2)) (Ok Dense) (Err BadGridType))
+grid_type_of t = cond (same t (pos 1)) (Ok Sparse) (cond (same t (pos 2)) (Ok Dense) (Err BadGridType))
 
 abbrev pub is_sparse : GridType → Bool
 is_sparse Sparse = true
@@ -65,51 +65,43 @@ input_tests d q ps lattice t =
     require (unimodular (matrix_of q)) NotUnimodularQ
     (require (not (singular (float_matrix lattice))) SingularReciprocalLattice (Ok k)))
 
--- ---- the tables of a search, for outputs of lengths a, b and c: -1 in the places past the table's
+-- ---- the answer, and the outputs, which have a, b and c places: -1 in those past the tables'
+pub record BzGridAddresses : Type 0 where
+  pub answer : Result Lengths Refusal
+  pub addresses : List ℤ
+  pub map : List ℤ
+  pub grg : List ℤ
+
 abbrev pub padded : List ℤ → ℕ → List ℤ
 padded l n = l ++ replicate (n - length l) (negsuc 0)
 
+module _ (a b c : ℕ) where
+  -- -1 everywhere
+  abbrev pub unbuilt : Refusal → BzGridAddresses
+  unbuilt r = record { answer = Err r; addresses = replicate a (negsuc 0); map = replicate b (negsuc 0); grg = replicate c (negsuc 0) }
+
+-- the tables of a search
 module _ (t : GridType) (s : Search) (a b c : ℕ) where
   unfoldable pub build_tests : Tested
   unfolding images_at
   build_tests = require (all_found (images_at s) (size s.d)) SearchFailed (require (has_room (lengths_of t s.d (images_at s)) a b c) WrongLength Accepted)
 
-  unfoldable pub build_answer : Result Lengths Refusal
+  unfoldable pub built : BzGridAddresses
   unfolding build_tests images_at
-  build_answer = giving build_tests (lengths_of t s.d (images_at s))
-
-  unfoldable pub build_addresses : List ℤ
-  unfolding build_tests images_at
-  build_addresses = output_of build_tests a (padded (address_list (table_of t (images_at s) (size s.d))) a)
-
-  unfoldable pub build_map : List ℤ
-  unfolding build_tests images_at
-  build_map = output_of build_tests b (padded (map_of t s.d (images_at s)) b)
-
-  unfoldable pub build_grg : List ℤ
-  unfolding build_tests images_at
-  build_grg = output_of build_tests c (padded (point_list (table_of t (images_at s) (size s.d))) c)
+  built =
+      let table = table_of t (images_at s) (size s.d) in
+      record {
+        answer = giving build_tests (lengths_of t s.d (images_at s));
+        addresses = output_of build_tests a (padded (address_list table) a);
+        map = output_of build_tests b (padded (map_of t s.d (images_at s)) b);
+        grg = output_of build_tests c (padded (point_list table) c);
+      }
 
 -- ---- the call
-module _ (d : List ℤ) (q : List (List ℤ)) (ps : List ℤ) (lattice : List (List Float)) (t : ℤ) (a b c : ℕ) where
-  abbrev tests : Result GridType Refusal
-  tests = input_tests d q ps lattice t
+abbrev pub built_for : Result GridType Refusal → Search → (a b c : ℕ) → BzGridAddresses
+built_for (Ok k) s a b c = built k s a b c
+built_for (Err r) s a b c = unbuilt a b c r
 
-  abbrev s : Search
-  s = search_of d q ps lattice
-
-  unfoldable pub bz_answer : Result Lengths Refusal
-  unfolding input_tests build_answer
-  bz_answer = tests then λ k. build_answer k s a b c
-
-  unfoldable pub addresses_written : List ℤ
-  unfolding input_tests build_addresses
-  addresses_written = told_of (λ k. build_addresses k s a b c) a tests
-
-  unfoldable pub map_written : List ℤ
-  unfolding input_tests build_map
-  map_written = told_of (λ k. build_map k s a b c) b tests
-
-  unfoldable pub grg_written : List ℤ
-  unfolding input_tests build_grg
-  grg_written = told_of (λ k. build_grg k s a b c) c tests
+unfoldable pub bz_grid_addresses : List ℤ → List (List ℤ) → List ℤ → List (List Float) → ℤ → (a b c : ℕ) → BzGridAddresses
+unfolding input_tests built
+bz_grid_addresses d q ps lattice t a b c = built_for (input_tests d q ps lattice t) (search_of d q ps lattice) a b c

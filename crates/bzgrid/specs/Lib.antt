@@ -1,4 +1,3 @@
 pub mod Table
 pub mod BzGridAddresses
-pub mod Writing
-pub mod Walked
+pub mod Code

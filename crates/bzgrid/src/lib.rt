@@ -3,14 +3,14 @@
 
 mod tables;
 
-ghost use Rattle.std.specs.Prelude.{◌≡◌, true, false, ◌+◌, ◌*◌, ◌/◌, ◌≤◌, ◌<◌, T, pos, negsuc, length, replicate};
+ghost use Rattle.std.specs.Prelude.{◌≡◌, true, false, ◌+◌, ◌*◌, ◌/◌, ◌≤◌, ◌<◌, T, pos, negsuc, length, replicate, Ok, IfOk, cond};
 ghost use Rattle.grgrid.specs.Grid.{size};
 ghost use Rattle.grgrid.specs.Sides.{sides};
 ghost use Rattle.bzgrid.specs.Table.{images_at, doubled};
-ghost use Rattle.bzgrid.specs.Writing.{if_sparse, placed_flat, with_mesh};
-ghost use Rattle.bzgrid.specs.Walked.{walk_of, images_in, blank, WrittenTo, lengths_for, judged, is_built, Filled, MeshFits};
+ghost use Rattle.bzgrid.specs.Code.Writing.{if_sparse, placed_flat, with_mesh};
+ghost use Rattle.bzgrid.specs.Code.Walked.{walk_of, images_in, blank, WrittenTo, lengths_for, judged, MeshFits};
 ghost use Rattle.bzsearch.specs.SearchView.{search_of};
-ghost use Rattle.bzgrid.specs.BzGridAddresses.{grid_type_of, is_sparse, all_found, within_limits, input_tests, has_room, build_answer, build_addresses, build_map, build_grg, bz_answer, addresses_written, map_written, grg_written};
+ghost use Rattle.bzgrid.specs.BzGridAddresses.{grid_type_of, is_sparse, all_found, within_limits, input_tests, has_room, built, bz_grid_addresses};
 
 use bzsearch::{Basis, BzSearch};
 use common::Refusal;
@@ -100,7 +100,7 @@ fn has_room(l: Lengths, a: usize, b: usize, c: usize) -> bool
     l.addresses <= a && l.map <= b && l.grg <= c
 }
 
-// Of m images of n points. A bool here and below: the specs pick by one, and the enum would be a bool again at each use.
+// Of m images of n points. A bool here and below: the specs cond by one, and the enum would be a bool again at each use.
 fn lengths_of(sparse: bool, n: usize, m: usize) -> Lengths
     requires { (n ≤ 65536) × (m < 1099511627776) }
     ensures { result ≡ lengths_for sparse n m }
@@ -157,7 +157,7 @@ fn finish(
     requires fact_1 { MeshFits (sides g) }
     requires fact_2 { m < 1099511627776 }
     ensures value { result ≡ judged (lengths_for sparse (size (sides g)) m) (length addresses.now) (length map.old) c }
-    ensures map_after { T (is_built result) → map.new ≡ with_mesh sparse (doubled (sides g)) addresses.now m map.old }
+    ensures map_after { IfOk result (λ _. map.new ≡ with_mesh sparse (doubled (sides g)) addresses.now m map.old) }
 {
     let l = lengths_of(sparse, grgrid::points(g), m);
     if !has_room(l, addresses.len(), map.len(), c) {
@@ -179,7 +179,11 @@ fn walk_points(
     requires { n ≡ size (search_of s).d }
     ensures value { result ≡ walk_of sparse (images_at (search_of s)) n }
     ensures result_bound { images_in result < 1099511627776 }
-    ensures written_to { T (all_found (images_at (search_of s)) n) → WrittenTo sparse (images_at (search_of s)) n (if_sparse sparse (8 * n)) (blank (length addresses.old)) (blank (length map.old)) (blank (length grg.old)) addresses.new map.new grg.new }
+    ensures written_to { let g = images_at (search_of s) in
+        let a = blank (length addresses.old) in
+        let b = blank (length map.old) in
+        let c = blank (length grg.old) in
+        T (all_found g n) → WrittenTo sparse g n (if_sparse sparse (8 * n)) a b c addresses.new map.new grg.new }
 {
     let base = tables::if_sparse(sparse, 8 * n);
     wipe(&mut *addresses, &mut *map, &mut *grg);
@@ -194,8 +198,9 @@ fn fill_tables(
     map: &mut [i64],
     grg: &mut [i64],
 ) -> Result<Lengths, Refusal>
-    ensures value { result ≡ build_answer t (search_of s) (length addresses.old) (length map.old) (length grg.old) }
-    ensures filled { T (is_built result) → Filled t (search_of s) (length addresses.old) (length map.old) (length grg.old) addresses.new map.new grg.new }
+    ensures value { result ≡ (built t (search_of s) (length addresses.old) (length map.old) (length grg.old)).answer }
+    ensures filled { let o = built t (search_of s) (length addresses.old) (length map.old) (length grg.old) in
+        IfOk result (λ l. record { answer = Ok l; addresses = addresses.new; map = map.new; grg = grg.new } ≡ o) }
 {
     let d = s.d_diag;
     let g = grgrid::grid_of(d);
@@ -220,10 +225,8 @@ fn build(
     map: &mut [i64],
     grg: &mut [i64],
 ) -> Result<Lengths, Refusal>
-    ensures value { result ≡ build_answer t (search_of s) (length addresses.old) (length map.old) (length grg.old) }
-    ensures addresses_after { addresses.new ≡ build_addresses t (search_of s) (length addresses.old) (length map.old) (length grg.old) }
-    ensures map_after { map.new ≡ build_map t (search_of s) (length addresses.old) (length map.old) (length grg.old) }
-    ensures grg_after { grg.new ≡ build_grg t (search_of s) (length addresses.old) (length map.old) (length grg.old) }
+    ensures { let o = built t (search_of s) (length addresses.old) (length map.old) (length grg.old) in
+        record { answer = result; addresses = addresses.new; map = map.new; grg = grg.new } ≡ o }
 {
     match fill_tables(s, t, &mut *addresses, &mut *map, &mut *grg) {
         Ok(l) => Ok(l),
@@ -245,10 +248,8 @@ pub fn bz_grid_addresses(
     map: &mut [i64],
     grg: &mut [i64],
 ) -> Result<Lengths, Refusal>
-    ensures value { result ≡ bz_answer d q ps lattice bz_grid_type (length addresses.old) (length map.old) (length grg.old) }
-    ensures addresses_after { addresses.new ≡ addresses_written d q ps lattice bz_grid_type (length addresses.old) (length map.old) (length grg.old) }
-    ensures map_after { map.new ≡ map_written d q ps lattice bz_grid_type (length addresses.old) (length map.old) (length grg.old) }
-    ensures grg_after { grg.new ≡ grg_written d q ps lattice bz_grid_type (length addresses.old) (length map.old) (length grg.old) }
+    ensures { let o = bz_grid_addresses d q ps lattice bz_grid_type (length addresses.old) (length map.old) (length grg.old) in
+        record { answer = result; addresses = addresses.new; map = map.new; grg = grg.new } ≡ o }
 {
     match input_tests(d, q, ps, lattice, bz_grid_type) {
         Ok(t) => {

@@ -1,14 +1,13 @@
 // Image tables: a walk over the points that writes the images of each, for both layouts.
-ghost use Rattle.std.specs.Prelude.{◌≡◌, [], ◌∷◌, ◌+◌, ◌/◌, ◌<◌, ◌≤◌, T, pos, length, Option};
-ghost use Rattle.integer.specs.Checked.{pick};
+ghost use Rattle.std.specs.Prelude.{◌≡◌, [], ◌∷◌, ◌+◌, ◌/◌, ◌<◌, ◌≤◌, T, pos, length, Option, cond};
 ghost use Rattle.common.specs.Array.{vector_of, items, Sized};
 ghost use Rattle.grgrid.specs.Grid.{size};
 ghost use Rattle.grgrid.specs.Sides.{sides};
 ghost use Rattle.bzsearch.specs.Search.{chosen, box};
 ghost use Rattle.bzgrid.specs.Table.{image_of, images_at};
 ghost use Rattle.bzgrid.specs.BzGridAddresses.{all_found};
-ghost use Rattle.bzgrid.specs.Writing.{put_at, tables, store, stored, keep, kept, if_sparse, placed_flat};
-ghost use Rattle.bzgrid.specs.Walked.{walk_of, images_in, WrittenTo};
+ghost use Rattle.bzgrid.specs.Code.Writing.{put_at, tables, store, stored, keep, kept, if_sparse, placed_flat};
+ghost use Rattle.bzgrid.specs.Code.Walked.{walk_of, images_in, WrittenTo};
 ghost use Rattle.bzsearch.specs.SearchView.{search_of, axes_view, point_split};
 
 use bzsearch::{Axes, BzSearch, Candidate, Point, candidates};
@@ -45,8 +44,8 @@ fn put_count(out: &mut [i64], at: usize, n: usize)
 // Where the first image of point i goes, if k is the place after all images so far that stand at no point's own place.
 fn start(sparse: bool, i: usize, k: usize) -> Cursor
     requires { (i ≤ k) × (k < 1099511627776) }
-    ensures at_value { result.at ≡ pick sparse i k }
-    ensures next_value { result.next ≡ pick sparse k (k + 1) }
+    ensures at_value { result.at ≡ cond sparse i k }
+    ensures next_value { result.next ≡ cond sparse k (k + 1) }
     ensures upper_bound { result.next ≤ k + 1 }
 {
     if sparse {
@@ -88,7 +87,10 @@ pub struct Keeping {
 impl Keeping {
     fn keep(&self, m: Candidate, addresses: &mut [i64], grg: &mut [i64], c: Cursor) -> Cursor
         requires { c.next < 1099511627776 }
-        ensures next_after { let k = self.now in tables addresses.new grg.new result.at result.next ≡ keep (search_of k.bz) k.p.index (vector_of k.p.address.v) (point_split k.p) k.bound (tables addresses.old grg.old c.at c.next) (vector_of m.v) }
+        ensures next_after { let k = self.now in
+            let t = tables addresses.old grg.old c.at c.next in
+            tables addresses.new grg.new result.at result.next
+            ≡ keep (search_of k.bz) k.p.index (vector_of k.p.address.v) (point_split k.p) k.bound t (vector_of m.v) }
         ensures at_le_next { (c.next ≤ result.next) × (result.next ≤ c.next + 1) }
     {
         if self.bz.distance(self.p.s0, m) < self.bound {
@@ -107,7 +109,10 @@ impl Keeping {
         c: Cursor,
     ) -> Cursor
         requires { c.next < 1099511627776 }
-        ensures next_after { let k = self.now in tables addresses.new grg.new result.at result.next ≡ kept (search_of k.bz) k.p.index (vector_of k.p.address.v) (point_split k.p) k.bound (tables addresses.old grg.old c.at c.next) (chosen rest (vector_of m.v)) }
+        ensures next_after { let k = self.now in
+            let t = tables addresses.old grg.old c.at c.next in
+            tables addresses.new grg.new result.at result.next
+            ≡ kept (search_of k.bz) k.p.index (vector_of k.p.address.v) (point_split k.p) k.bound t (chosen rest (vector_of m.v)) }
         ensures at_le_next { (c.next ≤ result.next) × (result.next ≤ c.next + 1) }
     {
         if rest && !candidates::is_outside(m.v) {
@@ -126,7 +131,10 @@ impl Keeping {
         c: Cursor,
     ) -> Cursor
         requires { c.next + 35937 ≤ 1099511627776 }
-        ensures next_after { let k = self.now in tables addresses.new grg.new result.at result.next ≡ kept (search_of k.bz) k.p.index (vector_of k.p.address.v) (point_split k.p) k.bound (tables addresses.old grg.old c.at c.next) (box rest (axes_view b)) }
+        ensures next_after { let k = self.now in
+            let t = tables addresses.old grg.old c.at c.next in
+            tables addresses.new grg.new result.at result.next
+            ≡ kept (search_of k.bz) k.p.index (vector_of k.p.address.v) (point_split k.p) k.bound t (box rest (axes_view b)) }
         ensures at_le_next { (c.next ≤ result.next) × (result.next ≤ c.next + 35937) }
     {
         let mut t = c;
@@ -186,7 +194,8 @@ pub fn write_table(
     requires fact_2 { base ≤ 524288 }
     ensures value { result ≡ walk_of sparse (images_at (search_of bz)) n }
     ensures result_bound { images_in result < 1099511627776 }
-    ensures written_to { T (all_found (images_at (search_of bz)) n) → WrittenTo sparse (images_at (search_of bz)) n base addresses.old map.old grg.old addresses.new map.new grg.new }
+    ensures written_to { let g = images_at (search_of bz) in
+        T (all_found g n) → WrittenTo sparse g n base addresses.old map.old grg.old addresses.new map.new grg.new }
 {
     let from = if_sparse(sparse, n);
     let mut k = from;

@@ -1,7 +1,7 @@
 -- The numbers along an axis: in either order each number of a span stands there once, and no other.
 use mathlib.Core.Path.{◌≡◌, refl, sym, ◌∙◌, ap}
 use mathlib.Core.Logic.{◌⊎◌, inl, inr, ⊎_elim}
-use mathlib.Core.Bool.{Bool, true, false}
+use mathlib.Core.Bool.{Bool, true, false, cond}
 use Prim.Native.Nat.{ℕ, ◌+◌, ◌-◌, ◌≤◌, ◌<◌, zero-le}
 use native.Mathlib.Nat.{not-suc-le-zero, add-le-add}
 use native.Mathlib.Omega.{arith}
@@ -10,7 +10,6 @@ use lib.IntN.{ℤ, pos, negsuc, nat_abs, ◌+ℤ◌, ◌-ℤ◌}
 use lib.Signed.{◌≤ℤ◌, ◌<ℤ◌, lt_z, lt_z_yes, lt_z_no}
 use borrow.Author.Tests.{ltb-true, ltb-false, lt-ltb, le-ltb}
 use Rattle.integer.specs.Parts.{up, dn}
-use Rattle.integer.specs.Checked.{pick}
 use Rattle.integer.proofs.Parts.{ints, eq-parts, sum, difference}
 use Rattle.integer.proofs.Order.{slack, nonneg-dn}
 use Rattle.integer.proofs.Test.{pick-cases, holds, fails}
@@ -94,7 +93,7 @@ same_place lo i j e = omega (arith, ints, sum lo (pos i), sum lo (pos j))
 -- ---- upwards
 module _ (r : Span) where
   up_at : (k : ℕ) → k < count_of r → number_at (upwards r) k ≡ r.lo +ℤ pos k
-  up_at k h = ap (λ t. pick t (r.lo +ℤ pos k) (pos 0 +ℤ pos (k - count_of r))) (lt-ltb k (count_of r) h)
+  up_at k h = ap (λ t. cond t (r.lo +ℤ pos k) (pos 0 +ℤ pos (k - count_of r))) (lt-ltb k (count_of r) h)
 
   pub upwards-lists : Lists (upwards r) r
   upwards-lists = record {
@@ -119,10 +118,10 @@ module _ (r : Span) where
 
   -- of two orders
   first-at : (k : ℕ) → k < count_of p → number_at (fft_order r) k ≡ p.lo +ℤ pos k
-  first-at k h = ap (λ t. pick t (p.lo +ℤ pos k) (r.lo +ℤ pos (k - count_of p))) (lt-ltb k (count_of p) h)
+  first-at k h = ap (λ t. cond t (p.lo +ℤ pos k) (r.lo +ℤ pos (k - count_of p))) (lt-ltb k (count_of p) h)
 
   then_at : (k : ℕ) → count_of p ≤ k → number_at (fft_order r) k ≡ r.lo +ℤ pos (k - count_of p)
-  then_at k h = ap (λ t. pick t (p.lo +ℤ pos k) (r.lo +ℤ pos (k - count_of p))) (le-ltb k (count_of p) h)
+  then_at k h = ap (λ t. cond t (p.lo +ℤ pos k) (r.lo +ℤ pos (k - count_of p))) (le-ltb k (count_of p) h)
 
   first-in : (k : ℕ) → k < count_of p → (pos 0 ≤ℤ (p.lo +ℤ pos k)) × InSpan r (p.lo +ℤ pos k)
   first-in k h =

@@ -1,7 +1,7 @@
 -- The candidates of a range are the vectors in it, each once, and at most 36,062 of them where the range lies within -16..16.
 use mathlib.Core.Path.{◌≡◌, refl, sym, ap, subst}
 use mathlib.Core.Logic.{◌⊎◌, inl, inr, ⊎_elim}
-use mathlib.Core.Bool.{Bool, true, false, ◌&&◌, ◌||◌}
+use mathlib.Core.Bool.{Bool, true, false, ◌&&◌, ◌||◌, cond}
 use mathlib.Core.List.Memᴰ.{append_cases}
 use mathlib.Core.List.Memᴰ.{append_left}
 use mathlib.Core.List.Memᴰ.{append_right}
@@ -16,7 +16,6 @@ use lib.Dec.{T}
 use lib.IntN.{ℤ, pos, negsuc, nat_abs}
 use lib.Signed.{◌≤ℤ◌, le_z, lt_z, le_z_yes, lt_z_yes, clash_ℤ}
 use lib.ListN.{length, length-append}
-use Rattle.integer.specs.Checked.{pick}
 use Rattle.integer.proofs.Parts.{ints}
 use Rattle.integer.proofs.Test.{and_l, and_r, or_l, or_r, or-of}
 use Rattle.common.specs.Matrix.{Axis, X, Y, Z, Vec, side, vector}
@@ -65,7 +64,7 @@ chosen-in : (rest : Bool) (m : Vec ℤ) → (T rest → T (outside m)) → m ∈
 chosen-in false m h = here refl
 chosen-in true m h = go (outside m) (h tt)
   where
-    go : (t : Bool) → T t → m ∈ pick t (m ∷ []) []
+    go : (t : Bool) → T t → m ∈ cond t (m ∷ []) []
     go true u = here refl
     go false u = absurd u
 
@@ -73,7 +72,7 @@ chosen_of : (rest : Bool) (m : Vec ℤ) {a : Vec ℤ} → a ∈ chosen rest m �
 chosen_of false m p = (only p, λ t. absurd t)
 chosen_of true m {a} p = go (outside m) p
   where
-    go : (t : Bool) → a ∈ pick t (m ∷ []) [] → (a ≡ m) × (Unit {0} → T t)
+    go : (t : Bool) → a ∈ cond t (m ∷ []) [] → (a ≡ m) × (Unit {0} → T t)
     go true p = (only p, λ _. tt)
     go false p = absurd (not-nil p)
 
@@ -81,7 +80,7 @@ chosen-once : (rest : Bool) (m : Vec ℤ) → Distinct (chosen rest m) × (lengt
 chosen-once false m = ((λ p. not-nil p, tt), le_refl 1)
 chosen-once true m = go (outside m)
   where
-    go : (t : Bool) → Distinct (pick t (m ∷ []) []) × (length (pick t (m ∷ []) []) ≤ 1)
+    go : (t : Bool) → Distinct (cond t (m ∷ []) []) × (length (cond t (m ∷ []) []) ≤ 1)
     go true = ((λ p. not-nil p, tt), le_refl 1)
     go false = (tt, omega arith)
 
@@ -170,10 +169,10 @@ module _ (r : Vec Span) where
       both : (k : Axis) → InSpan (side r k) (side m k) × InSpan nearby (side m k)
       both k = clipped-of (side r k) (side m k) (rw (side-vector (λ k. clipped (side r k)) k) at ((box_of false (first_box r) (vector (λ k. clipped (side r k))) first-lists p).0 k))
 
-  rest_of : {m : Vec ℤ} → m ∈ pick (near r) [] (box true (whole_box r)) → InRange r m × T (outside m)
+  rest_of : {m : Vec ℤ} → m ∈ cond (near r) [] (box true (whole_box r)) → InRange r m × T (outside m)
   rest_of {m} p = go (near r) p
     where
-      go : (t : Bool) → m ∈ pick t [] (box true (whole_box r)) → InRange r m × T (outside m)
+      go : (t : Bool) → m ∈ cond t [] (box true (whole_box r)) → InRange r m × T (outside m)
       go true p = absurd (not-nil p)
       go false p = let b = box_of true (whole_box r) r whole-lists p in (b.0, b.1 tt)
 
@@ -193,26 +192,26 @@ module _ (r : Vec Span) where
   unfolding candidates
   candidate-in m h = ⊎_elim first later (near-or-outside m)
     where
-      first : Nearby m → m ∈ box false (first_box r) ++ pick (near r) [] (box true (whole_box r))
+      first : Nearby m → m ∈ box false (first_box r) ++ cond (near r) [] (box true (whole_box r))
       first n =
-          append_left (pick (near r) [] (box true (whole_box r)))
+          append_left (cond (near r) [] (box true (whole_box r)))
           (box_in false (first_box r) (vector (λ k. clipped (side r k))) first-lists m
           (λ k. rw (side-vector (λ k. clipped (side r k)) k) (clipped-in (side r k) (side m k) (h k) (n k))) (λ t. absurd t))
 
-      later : T (outside m) → m ∈ box false (first_box r) ++ pick (near r) [] (box true (whole_box r))
+      later : T (outside m) → m ∈ box false (first_box r) ++ cond (near r) [] (box true (whole_box r))
       later o = append_right (box false (first_box r)) (go (near r) (λ t. outside-clash m (near-all m t h) o))
         where
-          go : (t : Bool) → ¬ T t → m ∈ pick t [] (box true (whole_box r))
+          go : (t : Bool) → ¬ T t → m ∈ cond t [] (box true (whole_box r))
           go true n = absurd (n tt)
           go false n = box_in true (whole_box r) r whole-lists m h (λ _. o)
 
   pub candidates-distinct : Distinct (candidates r)
   unfolding candidates
   candidates-distinct =
-      distinct_append (box false (first_box r)) (pick (near r) [] (box true (whole_box r)))
+      distinct_append (box false (first_box r)) (cond (near r) [] (box true (whole_box r)))
       (box-distinct false (first_box r) (vector (λ k. clipped (side r k))) first-lists) (later (near r)) (λ m p q. outside-clash m (first_of p).1 (rest_of q).1)
     where
-      later : (t : Bool) → Distinct (pick t [] (box true (whole_box r)))
+      later : (t : Bool) → Distinct (cond t [] (box true (whole_box r)))
       later true = tt
       later false = box-distinct true (whole_box r) r whole-lists
 
@@ -220,7 +219,7 @@ module _ (r : Vec Span) where
   pub candidates-few : T (range_fits r) → length (candidates r) ≤ 36062
   unfolding candidates
   candidates-few t =
-      omega (arith, length-append (box false (first_box r)) (pick (near r) [] (box true (whole_box r))), first, later (near r))
+      omega (arith, length-append (box false (first_box r)) (cond (near r) [] (box true (whole_box r))), first, later (near r))
     where
       cube : (a b c n : ℕ) → a ≤ n → b ≤ n → c ≤ n → a * (b * (c * 1)) ≤ n * (n * (n * 1))
       cube a b c n h k l = mul-le-mul h (mul-le-mul k (mul-le-mul l (le_refl 1)))
@@ -233,7 +232,7 @@ module _ (r : Vec Span) where
       fits : (k : Axis) → T (span_fits (side r k))
       fits = axes-of (λ k. span_fits (side r k)) t
 
-      later : (n : Bool) → length (pick n [] (box true (whole_box r))) ≤ 35937
+      later : (n : Bool) → length (cond n [] (box true (whole_box r))) ≤ 35937
       later true = zero-le
       later false =
           le_trans (box-few true (whole_box r) r whole-lists)

@@ -1,7 +1,7 @@
 -- The images of a point: which candidates they are made from; each folds back to the point; no two are equal.
 use mathlib.Core.Path.{◌≡◌, refl, sym, ◌∙◌, ap, subst}
 use mathlib.Core.Logic.{◌↔◌}
-use mathlib.Core.Bool.{Bool, true, false}
+use mathlib.Core.Bool.{Bool, true, false, cond}
 use mathlib.Core.List.Memᴰ.{not-nil}
 use mathlib.Core.List.{List, [], ◌∷◌}
 use Prim.Native.Nat.{ℕ, ◌≤◌, ◌<◌, zero-le}
@@ -10,7 +10,6 @@ use lib.Dec.{T}
 use lib.IntN.{ℤ, pos, ◌+ℤ◌, ◌*ℤ◌, ◌-ℤ◌}
 use lib.ListN.{length}
 use lib.Ieee.{Float, lt}
-use Rattle.integer.specs.Checked.{pick}
 use Rattle.integer.proofs.Congruence.{congruent-by}
 use Rattle.integer.proofs.Divides.{mul-cancel}
 use Rattle.integer.proofs.Reify.{ring, reify, zero-by, eq-by}
@@ -100,7 +99,7 @@ module _ (s : Search) (p : ℕ) where
   pub image-made : {a : Vec ℤ} → a ∈ images s p → Made a
   image-made {a} k = go (range_fits range_at) (λ t. t) (subst (λ l. a ∈ l) images-are k)
     where
-      go : (t : Bool) → (T t → T (range_fits range_at)) → a ∈ pick t (images_from s (address s.d p) split_at tried) [] → Made a
+      go : (t : Bool) → (T t → T (range_fits range_at)) → a ∈ cond t (images_from s (address s.d p) split_at tried) [] → Made a
       go true h k = let r = kept_of accepted address_of tried k in record { fits = h tt; from = r.0; among = r.1; under = r.2; is = r.3 }
       go false h k = absurd (not-nil k)
 
@@ -108,14 +107,14 @@ module _ (s : Search) (p : ℕ) where
   pub accepted-image : T (range_fits range_at) → {m : Vec ℤ} → m ∈ tried → T (accepted m) → address_of m ∈ images s p
   accepted-image t {m} k u = subst (λ l. address_of m ∈ l) (sym images-are) (go (range_fits range_at) t)
     where
-      go : (b : Bool) → T b → address_of m ∈ pick b (images_from s (address s.d p) split_at tried) []
+      go : (b : Bool) → T b → address_of m ∈ cond b (images_from s (address s.d p) split_at tried) []
       go true t = kept_in accepted address_of k u
       go false t = absurd t
 
   pub images-few : length (images s p) ≤ 36062
   images-few = subst (λ l. length l ≤ 36062) (sym images-are) (go (range_fits range_at) (λ t. t))
     where
-      go : (b : Bool) → (T b → T (range_fits range_at)) → length (pick b (images_from s (address s.d p) split_at tried) []) ≤ 36062
+      go : (b : Bool) → (T b → T (range_fits range_at)) → length (cond b (images_from s (address s.d p) split_at tried) []) ≤ 36062
       go true h = le_trans (kept-few accepted address_of tried) (candidates-few range_at (h tt))
       go false h = zero-le
 
@@ -127,7 +126,7 @@ module _ (s : Search) (p : ℕ) where
     pub images-distinct : Distinct (images s p)
     images-distinct = subst Distinct (sym images-are) (go (range_fits range_at))
       where
-        go : (b : Bool) → Distinct (pick b (images_from s (address s.d p) split_at tried) [])
+        go : (b : Bool) → Distinct (cond b (images_from s (address s.d p) split_at tried) [])
         go true = kept-distinct accepted address_of tried (λ m w i j. set-injective s (address s.d p) split_at.nint h m w) (candidates-distinct range_at)
         go false = tt
 

@@ -1,7 +1,7 @@
 -- Laws of lists: rows one after the other, what is kept of a list, numbers in a row, and the places of a part.
 use mathlib.Core.Path.{◌≡◌, refl, sym, ◌∙◌, ap, ap₂, subst}
 use mathlib.Core.Logic.{◌⊎◌, inl, inr, ⊎_elim}
-use mathlib.Core.Bool.{Bool, true, false}
+use mathlib.Core.Bool.{Bool, true, false, cond}
 use mathlib.Core.List.Memᴰ.{append_cases}
 use mathlib.Core.List.Memᴰ.{append_left}
 use mathlib.Core.List.Memᴰ.{append_right}
@@ -18,7 +18,6 @@ use native.Mathlib.Omega.{arith}
 use lib.Dec.{T}
 use lib.ListN.{length, get_or, length-append}
 use lib.Seq.{append_snoc}
-use Rattle.integer.specs.Checked.{pick}
 use Rattle.grgrid.proofs.Lists.{◌∈◌, Distinct, distinct_append, item_in, Injective}
 use Rattle.grgrid.specs.Build.{rows}
 use Rattle.bzsearch.specs.Search.{kept_by, numbers_from}
@@ -68,13 +67,13 @@ module _ {A : Type 0} (g : ℕ → List A) where
 
 -- ---- what is kept
 -- the next of a list, by its test
-one_in : {B : Type 0} {b c : B} {r : List B} (t : Bool) → ((b ≡ c) × T t) ⊎ (b ∈ r) → b ∈ pick t (c ∷ r) r
+one_in : {B : Type 0} {b c : B} {r : List B} (t : Bool) → ((b ≡ c) × T t) ⊎ (b ∈ r) → b ∈ cond t (c ∷ r) r
 one_in true (inl e) = here e.0
 one_in true (inr m) = there m
 one_in false (inl e) = absurd e.1
 one_in false (inr m) = m
 
-one_of : {B : Type 0} {b : B} (c : B) (r : List B) (t : Bool) → b ∈ pick t (c ∷ r) r → ((b ≡ c) × T t) ⊎ (b ∈ r)
+one_of : {B : Type 0} {b : B} (c : B) (r : List B) (t : Bool) → b ∈ cond t (c ∷ r) r → ((b ≡ c) × T t) ⊎ (b ∈ r)
 one_of c r true m = ⊎_elim (λ e. inl (e, tt)) inr (cases m)
 one_of c r false m = inr m
 
@@ -91,7 +90,7 @@ module _ {A B : Type 0} (q : A → Bool) (h : A → B) where
   kept-few [] = le_refl 0
   kept-few (a ∷ l) = go (q a) (kept-few l)
     where
-      go : (t : Bool) → length (kept_by q h l) ≤ length l → length {A = B} (pick t (h a ∷ kept_by q h l) (kept_by q h l)) ≤ suc (length l)
+      go : (t : Bool) → length (kept_by q h l) ≤ length l → length {A = B} (cond t (h a ∷ kept_by q h l) (kept_by q h l)) ≤ suc (length l)
       go true k = omega arith
       go false k = omega arith
 
@@ -102,7 +101,7 @@ module _ {A B : Type 0} (q : A → Bool) (h : A → B) where
       new : ¬ (h a ∈ kept_by q h l)
       new m = let r = kept_of l m in d.0 (cast (sym (i r.0 a (there r.1) (here refl) r.3)) r.1)
 
-      go : (t : Bool) → Distinct (kept_by q h l) → Distinct {A = B} (pick t (h a ∷ kept_by q h l) (kept_by q h l))
+      go : (t : Bool) → Distinct (kept_by q h l) → Distinct {A = B} (cond t (h a ∷ kept_by q h l) (kept_by q h l))
       go true k = (new, k)
       go false k = k
 

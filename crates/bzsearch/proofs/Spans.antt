@@ -1,4 +1,5 @@
 -- Spans: how many numbers one has, and that those from 0 on and then those below lie within -16..16.
+use mathlib.Core.Bool.{cond}
 use mathlib.Core.Path.{◌≡◌, ◌∙◌, ap, ap₂}
 use Prim.Native.Nat.{ℕ, ◌+◌, ◌-◌, ◌≤◌, ◌<◌}
 use native.Mathlib.Omega.{arith}
@@ -6,7 +7,6 @@ use borrow.Author.Tests.{ltb-false}
 use lib.Dec.{T, ltb, ltb→lt}
 use lib.IntN.{ℤ, pos, negsuc, nat_abs, ◌+ℤ◌, ◌-ℤ◌}
 use lib.Signed.{◌≤ℤ◌, ◌<ℤ◌, le_z, lt_z, le_z_yes, lt_z_yes, lt_z_no}
-use Rattle.integer.specs.Checked.{pick}
 use Rattle.integer.specs.Parts.{up, dn}
 use Rattle.integer.proofs.Parts.{ints, sum, difference}
 use Rattle.integer.proofs.Size.{abs-between}
@@ -14,7 +14,7 @@ use Rattle.integer.proofs.Test.{is_false, and_l, and_r, pick-cases}
 use Rattle.bzsearch.specs.Search.{Room, Span, number_at, to_nat, count, count_of, from_zero, below_zero, fft_order, span_fits}
 
 -- ---- which of two
-less-cases : {A : Type 0} (P : A → Type 0) (a b : ℤ) (x y : A) → (a ≤ℤ b → P x) → (b ≤ℤ a → P y) → P (pick (lt_z a b) x y)
+less-cases : {A : Type 0} (P : A → Type 0) (a b : ℤ) (x y : A) → (a ≤ℤ b → P x) → (b ≤ℤ a → P y) → P (cond (lt_z a b) x y)
 less-cases P a b x y f g = pick-cases (lt_z a b) x y P (λ t. f (weaker (lt_z_yes t))) (λ t. g (lt_z_no t))
   where
     weaker : a <ℤ b → a ≤ℤ b

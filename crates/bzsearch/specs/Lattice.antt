@@ -1,9 +1,8 @@
 -- Lengths in the reciprocal lattice, whose basis vectors are the columns of a matrix, operation by operation as the Rust works them out.
-use Rattle.std.specs.Prelude.{Bool, not, ◌||◌, ℕ, ◌*◌, pos, Float}
+use Rattle.std.specs.Prelude.{Bool, not, ◌||◌, ℕ, ◌*◌, pos, Float, cond}
 use Rattle.std.specs.Float.{binary64}
 use Rattle.std.specs.Float.Ieee.{add, mul, div, of_int, of_bits, le, lt, eq}
 use Rattle.std.specs.Float.Ieee.Scale.{finite}
-use Rattle.integer.specs.Checked.{pick}
 use Rattle.float.specs.Rounding.{abs_of}
 use Rattle.float.specs.Sqrt.{sqrt_of}
 use Rattle.common.specs.Matrix.{Axis, X, Y, Z, next, Vec, Mat, side, vector, entry, all_axes, cross, dot, det_over}
@@ -27,7 +26,7 @@ abbrev pub step_squared : Mat Float → Vec ℕ → Axis → Float
 step_squared m d k = div binary64 (squares_from0 (entry m X k) (entry m Y k) (entry m Z k)) (of_int binary64 (pos (side d k * side d k)))
 
 abbrev pub larger : Float → Float → Float
-larger most x = pick (lt most x) x most
+larger most x = cond (lt most x) x most
 
 unfoldable pub bz_tolerance : Mat Float → Vec ℕ → Float
 bz_tolerance m d = mul binary64 (larger (larger (larger zero_d (step_squared m d X)) (step_squared m d Y)) (step_squared m d Z)) tolerance_factor

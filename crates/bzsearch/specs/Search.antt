@@ -1,10 +1,10 @@
 -- The images of a grid point: of the candidates in the Rust's range those under the least squared length found plus the tolerance. All fold to the point.
-use Rattle.std.specs.Prelude.{Bool, true, false, ◌&&◌, ◌||◌, ℕ, zero, suc, ◌+◌, ◌-◌, ltb, eqb, ℤ, pos, negsuc, ◌<◌, ◌≤◌, nat_abs, neg_ℤ, ◌+ℤ◌, ◌*ℤ◌, ◌-ℤ◌, Float}
+use Rattle.std.specs.Prelude.{Bool, true, false, ◌&&◌, ◌||◌, ℕ, zero, suc, ◌+◌, ◌-◌, ltb, eqb, ℤ, pos, negsuc, ◌<◌, ◌≤◌}
+use Rattle.std.specs.Prelude.{nat_abs, neg_ℤ, ◌+ℤ◌, ◌*ℤ◌, ◌-ℤ◌, Float, cond}
 use mathlib.Core.List.{List, [], ◌∷◌, ◌++◌, foldl}
 use Rattle.std.specs.Int.Signed.{le_z, lt_z}
 use Rattle.std.specs.Float.{binary64}
 use Rattle.std.specs.Float.Ieee.{add, sub, mul, div, neg, of_int, of_bits, to_signed, lt}
-use Rattle.integer.specs.Checked.{pick}
 use Rattle.float.specs.Rounding.{nint_of, floor_of, ceil_of}
 use Rattle.float.specs.Sqrt.{sqrt_of}
 use Rattle.common.specs.Matrix.{Axis, Vec, Mat, side, vector, map_mat, all_axes, dot, apply_over, ◌▹◌, det, inverse, origin}
@@ -24,7 +24,15 @@ pub record Search : Type 0 where
   pub dual : Vec Float
 
 abbrev pub new_search : Vec ℕ → Vec ℤ → Mat ℤ → Mat Float → Search
-new_search d ps q lattice = record { d = d; ps = ps; q = q; q_inv = inverse q; lattice = lattice; tolerance = bz_tolerance lattice d; dual = dual_lengths_of lattice }
+new_search d ps q lattice = record {
+  d = d;
+  ps = ps;
+  q = q;
+  q_inv = inverse q;
+  lattice = lattice;
+  tolerance = bz_tolerance lattice d;
+  dual = dual_lengths_of lattice;
+}
 
 abbrev pub unimodular : Mat ℤ → Bool
 unimodular q = eqb (nat_abs (det q)) 1
@@ -95,7 +103,7 @@ pub record Numbers : Type 0 where
   pub n : ℕ
 
 abbrev pub number_at : Numbers → ℕ → ℤ
-number_at x k = pick (ltb k x.low) (x.a +ℤ pos k) (x.b +ℤ pos (k - x.low))
+number_at x k = cond (ltb k x.low) (x.a +ℤ pos k) (x.b +ℤ pos (k - x.low))
 
 -- at most 33 numbers, each within -16..16
 pub record Room (x : Numbers) : Type 0 where
@@ -103,10 +111,10 @@ pub record Room (x : Numbers) : Type 0 where
   pub few : x.n ≤ 33
 
 abbrev pub max_z : ℤ → ℤ → ℤ
-max_z a b = pick (lt_z a b) b a
+max_z a b = cond (lt_z a b) b a
 
 abbrev pub min_z : ℤ → ℤ → ℤ
-min_z a b = pick (lt_z b a) b a
+min_z a b = cond (lt_z b a) b a
 
 abbrev pub to_nat : ℤ → ℕ
 to_nat (pos n) = n
@@ -154,7 +162,7 @@ outside m = far m.x || (far m.y || far m.z)
 
 -- of the rest, only those outside
 abbrev pub chosen : Bool → Vec ℤ → List (Vec ℤ)
-chosen rest m = pick rest (pick (outside m) (m ∷ []) []) (m ∷ [])
+chosen rest m = cond rest (cond (outside m) (m ∷ []) []) (m ∷ [])
 
 abbrev pub line_at : Bool → Numbers → ℤ → ℤ → ℕ → List (Vec ℤ)
 line_at rest z x y k = chosen rest (record { x = x; y = y; z = number_at z k })
@@ -180,11 +188,11 @@ near r = all_axes (λ k. le_z nearby.lo (side r k).lo && le_z (side r k).hi near
 
 unfoldable pub candidates : Vec Span → List (Vec ℤ)
 unfolding outside
-candidates r = box false (first_box r) ++ pick (near r) [] (box true (whole_box r))
+candidates r = box false (first_box r) ++ cond (near r) [] (box true (whole_box r))
 
 -- ---- the least length, which falls only by more than the tolerance, and the candidates that lie under it plus the tolerance
 abbrev pub lower : Search → Vec Float → Float → Vec ℤ → Float
-lower s s0 least m = pick (lt (distance s s0 m) (sub binary64 least s.tolerance)) (distance s s0 m) least
+lower s s0 least m = cond (lt (distance s s0 m) (sub binary64 least s.tolerance)) (distance s s0 m) least
 
 abbrev pub least_of : Search → Vec Float → Float → List (Vec ℤ) → Float
 least_of s s0 least ms = foldl (lower s s0) least ms
@@ -199,13 +207,13 @@ set_bz_address s a nint m = vector (λ k. side a k +ℤ side (s.q_inv ▹ vector
 -- what is kept of a list, each as h makes it
 abbrev pub kept_by : {A B : Type 0} → (A → Bool) → (A → B) → List A → List B
 kept_by q h [] = []
-kept_by q h (m ∷ ms) = pick (q m) (h m ∷ kept_by q h ms) (kept_by q h ms)
+kept_by q h (m ∷ ms) = cond (q m) (h m ∷ kept_by q h ms) (kept_by q h ms)
 
 abbrev pub images_from : Search → Vec ℤ → Split → List (Vec ℤ) → List (Vec ℤ)
 images_from s a p ms = kept_by (λ m. lt (distance s p.s0 m) (bound s p.s0 ms)) (set_bz_address s a p.nint) ms
 
 abbrev pub images_of : Search → Vec ℤ → Split → List (Vec ℤ)
-images_of s a p = let r = search_range s p.s0 in pick (range_fits r) (images_from s a p (candidates r)) []
+images_of s a p = let r = search_range s p.s0 in cond (range_fits r) (images_from s a p (candidates r)) []
 
 -- a point whose search range leaves -16..16 has none
 unfoldable pub images : Search → ℕ → List (Vec ℤ)

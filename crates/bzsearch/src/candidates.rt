@@ -1,11 +1,12 @@
 // The candidates of a search, box by box, in the order of the Rust's `for_each_candidate`.
-ghost use Rattle.std.specs.Prelude.{◌≡◌, ◌&&◌, ◌||◌, ◌≤◌, ◌<◌, T, pos, negsuc, nat_abs, neg_ℤ, None, Some, option_map};
+ghost use Rattle.std.specs.Prelude.{◌≡◌, ◌&&◌, ◌||◌, ◌≤◌, ◌<◌, T, pos, negsuc, nat_abs, neg_ℤ, None, Some, option_map, cond};
 ghost use Rattle.std.specs.Int.Signed.{le_z};
-ghost use Rattle.integer.specs.Checked.{pick};
 ghost use Rattle.common.specs.Matrix.{side, all_axes};
 ghost use Rattle.common.specs.Array.{vector_of, Sized};
 ghost use Rattle.common.specs.FloatMatrix.{float_vector};
-ghost use Rattle.bzsearch.specs.Search.{number_at, count, upwards, from_zero, below_zero, fft_order, first_box, whole_box, candidates, clipped, span_fits, within, range_fits, near, far, outside, chosen, box, lower, least_of, bound, Room};
+ghost use Rattle.bzsearch.specs.Search.{number_at, count, upwards, from_zero, below_zero, fft_order, first_box};
+ghost use Rattle.bzsearch.specs.Search.{whole_box, candidates, clipped, span_fits, within, range_fits, near, far};
+ghost use Rattle.bzsearch.specs.Search.{outside, chosen, box, lower, least_of, bound, Room};
 ghost use Rattle.bzsearch.specs.SearchView.{search_of, span_view, range_view, numbers_view, axes_view, candidates_of};
 
 use crate::types::{Axes, Boxes, BzSearch, Candidate, Numbers, Range, Span};
@@ -136,7 +137,7 @@ pub fn boxes_of(r: Range) -> Boxes
     requires { T (range_fits (range_view r)) }
     ensures value { candidates_of result ≡ candidates (range_view r) }
     ensures first { axes_view result.first ≡ first_box (range_view r) }
-    ensures rest { option_map axes_view result.rest ≡ pick (near (range_view r)) None (Some (whole_box (range_view r))) }
+    ensures rest { option_map axes_view result.rest ≡ cond (near (range_view r)) None (Some (whole_box (range_view r))) }
 {
     let rest = if is_near(r) { None } else { Some(whole_box(r)) };
     Boxes {

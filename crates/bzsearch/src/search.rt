@@ -6,7 +6,8 @@ ghost use Rattle.common.specs.Matrix.{vector, apply_over, cross, integers, inver
 ghost use Rattle.common.specs.Array.{along, vector_of, sides_of, items, matrix_of, rows, Sized};
 ghost use Rattle.common.specs.FloatMatrix.{floats, float_vector, float_matrix};
 ghost use Rattle.common.specs.Limits.{diagonal_fits, matrix_within, shift_fits};
-ghost use Rattle.bzsearch.specs.Search.{new_search, grid_coordinate, split_of, split_reduced, moved, length_squared, distance, span, search_range, set_bz_address, unimodular};
+ghost use Rattle.bzsearch.specs.Search.{new_search, grid_coordinate, split_of, split_reduced, moved, length_squared};
+ghost use Rattle.bzsearch.specs.Search.{distance, span, search_range, set_bz_address, unimodular};
 ghost use Rattle.grgrid.specs.Grid.{size, address};
 ghost use Rattle.bzsearch.specs.SearchView.{point_split, float_nine, search_of, split_view, range_view, span_view, inverse_row, row_times};
 

@@ -7,15 +7,16 @@ use lib.Dec.{T, eqb→eq}
 use lib.IntN.{ℤ, nat_abs}
 use lib.Ieee.{Float, le}
 use lib.ListN.{length}
-use Rattle.std.specs.Prelude.{Ok, Err}
+use Rattle.std.specs.Prelude.{Result, Ok, Err}
 use Rattle.float.specs.Value.{Bounded, zero_f}
 use Rattle.integer.proofs.Test.{holds}
 use Rattle.common.specs.Matrix.{det}
 use Rattle.common.specs.Array.{vector_of, sides_of, matrix_of}
 use Rattle.common.specs.FloatMatrix.{float_matrix}
-use Rattle.common.specs.Tested.{require, output_of, Tested, Accepted, giving, told_of}
+use Rattle.common.specs.Tested.{require, Accepted, giving}
+use Rattle.common.specs.declared.Refusal.{Refusal}
 use Rattle.common.specs.declared.Refusal.TheVariants.{SearchFailed, WrongLength}
-use Rattle.common.proofs.Tests.{passed, same-ok, refused-not-ok}
+use Rattle.common.proofs.Tests.{passed, passed-by, same-ok, refused-not-ok}
 use Rattle.grgrid.specs.Grid.{size}
 use Rattle.grgrid.proofs.Accepted.{grid-fits, few-points}
 use Rattle.bzgrid.specs.declared.Lengths.{Lengths}
@@ -23,10 +24,12 @@ use Rattle.bzgrid.specs.declared.GridType.{GridType}
 use Rattle.bzgrid.specs.declared.GridType.TheVariants.{Sparse}
 use Rattle.bzsearch.specs.Search.{Search, images}
 use Rattle.bzgrid.specs.Table.{images_at, address_list, point_list}
-use Rattle.bzgrid.specs.BzGridAddresses.{search_of, table_of, map_of, all_found, lengths_of, has_room, input_tests, padded, build_tests, build_answer, build_addresses, build_map, build_grg, bz_answer, addresses_written, map_written, grg_written}
+use Rattle.bzgrid.specs.BzGridAddresses.{search_of, table_of, map_of, all_found, lengths_of, has_room, input_tests, padded, build_tests, built, built_for, bz_grid_addresses}
 use Rattle.bzsearch.proofs.Images.{Sound, new-sound}
-use Rattle.bztable.proofs.ImageTable.{Stands, table-stands}
-use Rattle.bzgrid.proofs.Accepted.{InputAccepted, input-accepted, passes-first}
+use Rattle.bztable.specs.Images.{FoldBack, EveryImage}
+use Rattle.bztable.proofs.ImageTable.{Stands, table-stands, place-folds, place-named, address-once}
+use Rattle.bzgrid.proofs.Accepted.{InputAccepted, input-accepted}
+use Rattle.bzgrid.proofs.Outcome.{outcome}
 use Rattle.bztable.proofs.DoubledMesh.{Mesh, table-mesh}
 use Rattle.bzgrid.proofs.ImageBounds.{length-images, images-total}
 use Rattle.bzsearch.proofs.LatticeBounds.{tolerance-length}
@@ -43,18 +46,22 @@ pub record CallAccepted (d : List ℤ) (q : List (List ℤ)) (ps : List ℤ) (la
   pub some : T (all_found (images_at (search_of d q ps lattice)) (size (sides_of d)))
   pub lengths : l ≡ lengths_of kind (sides_of d) (images_at (search_of d q ps lattice))
   pub room : T (has_room l a b c)
-  pub addresses : addresses_written d q ps lattice t a b c ≡ padded (address_list (table_of kind (images_at (search_of d q ps lattice)) (size (sides_of d)))) a
-  pub map : map_written d q ps lattice t a b c ≡ padded (map_of kind (sides_of d) (images_at (search_of d q ps lattice))) b
-  pub points : grg_written d q ps lattice t a b c ≡ padded (point_list (table_of kind (images_at (search_of d q ps lattice)) (size (sides_of d)))) c
+  pub addresses : (bz_grid_addresses d q ps lattice t a b c).addresses ≡ padded (address_list (table_of kind (images_at (search_of d q ps lattice)) (size (sides_of d)))) a
+  pub map : (bz_grid_addresses d q ps lattice t a b c).map ≡ padded (map_of kind (sides_of d) (images_at (search_of d q ps lattice))) b
+  pub points : (bz_grid_addresses d q ps lattice t a b c).grg ≡ padded (point_list (table_of kind (images_at (search_of d q ps lattice)) (size (sides_of d)))) c
 
 module _ (d : List ℤ) (q : List (List ℤ)) (ps : List ℤ) (lattice : List (List Float)) (t : ℤ) (a b c : ℕ) where
   abbrev s : Search
   s = search_of d q ps lattice
 
-  module _ (l : Lengths) (e : bz_answer d q ps lattice t a b c ≡ Ok l) where
-    given : (k : GridType) × (input_tests d q ps lattice t ≡ Ok k) × (build_answer k s a b c ≡ Ok l)
-    unfolding bz_answer
-    given = passes-first (input_tests d q ps lattice t) (λ k. build_answer k s a b c) e
+  module _ (l : Lengths) (e : (bz_grid_addresses d q ps lattice t a b c).answer ≡ Ok l) where
+    given : (k : GridType) × (input_tests d q ps lattice t ≡ Ok k) × (bz_grid_addresses d q ps lattice t a b c ≡ built k s a b c)
+    unfolding bz_grid_addresses
+    given = by (input_tests d q ps lattice t) e
+      where
+        by : (r : Result GridType Refusal) → (built_for r s a b c).answer ≡ Ok l → (k : GridType) × (r ≡ Ok k) × (built_for r s a b c ≡ built k s a b c)
+        by (Ok k) e = (k, refl, refl)
+        by (Err r) e = absurd (refused-not-ok e)
 
     abbrev kind : GridType
     kind = given.0
@@ -62,33 +69,32 @@ module _ (d : List ℤ) (q : List (List ℤ)) (ps : List ℤ) (lattice : List (L
     abbrev lengths : Lengths
     lengths = lengths_of kind (sides_of d) (images_at s)
 
-    build-passed : (build_tests kind s a b c ≡ Accepted) × (l ≡ lengths)
-    unfolding build_answer
-    build-passed = go (build_tests kind s a b c) refl given.2
-      where
-        go : (x : Tested) → build_tests kind s a b c ≡ x → giving x lengths ≡ Ok l → (build_tests kind s a b c ≡ Accepted) × (l ≡ lengths)
-        go (Ok _) p e = (p, sym (same-ok e))
-        go (Err r) p e = absurd (refused-not-ok e)
+    tested : build_tests kind s a b c ≡ Accepted
+    unfolding built
+    tested = passed-by (λ k. giving k lengths) (λ r. refused-not-ok) (build_tests kind s a b c) (sym (ap (λ o. o.answer) given.2) ∙ e)
 
-    -- what an output then holds
-    kept : (f : GridType → List ℤ) (n : ℕ) (x : List ℤ) → f kind ≡ output_of (build_tests kind s a b c) n x → told_of f n (input_tests d q ps lattice t) ≡ x
-    kept f n x e = ap (told_of f n) given.1 ∙ e ∙ ap (λ v. output_of v n x) build-passed.0
+    left : bz_grid_addresses d q ps lattice t a b c ≡ outcome kind s a b c Accepted
+    unfolding built
+    left = given.2 ∙ ap (outcome kind s a b c) tested
+
+    full : l ≡ lengths
+    full = same-ok (sym e ∙ ap (λ o. o.answer) left)
 
     pub call-accepted : CallAccepted d q ps lattice t a b c l
-    unfolding addresses_written map_written grg_written build_addresses build_map build_grg
+    unfolding build_tests
     call-accepted = record {
       kind = kind;
       input = input-accepted d q ps lattice t given.1;
       some = holds first.0;
-      lengths = build-passed.1;
-      room = subst (λ l. T (has_room l a b c)) (sym build-passed.1) (holds second.0);
-      addresses = kept (λ k. build_addresses k s a b c) a (padded (address_list (table_of kind (images_at s) (size (sides_of d)))) a) refl;
-      map = kept (λ k. build_map k s a b c) b (padded (map_of kind (sides_of d) (images_at s)) b) refl;
-      points = kept (λ k. build_grg k s a b c) c (padded (point_list (table_of kind (images_at s) (size (sides_of d)))) c) refl;
+      lengths = full;
+      room = subst (λ l. T (has_room l a b c)) (sym full) (holds second.0);
+      addresses = ap (λ o. o.addresses) left;
+      map = ap (λ o. o.map) left;
+      points = ap (λ o. o.grg) left;
     }
       where
         first : (all_found (images_at s) (size (sides_of d)) ≡ true) × (require (has_room lengths a b c) WrongLength Accepted ≡ Accepted)
-        first = passed (all_found (images_at s) (size (sides_of d))) SearchFailed (require (has_room lengths a b c) WrongLength Accepted) build-passed.0
+        first = passed (all_found (images_at s) (size (sides_of d))) SearchFailed (require (has_room lengths a b c) WrongLength Accepted) tested
 
         second : (has_room lengths a b c ≡ true) × (Accepted ≡ Accepted)
         second = passed (has_room lengths a b c) WrongLength Accepted first.1
@@ -98,10 +104,10 @@ module _ {d : List ℤ} {q : List (List ℤ)} {ps : List ℤ} {lattice : List (L
   pub call-sound : Sound (search_of d q ps lattice)
   call-sound = accepted-sound d q ps lattice h.input
 
-  pub call-stands : Stands h.kind (search_of d q ps lattice) (addresses_written d q ps lattice t a b c) (map_written d q ps lattice t a b c) (grg_written d q ps lattice t a b c) l.grg
+  pub call-stands : Stands h.kind (search_of d q ps lattice) (bz_grid_addresses d q ps lattice t a b c).addresses (bz_grid_addresses d q ps lattice t a b c).map (bz_grid_addresses d q ps lattice t a b c).grg l.grg
   call-stands = rw (h.addresses, h.map, h.points, h.lengths) (table-stands (search_of d q ps lattice) h.kind h.some a b c)
 
-  pub call-mesh : h.kind ≡ Sparse → Mesh (search_of d q ps lattice) (addresses_written d q ps lattice t a b c) (map_written d q ps lattice t a b c) l.grg
+  pub call-mesh : h.kind ≡ Sparse → Mesh (search_of d q ps lattice) (bz_grid_addresses d q ps lattice t a b c).addresses (bz_grid_addresses d q ps lattice t a b c).map l.grg
   call-mesh e = rw (h.addresses, h.map, h.lengths) (rw e (table-mesh (search_of d q ps lattice) a b))
 
   -- below 2 ^ 40
@@ -114,3 +120,18 @@ module _ {d : List ℤ} {q : List (List ℤ)} {ps : List ℤ} {lattice : List (L
   -- the tolerance is a number and not below zero
   pub call-tolerance : Bounded 43 (search_of d q ps lattice).tolerance × T (le zero_f (search_of d q ps lattice).tolerance)
   call-tolerance = tolerance-length (float_matrix lattice) h.input.bounded (sides_of d) (grid-fits d h.input.grid)
+
+-- ---- every image folds back to its point, and no two are equal
+pub every-image : EveryImage
+every-image d q ps lattice t a b c k l known e =
+    let h = call-accepted d q ps lattice t a b c l e in
+    subst (λ k. FoldBack d (bz_grid_addresses d q ps lattice t a b c).addresses (bz_grid_addresses d q ps lattice t a b c).map (bz_grid_addresses d q ps lattice t a b c).grg k l.grg)
+    (same-ok (sym h.input.known ∙ known)) (fold-back (call-stands h) (call-sound h))
+  where
+    fold-back : {kind : GridType} {addresses map points : List ℤ} {m : ℕ} → Stands kind (search_of d q ps lattice) addresses map points m → Sound (search_of d q ps lattice)
+        → FoldBack d addresses map points kind m
+    fold-back w s = record {
+      folds = λ p n i o. (w.inside p n o, place-folds w s p n o, w.names p n o);
+      stands = λ i n. let o = w.owner i n in (subst (λ (p : ℕ). p < size (sides_of d)) (sym (w.names o.0 o.1 o.2)) o.1, place-named w i n);
+      once = address-once w s;
+    }

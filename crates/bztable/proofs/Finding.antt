@@ -1,6 +1,6 @@
 -- The walk that looks for an address: what it finds from place i on, below `to`.
 use mathlib.Core.Path.{◌≡◌, refl, sym, ◌∙◌, ap}
-use mathlib.Core.Bool.{Bool, true, false, ◌&&◌}
+use mathlib.Core.Bool.{Bool, true, false, ◌&&◌, cond}
 use mathlib.Core.List.{List, [], ◌∷◌}
 use Prim.Native.Nat.{ℕ, suc, ◌+◌, ◌*◌, ◌-◌, ◌<◌}
 use native.Mathlib.Numerals.{add-one}
@@ -11,7 +11,6 @@ use lib.Pointwise.{pointwise}
 use Rattle.std.specs.Prelude.{Option, Some, Err}
 use Rattle.std.specs.Ordering.{int_eq}
 use Rattle.std.proofs.lemmas.Bool.Decides.{same_from_decides, Decides-int_eq}
-use Rattle.integer.specs.Checked.{pick}
 use Rattle.integer.specs.Same.{same}
 use Rattle.integer.proofs.Same.{same-eq, same_refl}
 use Rattle.integer.proofs.Test.{holds, is_true}
@@ -48,10 +47,10 @@ same-rows x y m n e f = sym (three x y m n) ∙ sym e ∙ f
 -- ---- a turn
 module _ (l : List ℤ) (a : Vec ℤ) (i to : ℕ) (h : i < to) where
   abbrev on : Vec ℤ → Read (Option ℕ)
-  on b = pick (same_vector b a) (got (Some i)) (find l a (i + 1) (to - (i + 1)))
+  on b = cond (same_vector b a) (got (Some i)) (find l a (i + 1) (to - (i + 1)))
 
   turn : {x : Read (Vec ℤ)} → x ≡ address_at l i → (x then on) ≡ find l a i (to - i)
-  turn e = ap (λ x. x then on) e ∙ sym (ap (find l a i) (more i to h) ∙ ap (λ j. address_at l i then λ b. pick (same_vector b a) (got (Some i)) (find l a j (to - (i + 1)))) (sym (add-one i)))
+  turn e = ap (λ x. x then on) e ∙ sym (ap (find l a i) (more i to h) ∙ ap (λ j. address_at l i then λ b. cond (same_vector b a) (got (Some i)) (find l a j (to - (i + 1)))) (sym (add-one i)))
     where
       more : (i to : ℕ) → i < to → to - i ≡ suc (to - (i + 1))
       more i to h = omega arith
@@ -61,18 +60,18 @@ module _ (l : List ℤ) (a : Vec ℤ) (i to : ℕ) (h : i < to) where
 
   module _ {b : Vec ℤ} (e : got b ≡ address_at l i) where
     pub find-here : same_vector b a ≡ true → got (Some i) ≡ find l a i (to - i)
-    find-here t = ap (λ t. pick t (got (Some i)) (find l a (i + 1) (to - (i + 1)))) (sym t) ∙ turn e
+    find-here t = ap (λ t. cond t (got (Some i)) (find l a (i + 1) (to - (i + 1)))) (sym t) ∙ turn e
 
     pub find-on : same_vector b a ≡ false → find l a (i + 1) (to - (i + 1)) ≡ find l a i (to - i)
-    find-on t = ap (λ t. pick t (got (Some i)) (find l a (i + 1) (to - (i + 1)))) (sym t) ∙ turn e
+    find-on t = ap (λ t. cond t (got (Some i)) (find l a (i + 1) (to - (i + 1)))) (sym t) ∙ turn e
 
 -- ---- a sparse table's point p, one of n, whose first image is at its own place
 module _ (l m : List ℤ) (a : Vec ℤ) (p n : ℕ) {b : Vec ℤ} (e : got b ≡ address_at l p) where
   abbrev from_first : Vec ℤ → Read (Option ℕ)
-  from_first b = pick (same_vector b a) (got (Some p)) (among_range l m a (8 * n + p) n)
+  from_first b = cond (same_vector b a) (got (Some p)) (among_range l m a (8 * n + p) n)
 
   pub first-here : same_vector b a ≡ true → got (Some p) ≡ among_images l m a Sparse p n
-  first-here t = ap (λ t. pick t (got (Some p)) (among_range l m a (8 * n + p) n)) (sym t) ∙ ap (λ x. x then from_first) e
+  first-here t = ap (λ t. cond t (got (Some p)) (among_range l m a (8 * n + p) n)) (sym t) ∙ ap (λ x. x then from_first) e
 
   pub first-on : same_vector b a ≡ false → among_range l m a (8 * n + p) n ≡ among_images l m a Sparse p n
-  first-on t = ap (λ t. pick t (got (Some p)) (among_range l m a (8 * n + p) n)) (sym t) ∙ ap (λ x. x then from_first) e
+  first-on t = ap (λ t. cond t (got (Some p)) (among_range l m a (8 * n + p) n)) (sym t) ∙ ap (λ x. x then from_first) e

@@ -1,25 +1,25 @@
--- What accepted tests say of the input of `neighboring_grid_points_many`, and its answer and output from those of the walk.
+-- What accepted tests say of the input of `neighboring_grid_points_many`, and its outcome from that of the walk.
 use mathlib.Core.Path.{◌≡◌, refl, sym, ◌∙◌, ap}
 use mathlib.Core.Bool.{true, false, true≢false}
 use mathlib.Core.List.{List, [], ◌∷◌}
 use Prim.Native.Nat.{ℕ, zero, suc, ◌*◌, ◌/◌}
 use native.Mathlib.Omega.{arith}
 use lib.Dec.{T, eqb}
-use lib.IntN.{ℤ}
+use lib.IntN.{ℤ, negsuc}
 use lib.ListN.{length, replicate}
 use borrow.Author.Tests.{eqb-true}
-use Rattle.std.specs.Prelude.{Result, Ok, Err, is_err}
+use Rattle.std.specs.Prelude.{Result, Ok, Err, is_err, IfOk}
 use Rattle.integer.proofs.Test.{holds}
 use Rattle.common.specs.Array.{sides_of}
 use Rattle.common.specs.Limits.{all_within, diagonal_fits}
-use Rattle.common.specs.Tested.{giving, filled_or, output_of, Tested, Accepted, ◌then◌}
+use Rattle.common.specs.Tested.{giving, output_of, Tested, Accepted, ◌then◌}
 use Rattle.common.specs.declared.Refusal.{Refusal}
 use Rattle.common.specs.declared.Refusal.TheVariants.{WrongLength, OutsideLimits}
 use Rattle.common.proofs.Tests.{passed}
 use Rattle.bzgrid.specs.declared.GridType.{GridType}
 use Rattle.bzgrid.specs.BzGridAddresses.{grid_type_of}
 use Rattle.bztable.specs.Reading.{Read, got, whole_addresses, tests_after, list_of}
-use Rattle.bztable.specs.Neighbours.{all_neighbours, read_for, input_tests, neighbours_read, neighbours_answer, neighbours_written}
+use Rattle.bztable.specs.Neighbours.{all_neighbours, read_for, input_tests, neighbours_read, Neighbours, neighbour_tests, neighboring_grid_points_many}
 
 -- ---- the tests of the input
 pub record InputAccepted (points : ℕ) (offsets d : List ℤ) (n : ℕ) : Type 0 where
@@ -57,13 +57,9 @@ module _ (points offsets addresses map d : List ℤ) (t : ℤ) (n : ℕ) where
       some zero h = absurd (h refl)
       some (suc n) h = refl
 
-  pub after-tests : {s : Tested} → s ≡ input_tests (length points) offsets addresses d n → tests_after s read ≡ neighbours_answer points offsets addresses map d t n
-  unfolding neighbours_answer
+  pub after-tests : {s : Tested} → s ≡ input_tests (length points) offsets addresses d n → tests_after s read ≡ neighbour_tests points offsets addresses map d t n
+  unfolding neighbour_tests
   after-tests e = ap (λ s. tests_after s read) e
-
-  pub call-output : {s : Tested} → s ≡ neighbours_answer points offsets addresses map d t n → output_of s n (list_of read) ≡ neighbours_written points offsets addresses map d t n
-  unfolding neighbours_written
-  call-output f = ap (λ s. output_of s n (list_of read)) f
 
   -- where the walk gave r and left `out`
   module _ (r : Tested) (out : List ℤ) (w : giving r out ≡ read) where
@@ -77,6 +73,24 @@ module _ (points offsets addresses map d : List ℤ) (t : ℤ) (n : ℕ) where
     pub walk-output : r ≡ Accepted → out ≡ list_of read
     walk-output e = ap (λ r. list_of (giving r out)) (sym e) ∙ ap list_of w
 
+  -- ---- the outcome
+  abbrev outcome : Tested → Neighbours
+  outcome s = record { answer = s; out = output_of s n (list_of read) }
+
+  module _ {out : List ℤ} where
+    pub found : Accepted ≡ neighbour_tests points offsets addresses map d t n → out ≡ list_of read → record { answer = Accepted; out = out } ≡ neighboring_grid_points_many points offsets addresses map d t n
+    unfolding neighboring_grid_points_many
+    found e f = (λ i. record { answer = Accepted; out = f i }) ∙ ap outcome e
+
+    pub found-if : (r : Tested) → r ≡ neighbour_tests points offsets addresses map d t n → (r ≡ Accepted → out ≡ list_of read) → IfOk r (λ _. record { answer = Accepted; out = out } ≡ neighboring_grid_points_many points offsets addresses map d t n)
+    found-if (Ok _) e f = found e (f refl)
+    found-if (Err r) e f = tt
+
+    pub refused : (r : Tested) → is_err r ≡ true → r ≡ neighbour_tests points offsets addresses map d t n → out ≡ replicate n (negsuc 0) → record { answer = r; out = out } ≡ neighboring_grid_points_many points offsets addresses map d t n
+    unfolding neighboring_grid_points_many
+    refused (Ok _) h e f = absurd (true≢false (sym h))
+    refused (Err r) h e f = (λ i. record { answer = Err r; out = f i }) ∙ ap outcome e
+
 pub none : (out : List ℤ) → length out ≡ 0 → out ≡ []
 none [] h = refl
 none (z ∷ out) h = absurd (never (length out) h)
@@ -87,19 +101,3 @@ none (z ∷ out) h = absurd (never (length out) h)
 pub some : (n : ℕ) → eqb n 0 ≡ false → n ≡ 0 → ⊥
 some zero e h = true≢false e
 some (suc n) e h = omega (arith, h)
-
--- ---- what a refusal leaves
-module _ {E : Type 0} (v : E) (s : Tested) (n : ℕ) (l : List E) where
-  pub output-refused : is_err s ≡ true → replicate n v ≡ filled_or v s n l
-  output-refused = go s
-    where
-      go : (s : Tested) → is_err s ≡ true → replicate n v ≡ filled_or v s n l
-      go (Ok _) e = absurd (true≢false (sym e))
-      go (Err r) e = refl
-
-  pub output-kept : is_err s ≡ false → (s ≡ Accepted) × (l ≡ filled_or v s n l)
-  output-kept = go s
-    where
-      go : (s : Tested) → is_err s ≡ false → (s ≡ Accepted) × (l ≡ filled_or v s n l)
-      go (Ok _) e = (refl, refl)
-      go (Err r) e = absurd (true≢false e)

@@ -15,7 +15,7 @@ use Rattle.bzgrid.specs.declared.GridType.{GridType}
 use Rattle.bzgrid.specs.BzGridAddresses.{grid_type_of}
 use Rattle.bzgrid.proofs.Accepted.{passes}
 use Rattle.bztable.specs.Reading.{whole_addresses}
-use Rattle.bztable.specs.Rotate.{rotate_tests, rotate_read, rotate_answer}
+use Rattle.bztable.specs.Rotate.{rotate_tests, rotate_read, rotate_bz_grid_index}
 
 -- ---- the call
 module _ (rotation : List (List ℤ)) (l d ps : List ℤ) where
@@ -37,6 +37,6 @@ module _ (rotation : List (List ℤ)) (l d ps : List ℤ) where
   unfolding rotate_tests
   rotate-tested t f g e = λ i. require (f i) WrongLength (require (g i) OutsideLimits (e i))
 
-  pub rotate-answered : (i : ℤ) (m : List ℤ) (t : ℤ) {r : Result GridType Refusal} → r ≡ rotate_tests rotation l d ps t → (r then rotate_read i rotation l m d ps) ≡ rotate_answer i rotation l m d ps t
-  unfolding rotate_answer
+  pub rotate-answered : (i : ℤ) (m : List ℤ) (t : ℤ) {r : Result GridType Refusal} → r ≡ rotate_tests rotation l d ps t → (r then rotate_read i rotation l m d ps) ≡ rotate_bz_grid_index i rotation l m d ps t
+  unfolding rotate_bz_grid_index
   rotate-answered i m t e = ap (λ r. r then rotate_read i rotation l m d ps) e

@@ -1,4 +1,5 @@
 pub mod Reading
 pub mod Access
+pub mod Images
 pub mod Rotate
 pub mod Neighbours

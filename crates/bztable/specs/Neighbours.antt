@@ -1,6 +1,5 @@
--- `neighboring_grid_points_many`: the tests, the walk over points and offsets, the answer and the output, which has n places.
-use Rattle.std.specs.Prelude.{List, [], ◌∷◌, ◌++◌, ℕ, zero, suc, ◌+◌, ◌*◌, ◌-◌, ◌/◌, ltb, eqb, ℤ, pos, ◌+ℤ◌, length, get_or, unwrap_or}
-use Rattle.integer.specs.Checked.{pick}
+-- `neighboring_grid_points_many`: its tests, the walk over points and offsets, and its answer with the output, which has n places, as one outcome.
+use Rattle.std.specs.Prelude.{List, [], ◌∷◌, ◌++◌, ℕ, zero, suc, ◌+◌, ◌*◌, ◌-◌, ◌/◌, ltb, eqb, ℤ, pos, ◌+ℤ◌, length, get_or, unwrap_or, cond}
 use Rattle.common.specs.Matrix.{Vec, side, vector}
 use Rattle.common.specs.Array.{sides_of}
 use Rattle.common.specs.Limits.{all_within, diagonal_fits}
@@ -19,11 +18,11 @@ moved a o = vector (λ k. side a k +ℤ side o k)
 -- ---- the image at address b
 -- type 1: the point itself where the doubled mesh holds 8 N: an empty place, or image 8 N, which is taken for one
 abbrev pub sparse_neighbour : Vec ℕ → List ℤ → Vec ℤ → Read ℕ
-sparse_neighbour d map b = place_at map (index (doubled d) b) then λ i. got (pick (eqb i (empty d)) (index d b) i)
+sparse_neighbour d map b = place_at map (index (doubled d) b) then λ i. got (cond (eqb i (empty d)) (index d b) i)
 
 -- of several images the one at b, or else the first
 abbrev pub image_among : List ℤ → Vec ℤ → (lo hi : ℕ) → Read ℕ
-image_among addresses b lo hi = pick (ltb 1 (hi - lo)) (find addresses b lo (hi - lo) then λ f. got (unwrap_or f lo)) (got lo)
+image_among addresses b lo hi = cond (ltb 1 (hi - lo)) (find addresses b lo (hi - lo) then λ f. got (unwrap_or f lo)) (got lo)
 
 -- type 2
 abbrev pub dense_neighbour : Vec ℕ → (addresses map : List ℤ) → Vec ℤ → Read ℕ
@@ -68,15 +67,19 @@ input_tests points offsets addresses d n =
     (require (diagonal_fits d) OutsideLimits
     (require (all_within 1000 offsets) OutsideLimits Accepted))))
 
+pub record Neighbours : Type 0 where
+  pub answer : Tested
+  pub out : List ℤ
+
 module _ (points offsets addresses map d : List ℤ) (t : ℤ) (n : ℕ) where
   unfoldable pub neighbours_read : Read (List ℤ)
   unfolding all_neighbours
   neighbours_read = read_for n (grid_type_of t then λ k. all_neighbours k (sides_of d) offsets addresses map points)
 
-  unfoldable pub neighbours_answer : Tested
+  unfoldable pub neighbour_tests : Tested
   unfolding input_tests neighbours_read
-  neighbours_answer = tests_after (input_tests (length points) offsets addresses d n) neighbours_read
+  neighbour_tests = tests_after (input_tests (length points) offsets addresses d n) neighbours_read
 
-  unfoldable pub neighbours_written : List ℤ
-  unfolding neighbours_answer neighbours_read
-  neighbours_written = output_of neighbours_answer n (list_of neighbours_read)
+  unfoldable pub neighboring_grid_points_many : Neighbours
+  unfolding neighbour_tests neighbours_read
+  neighboring_grid_points_many = record { answer = neighbour_tests; out = output_of neighbour_tests n (list_of neighbours_read) }

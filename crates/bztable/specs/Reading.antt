@@ -1,8 +1,8 @@
 -- How an image table is read. It may hold anything: a read is inside the slice and the limits, or `outside`, which is refusal 14.
-use Rattle.std.specs.Prelude.{Bool, true, false, ◌&&◌, List, [], ℕ, zero, suc, ◌*◌, ◌/◌, ◌%◌, ltb, leb, eqb, ℤ, pos, negsuc, length, get_or, Option, Some, None, Result, Ok, Err}
+use Rattle.std.specs.Prelude.{Bool, true, false, ◌&&◌, List, [], ℕ, zero, suc, ◌*◌, ◌/◌, ◌%◌, ltb, leb, eqb, ℤ, pos}
+use Rattle.std.specs.Prelude.{negsuc, length, get_or, Option, Some, None, Result, Ok, Err, cond}
 use Rattle.common.specs.Tested.{Tested, Accepted, ◌then◌}
 use Rattle.common.specs.declared.Refusal.{Refusal}
-use Rattle.integer.specs.Checked.{pick}
 use Rattle.common.specs.Matrix.{Vec, side, all_axes, same_vector}
 use Rattle.common.specs.declared.bounded.Bounded.{Bounded}
 use Rattle.common.specs.Array.{vector_of, row_at}
@@ -65,4 +65,4 @@ place_at map i = inside (ltb i (length map)) (get_or map i (pos 0)) then place_o
 -- ---- the first of the n places from i on that holds address a
 abbrev pub find : List ℤ → Vec ℤ → ℕ → ℕ → Read (Option ℕ)
 find l a i zero = got None
-find l a i (suc n) = address_at l i then λ b. pick (same_vector b a) (got (Some i)) (find l a (suc i) n)
+find l a i (suc n) = address_at l i then λ b. cond (same_vector b a) (got (Some i)) (find l a (suc i) n)

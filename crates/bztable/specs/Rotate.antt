@@ -1,6 +1,5 @@
 -- `rotate_bz_grid_index`: the tests, the walk and the answer.
-use Rattle.std.specs.Prelude.{◌&&◌, List, ℕ, ◌+◌, ◌*◌, ◌-◌, ℤ, pos, Option, Some, None, Result}
-use Rattle.integer.specs.Checked.{pick}
+use Rattle.std.specs.Prelude.{◌&&◌, List, ℕ, ◌+◌, ◌*◌, ◌-◌, ℤ, pos, Option, Some, None, Result, cond}
 use Rattle.common.specs.Matrix.{Vec, Mat, ◌▹◌, same_vector}
 use Rattle.common.specs.Array.{vector_of, sides_of, matrix_of}
 use Rattle.common.specs.Limits.{matrix_within, diagonal_fits, shift_fits}
@@ -27,7 +26,7 @@ module _ (addresses map : List ℤ) (a : Vec ℤ) where
 
   -- a sparse table has the first image at place p, and the counts of the others after the doubled mesh
   abbrev pub among_images : GridType → (p n : ℕ) → Read (Option ℕ)
-  among_images Sparse p n = address_at addresses p then λ b. pick (same_vector b a) (got (Some p)) (among_range (8 * n + p) n)
+  among_images Sparse p n = address_at addresses p then λ b. cond (same_vector b a) (got (Some p)) (among_range (8 * n + p) n)
   among_images Dense p n = among_range p 0
 
 -- the image, or else what the map holds at the point: its first image (type 2), or whatever the doubled mesh has there (type 1)
@@ -46,8 +45,9 @@ rotate_tests rotation addresses d ps t =
 
 unfoldable pub rotate_read : ℤ → List (List ℤ) → (addresses map d ps : List ℤ) → GridType → Read Rotated
 unfolding index
-rotate_read i rotation addresses map d ps t = address_of addresses i then λ b. image_of t (sides_of d) addresses map (turned (matrix_of rotation) (vector_of ps) b)
+rotate_read i rotation addresses map d ps t =
+    address_of addresses i then λ b. image_of t (sides_of d) addresses map (turned (matrix_of rotation) (vector_of ps) b)
 
-unfoldable pub rotate_answer : ℤ → List (List ℤ) → (addresses map d ps : List ℤ) → ℤ → Read Rotated
+unfoldable pub rotate_bz_grid_index : ℤ → List (List ℤ) → (addresses map d ps : List ℤ) → ℤ → Read Rotated
 unfolding rotate_tests rotate_read
-rotate_answer i rotation addresses map d ps t = rotate_tests rotation addresses d ps t then rotate_read i rotation addresses map d ps
+rotate_bz_grid_index i rotation addresses map d ps t = rotate_tests rotation addresses d ps t then rotate_read i rotation addresses map d ps

@@ -4,8 +4,9 @@ ghost use Rattle.common.specs.Tested.{Accepted, giving};
 ghost use Rattle.common.specs.Array.{vector_of, items, Sized};
 ghost use Rattle.common.specs.Limits.{all_within};
 ghost use Rattle.grgrid.specs.Sides.{sides};
-ghost use Rattle.bztable.specs.Reading.{list_of};
-ghost use Rattle.bztable.specs.Neighbours.{moved, sparse_neighbour, image_among, dense_neighbour, neighbour, neighbours_from, all_neighbours, input_tests, neighbours_read, neighbours_answer, neighbours_written};
+ghost use Rattle.bztable.specs.Neighbours.{moved, sparse_neighbour, image_among, dense_neighbour, neighbour};
+ghost use Rattle.bztable.specs.Neighbours.{neighbours_from, all_neighbours, input_tests, neighbour_tests};
+ghost use Rattle.bztable.specs.Neighbours.{neighboring_grid_points_many};
 
 use crate::reading;
 use crate::reading::Table;
@@ -135,8 +136,9 @@ fn neighbour_tests(
     bz_grid_type: i64,
     out: &mut [i64],
 ) -> Result<(), Refusal>
-    ensures value { result ≡ neighbours_answer points.now offsets.now addresses.now map.now d bz_grid_type (length out.old) }
-    ensures out_after { result ≡ Accepted → out.new ≡ list_of (neighbours_read points.now offsets.now addresses.now map.now d bz_grid_type (length out.old)) }
+    ensures value { result ≡ neighbour_tests points.now offsets.now addresses.now map.now d bz_grid_type (length out.old) }
+    ensures found { let o = neighboring_grid_points_many points.now offsets.now addresses.now map.now d bz_grid_type (length out.old) in
+        IfOk result (λ _. record { answer = Accepted; out = out.new } ≡ o) }
 {
     input_tests(points.len(), offsets, addresses, d, out.len())?;
     if out.is_empty() {
@@ -162,8 +164,8 @@ pub fn neighboring_grid_points_many(
     bz_grid_type: i64,
     out: &mut [i64],
 ) -> Result<(), Refusal>
-    ensures value { result ≡ neighbours_answer points.now offsets.now addresses.now map.now d bz_grid_type (length out.old) }
-    ensures out_after { out.new ≡ neighbours_written points.now offsets.now addresses.now map.now d bz_grid_type (length out.old) }
+    ensures { let o = neighboring_grid_points_many points.now offsets.now addresses.now map.now d bz_grid_type (length out.old) in
+        record { answer = result; out = out.new } ≡ o }
 {
     let answer = neighbour_tests(points, offsets, addresses, map, d, bz_grid_type, out);
     if answer.is_err() {

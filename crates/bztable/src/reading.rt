@@ -2,7 +2,7 @@
 ghost use Rattle.std.specs.Prelude.{◌≡◌, ◌-◌, ◌<◌, IfOk, IfSome};
 ghost use Rattle.common.specs.Array.{vector_of, Sized};
 ghost use Rattle.grgrid.specs.Sides.{sides};
-ghost use Rattle.bzgrid.specs.Walked.{MeshFits};
+ghost use Rattle.bzgrid.specs.Code.Walked.{MeshFits};
 ghost use Rattle.bztable.specs.Reading.{vector_read, whole_addresses, address_at, address_of, place_of, place_at, find};
 
 use bzgrid::GridType;

@@ -4,7 +4,7 @@ ghost use Rattle.common.specs.Array.{vector_of, items, matrix_of, Sized};
 ghost use Rattle.common.specs.Limits.{matrix_within, diagonal_fits, shift_fits};
 ghost use Rattle.grgrid.specs.Grid.{size};
 ghost use Rattle.grgrid.specs.Sides.{sides};
-ghost use Rattle.bztable.specs.Rotate.{turned, among_range, among_images, image_of, rotate_tests, rotate_read, rotate_answer};
+ghost use Rattle.bztable.specs.Rotate.{turned, among_range, among_images, image_of, rotate_tests, rotate_read, rotate_bz_grid_index};
 
 use crate::reading;
 use crate::reading::Table;
@@ -99,7 +99,7 @@ fn image_of(table: &Table, a: [i64; 3]) -> Result<Rotated, Refusal>
 }
 
 // Rotate an image and return the place of the image that has the rotated address.
-#[tactic(auto, unfolding(crate::specs::Rotate::rotate_answer, crate::specs::Rotate::rotate_read))]
+#[tactic(auto, unfolding(crate::specs::Rotate::rotate_bz_grid_index, crate::specs::Rotate::rotate_read))]
 pub fn rotate_bz_grid_index(
     bz_grid_index: i64,
     rotation: [[i64; 3]; 3],
@@ -109,7 +109,7 @@ pub fn rotate_bz_grid_index(
     ps: [i64; 3],
     bz_grid_type: i64,
 ) -> Result<Rotated, Refusal>
-    ensures { result ≡ rotate_answer bz_grid_index rotation addresses.now map.now d ps bz_grid_type }
+    ensures { result ≡ rotate_bz_grid_index bz_grid_index rotation addresses.now map.now d ps bz_grid_type }
 {
     let t = rotate_tests(rotation, addresses, d, ps, bz_grid_type)?;
     let table = Table {

@@ -1,7 +1,7 @@
 use Rattle.std.proofs.Common.{◌∙◌, [], ◌∷◌, get_or}
 use Rattle.common.specs.Matrix.{entries}
 use Rattle.common.specs.FloatMatrix.{float_matrix, matmul_d}
-use Rattle.bz_triplets.specs.TripletsView.{row_over}
+use Rattle.bz_triplets.specs.Code.TripletsView.{row_over}
 use Rattle.bz_triplets.proofs.Measured.{lqd-rows}
 use Rattle.bz_triplets.proofs.lqd_inv.Goals as goal
 

@@ -8,7 +8,7 @@ use Rattle.common.specs.Tested.{Accepted, ◌then◌}
 use Rattle.bztable.specs.Reading.{got}
 use Rattle.bz_triplets.specs.BzTriplets.{triplet_list, marks, lengths}
 use Rattle.bz_triplets.proofs.Measured.{measured}
-use Rattle.bz_triplets.proofs.CallOutcome.{asked-for, whole_below, point-below, Input, input-accepted, tests-read, read-from, walked, walk-answer, walk-output}
+use Rattle.bz_triplets.proofs.CallOutcome.{asked-for, whole_below, point-below, Input, input-accepted, tests-read, read-from, walked, walk-answer, walk-output, chosen}
 use Rattle.bz_triplets.proofs.triplet_tests.Goals as goal
 
 pub returns-in_err-t-clause-value : goal.returns-in_err-t-clause-value
@@ -63,34 +63,18 @@ fill_triplets-requires c =
     let a = input-accepted i (to_z-of_z c.ranges.q0) (to_z-of_z c.ranges.bz_grid_type) c.in_ok-t.ensures in
     a.room
 
-pub returns-clause-value : goal.returns-clause-value
-returns-clause-value c =
+pub returns : goal.returns
+returns c =
     let s = c.args in
     let i : Input = record { q0 = s.q0; addresses = s.addresses.now; map = s.map.now; classes = s.class_map.now; d = s.d; q = s.q; lattice = s.lattice; t = s.bz_grid_type; n = length s.out.now; m = length s.left.now; l = length s.left_length.now } in
     let w = walked i c.in_ok-t.t (to_z-of_z c.ranges.q0) c.in_ok-a0.ensures c.grid_of-g.ensures (measured s.addresses.now s.d s.q s.lattice c.measure_of.result c.measure_of.ensures.lqd_value c.measure_of.ensures.tolerance_value) c.point_of.ensures in
-    walk-answer i c.in_ok-t.t triplet_list c.fill_triplets.result c.fill_triplets.new.out (c.fill_triplets.ensures.out_after ∙ ap (λ x. x then λ l. got (triplet_list l)) w)
-    ∙ tests-read i (to_z-of_z c.ranges.q0) (to_z-of_z c.ranges.bz_grid_type) c.in_ok-t.ensures
-
-pub returns-clause-out_after : goal.returns-clause-out_after
-returns-clause-out_after c =
-    let s = c.args in
-    let i : Input = record { q0 = s.q0; addresses = s.addresses.now; map = s.map.now; classes = s.class_map.now; d = s.d; q = s.q; lattice = s.lattice; t = s.bz_grid_type; n = length s.out.now; m = length s.left.now; l = length s.left_length.now } in
-    let w = walked i c.in_ok-t.t (to_z-of_z c.ranges.q0) c.in_ok-a0.ensures c.grid_of-g.ensures (measured s.addresses.now s.d s.q s.lattice c.measure_of.result c.measure_of.ensures.lqd_value c.measure_of.ensures.tolerance_value) c.point_of.ensures in
-    walk-output i c.in_ok-t.t triplet_list c.fill_triplets.result c.fill_triplets.new.out (c.fill_triplets.ensures.out_after ∙ ap (λ x. x then λ l. got (triplet_list l)) w)
-    (input-accepted i (to_z-of_z c.ranges.q0) (to_z-of_z c.ranges.bz_grid_type) c.in_ok-t.ensures)
-
-pub returns-clause-left_after : goal.returns-clause-left_after
-returns-clause-left_after c =
-    let s = c.args in
-    let i : Input = record { q0 = s.q0; addresses = s.addresses.now; map = s.map.now; classes = s.class_map.now; d = s.d; q = s.q; lattice = s.lattice; t = s.bz_grid_type; n = length s.out.now; m = length s.left.now; l = length s.left_length.now } in
-    let w = walked i c.in_ok-t.t (to_z-of_z c.ranges.q0) c.in_ok-a0.ensures c.grid_of-g.ensures (measured s.addresses.now s.d s.q s.lattice c.measure_of.result c.measure_of.ensures.lqd_value c.measure_of.ensures.tolerance_value) c.point_of.ensures in
-    walk-output i c.in_ok-t.t marks c.fill_triplets.result c.fill_triplets.new.left (c.fill_triplets.ensures.left_after ∙ ap (λ x. x then λ l. got (marks l)) w)
-    (input-accepted i (to_z-of_z c.ranges.q0) (to_z-of_z c.ranges.bz_grid_type) c.in_ok-t.ensures)
-
-pub returns-clause-left_length_after : goal.returns-clause-left_length_after
-returns-clause-left_length_after c =
-    let s = c.args in
-    let i : Input = record { q0 = s.q0; addresses = s.addresses.now; map = s.map.now; classes = s.class_map.now; d = s.d; q = s.q; lattice = s.lattice; t = s.bz_grid_type; n = length s.out.now; m = length s.left.now; l = length s.left_length.now } in
-    let w = walked i c.in_ok-t.t (to_z-of_z c.ranges.q0) c.in_ok-a0.ensures c.grid_of-g.ensures (measured s.addresses.now s.d s.q s.lattice c.measure_of.result c.measure_of.ensures.lqd_value c.measure_of.ensures.tolerance_value) c.point_of.ensures in
-    walk-output i c.in_ok-t.t lengths c.fill_triplets.result c.fill_triplets.new.left_length (c.fill_triplets.ensures.left_length_after ∙ ap (λ x. x then λ l. got (lengths l)) w)
-    (input-accepted i (to_z-of_z c.ranges.q0) (to_z-of_z c.ranges.bz_grid_type) c.in_ok-t.ensures)
+    let a = input-accepted i (to_z-of_z c.ranges.q0) (to_z-of_z c.ranges.bz_grid_type) c.in_ok-t.ensures in
+    let f = c.fill_triplets in
+    let triplets = f.ensures.out_after ∙ ap (λ x. x then λ l. got (triplet_list l)) w in
+    let e = walk-answer i c.in_ok-t.t triplet_list f.result f.new.out triplets ∙ tests-read i (to_z-of_z c.ranges.q0) (to_z-of_z c.ranges.bz_grid_type) c.in_ok-t.ensures in
+    record {
+      value = e;
+      chosen = chosen i f.result e (walk-output i c.in_ok-t.t triplet_list f.result f.new.out triplets a)
+          (walk-output i c.in_ok-t.t marks f.result f.new.left (f.ensures.left_after ∙ ap (λ x. x then λ l. got (marks l)) w) a)
+          (walk-output i c.in_ok-t.t lengths f.result f.new.left_length (f.ensures.left_length_after ∙ ap (λ x. x then λ l. got (lengths l)) w) a);
+    }

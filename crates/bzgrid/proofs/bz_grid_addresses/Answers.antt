@@ -1,6 +1,6 @@
 use Rattle.std.proofs.Common.{◌≡◌, length, sym, ap, ◌∙◌}
 use mir.Facts.{to_z-of_z}
-use Rattle.std.specs.Prelude.{Ok}
+use Rattle.std.specs.Prelude.{Ok, Err}
 use Rattle.bzgrid.specs.BzGridAddresses.{input_tests}
 use Rattle.common.specs.Array.{vector_of, sides_of, matrix_of}
 use Rattle.common.specs.FloatMatrix.{float_matrix}
@@ -31,15 +31,14 @@ invariant_of-new c =
 pub returns-in-Ok : goal.returns-in-Ok
 returns-in-Ok c =
     let a = c.args in
-    let r = c.build.ensures in
-    let h = accepted-call a.d a.q a.ps a.lattice a.bz_grid_type (length a.addresses.now) (length a.map.now) (length a.grg.now)
-    (accepted (goal.at.returns-in-Ok c).In-Ok) (c.new-s.ensures ∙ ap (λ ps. new_search (sides_of a.d) (vector_of ps) (matrix_of a.q) (float_matrix a.lattice)) c.shift.ensures) r.value r.addresses_after r.map_after r.grg_after in
-    record { value = h.0; addresses_after = h.1.0; map_after = h.1.1.0; grg_after = h.1.1.1 }
+    c.build.ensures
+    ∙ accepted-call a.d a.q a.ps a.lattice a.bz_grid_type (length a.addresses.now) (length a.map.now) (length a.grg.now)
+    (accepted (goal.at.returns-in-Ok c).In-Ok) (c.new-s.ensures ∙ ap (λ ps. new_search (sides_of a.d) (vector_of ps) (matrix_of a.q) (float_matrix a.lattice)) c.shift.ensures)
 
 pub returns-in-Err : goal.returns-in-Err
 returns-in-Err c =
     let a = c.args in
     let w = c.wipe.ensures in
-    let h = refused-call a.d a.q a.ps a.lattice a.bz_grid_type (length a.addresses.now) (length a.map.now) (length a.grg.now)
-    (sym (c.input_tests.ensures ∙ ap (input_tests a.d a.q a.ps a.lattice) (to_z-of_z c.ranges.bz_grid_type)) ∙ c.in-Err.is) w.addresses_after w.map_after w.grg_after in
-    record { value = h.0; addresses_after = h.1.0; map_after = h.1.1.0; grg_after = h.1.1.1 }
+    (λ i. record { answer = Err c.in-Err.r; addresses = w.addresses_after i; map = w.map_after i; grg = w.grg_after i })
+    ∙ refused-call a.d a.q a.ps a.lattice a.bz_grid_type (length a.addresses.now) (length a.map.now) (length a.grg.now)
+    (sym (c.input_tests.ensures ∙ ap (input_tests a.d a.q a.ps a.lattice) (to_z-of_z c.ranges.bz_grid_type)) ∙ c.in-Err.is)

@@ -1,12 +1,12 @@
-use Rattle.std.proofs.Common.{◌≡◌, length, sym, ap, subst, ◌∙◌, rules}
-use Rattle.std.specs.Prelude.{T, ℕ, Result, Err, None}
+use Rattle.std.proofs.Common.{◌≡◌, length, sym, ap, ◌∙◌, rules}
+use Rattle.std.specs.Prelude.{ℕ, Result, Err, None}
 use Rattle.std.specs.Option.{ok_or}
 use Rattle.common.specs.declared.Refusal.{Refusal}
 use Rattle.common.specs.declared.Refusal.TheVariants.{SearchFailed}
 use Rattle.grgrid.specs.Grid.{size}
 use Rattle.bzsearch.specs.SearchView.{search_of}
 use Rattle.bzgrid.specs.Table.{doubled}
-use Rattle.bzgrid.specs.Walked.{lengths_for, judged, is_built}
+use Rattle.bzgrid.specs.Code.Walked.{lengths_for, judged}
 use Rattle.bzgrid.proofs.Outcome.{mesh-fits, failed, answered, filled}
 use Rattle.bzgrid.proofs.fill_tables.Goals as goal
 use Rattle.bzgrid.proofs.fill_tables.Goals.{After-finish}
@@ -41,7 +41,7 @@ returns-clause-value c =
     ∙ answered a.t (search_of a.s) (length a.addresses.now) (length a.map.now) (length a.grg.now) c.is_sparse-sparse.ensures (c.points.ensures ∙ ap size c.grid_of-g.ensures) (sym c.in_ok-m.ensures.ok_part ∙ c.walk_points.ensures.value)
 
 pub returns-clause-filled : goal.returns-clause-filled
-returns-clause-filled c b =
+returns-clause-filled c =
     let a = c.args in
     filled a.t (search_of a.s) (length a.addresses.now) (length a.map.now) (length a.grg.now) c.is_sparse-sparse.ensures (c.points.ensures ∙ ap size c.grid_of-g.ensures) (sym c.in_ok-m.ensures.ok_part ∙ c.walk_points.ensures.value)
-    (subst (λ r. T (is_built r)) (told (goal.at.returns-clause-filled c).After-finish) b) c.walk_points.ensures.written_to (ap doubled c.grid_of-g.ensures) (c.finish.ensures.map_after b)
+    c.finish.new.map c.walk_points.ensures.written_to (ap doubled c.grid_of-g.ensures) c.finish.result (told (goal.at.returns-clause-filled c).After-finish) c.finish.ensures.map_after

@@ -1,12 +1,12 @@
 use Rattle.std.proofs.Common.{rules, arith, ◌≡◌, ◌≤◌, ◌-◌, ◌*◌, ◌/◌, length, take, ◌∙◌, ap}
-use Rattle.bzgrid.specs.Writing.{with_mesh}
+use Rattle.bzgrid.specs.Code.Writing.{with_mesh}
 use Rattle.bzgrid.proofs.Mapped.{mesh-front}
 use Rattle.bzgrid.specs.Table.{doubled}
 use Rattle.grgrid.specs.Sides.{sides}
 use Rattle.bzgrid.proofs.finish.Goals as goal
 
 pub returns-clause-map_after : goal.returns-clause-map_after
-returns-clause-map_after c b =
+returns-clause-map_after c =
     let a = c.args in
     let l = a.addresses.now in
     let e = ap (λ l. l.addresses) c.lengths_of-l.ensures in

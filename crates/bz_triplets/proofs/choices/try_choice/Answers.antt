@@ -4,7 +4,7 @@ use Rattle.common.specs.Matrix.{Vec}
 use Rattle.common.specs.Array.{vector_of}
 use Rattle.bztable.specs.Reading.{got}
 use Rattle.bz_triplets.specs.BzTriplets.{tried_sum}
-use Rattle.bz_triplets.specs.TripletsView.{choice_view, state_of, walk_by}
+use Rattle.bz_triplets.specs.Code.TripletsView.{choice_view, state_of, walk_by}
 use Rattle.bz_triplets.proofs.Sums.{choice-read}
 use Rattle.bz_triplets.proofs.choices.try_choice.Goals as goal
 

@@ -10,7 +10,7 @@ use Rattle.bztable.specs.declared.reading.Table.{Table}
 use Rattle.bztable.specs.Reading.{Read, got}
 use Rattle.bz_triplets.specs.declared.choices.Measure.{Measure}
 use Rattle.bz_triplets.specs.BzTriplets.{State, triplet_of, triplet_list, marks, lengths}
-use Rattle.bz_triplets.specs.TripletsView.{state_of, walk_by}
+use Rattle.bz_triplets.specs.Code.TripletsView.{state_of, walk_by}
 use Rattle.bz_triplets.proofs.ByClass.{filled-as, filled_on, filled-room, filled_more, filled-refused}
 use Rattle.bz_triplets.proofs.classes.fill_triplets.Goals as goal
 use Rattle.bz_triplets.proofs.classes.fill_triplets.Goals.{then-class-q1+in_ok-found, else-class-q1}

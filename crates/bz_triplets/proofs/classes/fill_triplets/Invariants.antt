@@ -1,7 +1,7 @@
 use Rattle.common.specs.Array.{vector_of}
 use Rattle.grgrid.specs.Sides.{sides}
 use Rattle.bz_triplets.specs.BzTriplets.{triplet_of}
-use Rattle.bz_triplets.specs.TripletsView.{walk_by}
+use Rattle.bz_triplets.specs.Code.TripletsView.{walk_by}
 use Rattle.bz_triplets.proofs.ByClass.{Filled}
 use Rattle.bz_triplets.proofs.classes.fill_triplets.Given as goal
 

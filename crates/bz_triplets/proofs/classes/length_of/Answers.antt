@@ -3,7 +3,7 @@ use Rattle.std.proofs.Common.{sym, ◌∙◌, ap}
 use Rattle.bzsearch.proofs.Literals.{zero-literal}
 use Rattle.bz_triplets.specs.declared.choices.Step.{Step}
 use Rattle.bz_triplets.specs.BzTriplets.{length_of}
-use Rattle.bz_triplets.specs.TripletsView.{found_by, choice_view}
+use Rattle.bz_triplets.specs.Code.TripletsView.{found_by, choice_view}
 use Rattle.bz_triplets.proofs.classes.length_of.Goals as goal
 
 pub returns-in-Closed : goal.returns-in-Closed

@@ -1,6 +1,6 @@
 use Rattle.std.proofs.Common.{◌≡◌}
 use Rattle.grgrid.specs.Sides.{sides}
-use Rattle.bzgrid.specs.Writing.{placed_flat}
+use Rattle.bzgrid.specs.Code.Writing.{placed_flat}
 use Rattle.bzgrid.proofs.tables.place_images.Given as goal
 
 abbrev pub invariant-loop-k : goal.invariant-loop-k

@@ -1,6 +1,6 @@
 use Rattle.std.proofs.Common.{◌≡◌, length, sym, ap, ◌∙◌, rules, arith}
 use Rattle.common.specs.Array.{items, vector_of}
-use Rattle.bzgrid.specs.Writing.{put_at}
+use Rattle.bzgrid.specs.Code.Writing.{put_at}
 use Rattle.bzgrid.proofs.Runs.{put-out, pasted, three-items}
 use Rattle.bzgrid.proofs.tables.put_address.Goals as goal
 

@@ -5,7 +5,7 @@ use Rattle.common.specs.Array.{vector_of}
 use Rattle.bzsearch.specs.Search.{box, range_fits}
 use Rattle.bzsearch.specs.SearchView.{search_of, range_view, axes_view, rest_of}
 use Rattle.bzsearch.proofs.Rows.{joined}
-use Rattle.bzgrid.specs.Writing.{Tables, tables, stored}
+use Rattle.bzgrid.specs.Code.Writing.{Tables, tables, stored}
 use Rattle.bzgrid.specs.Table.{images_at}
 use Rattle.bzgrid.proofs.Kept.{keeping, none_kept, all-kept}
 use Rattle.bzgrid.proofs.tables.write_point.Goals as goal

@@ -2,14 +2,13 @@ use mir.Facts.{to_z-of_z}
 use Rattle.std.specs.Prelude.{Err}
 use Rattle.std.proofs.Common.{◌≡◌, sym, ◌∙◌, ap, length, rules}
 use Rattle.std.proofs.lemmas.Result.{err_from_is_err_and}
-use Rattle.common.specs.Tested.{giving, Accepted, ◌then◌}
+use Rattle.common.specs.Tested.{Accepted, ◌then◌}
 use Rattle.bzgrid.specs.BzGridAddresses.{grid_type_of}
 use Rattle.bzgrid.proofs.Outcome.{mesh-fits}
 use Rattle.bztable.specs.Reading.{list_of}
-use Rattle.bztable.specs.Neighbours.{all_neighbours, neighbours_read}
-use Rattle.bztable.proofs.NeighbourCall.{input-accepted, read-none, read-some, after-tests, walk-answer, walk-output, none, some}
+use Rattle.bztable.specs.Neighbours.{all_neighbours}
+use Rattle.bztable.proofs.NeighbourCall.{input-accepted, read-none, read-some, after-tests, walk-answer, walk-output, found, found-if, none, some}
 use Rattle.bztable.proofs.neighbours.neighbour_tests.Goals as goal
-use Rattle.bztable.proofs.neighbours.neighbour_tests.Goals.{After-fill_rows}
 
 pub returns-in_err-input_tests-clause-value : goal.returns-in_err-input_tests-clause-value
 returns-in_err-input_tests-clause-value c =
@@ -17,18 +16,13 @@ returns-in_err-input_tests-clause-value c =
     let p = err_from_is_err_and c.from_residual.result c.from_residual.ensures.1 in
     rw (p.1, p.2) (after-tests s.points.now s.offsets.now s.addresses.now s.map.now s.d s.bz_grid_type (length s.out.now) c.in_err-input_tests.ensures)
 
-pub returns-then-is_empty-clause-value : goal.returns-then-is_empty-clause-value
-returns-then-is_empty-clause-value c =
+pub returns-then-is_empty : goal.returns-then-is_empty
+returns-then-is_empty c =
     let s = c.args in
     let n = length s.out.now in
-    let a = after-tests s.points.now s.offsets.now s.addresses.now s.map.now s.d s.bz_grid_type n c.in_ok-input_tests.ensures in
-    ap (λ x. x then λ _. Accepted) (sym (read-none s.points.now s.offsets.now s.addresses.now s.map.now s.d s.bz_grid_type n (search rules))) ∙ a
-
-pub returns-then-is_empty-clause-out_after : goal.returns-then-is_empty-clause-out_after
-returns-then-is_empty-clause-out_after c e =
-    let s = c.args in
-    let n = length s.out.now in
-    none s.out.now (search rules) ∙ ap list_of (sym (read-none s.points.now s.offsets.now s.addresses.now s.map.now s.d s.bz_grid_type n (search rules)))
+    let none-read = read-none s.points.now s.offsets.now s.addresses.now s.map.now s.d s.bz_grid_type n (search rules) in
+    let e = ap (λ x. x then λ _. Accepted) (sym none-read) ∙ after-tests s.points.now s.offsets.now s.addresses.now s.map.now s.d s.bz_grid_type n c.in_ok-input_tests.ensures in
+    record { value = e; found = found s.points.now s.offsets.now s.addresses.now s.map.now s.d s.bz_grid_type n e (none s.out.now (search rules) ∙ ap list_of (sym none-read)) }
 
 pub grid_of-requires : goal.grid_of-requires
 grid_of-requires c =
@@ -63,22 +57,18 @@ returns-in_err-t-clause-value c =
     ∙ ap (λ x. x then λ _. Accepted) (sym (read-some s.points.now s.offsets.now s.addresses.now s.map.now s.d s.bz_grid_type n (some n (sym c.is_empty.ensures ∙ c.if-is_empty.false)) (c.in_err-t.ensures ∙ ap grid_type_of (to_z-of_z c.ranges.bz_grid_type))))
     ∙ after-tests s.points.now s.offsets.now s.addresses.now s.map.now s.d s.bz_grid_type n c.in_ok-input_tests.ensures
 
--- the walk read what the definition reads
-walked : (c : After-fill_rows) → let s = c.args in giving c.fill_rows.result c.fill_rows.new.out ≡ neighbours_read s.points.now s.offsets.now s.addresses.now s.map.now s.d s.bz_grid_type (length s.out.now)
-walked c =
-    let s = c.args in
-    c.fill_rows.ensures
-    ∙ ap (λ v. all_neighbours c.in_ok-t.t v s.offsets.now s.addresses.now s.map.now s.points.now) c.grid_of.ensures
-    ∙ sym (read-some s.points.now s.offsets.now s.addresses.now s.map.now s.d s.bz_grid_type (length s.out.now) (some (length s.out.now) (sym c.is_empty.ensures ∙ c.if-is_empty.false)) (c.in_ok-t.ensures ∙ ap grid_type_of (to_z-of_z c.ranges.bz_grid_type)))
-
-pub returns-clause-value : goal.returns-clause-value
-returns-clause-value c =
+pub returns : goal.returns
+returns c =
     let s = c.args in
     let n = length s.out.now in
-    walk-answer s.points.now s.offsets.now s.addresses.now s.map.now s.d s.bz_grid_type n c.fill_rows.result c.fill_rows.new.out (walked c.before)
-    ∙ after-tests s.points.now s.offsets.now s.addresses.now s.map.now s.d s.bz_grid_type n c.in_ok-input_tests.ensures
-
-pub returns-clause-out_after : goal.returns-clause-out_after
-returns-clause-out_after c =
-    let s = c.args in
-    walk-output s.points.now s.offsets.now s.addresses.now s.map.now s.d s.bz_grid_type (length s.out.now) c.fill_rows.result c.fill_rows.new.out (walked c.before)
+    let r = c.fill_rows in
+    -- the walk read what the definition reads
+    let w = r.ensures
+    ∙ ap (λ v. all_neighbours c.in_ok-t.t v s.offsets.now s.addresses.now s.map.now s.points.now) c.grid_of.ensures
+    ∙ sym (read-some s.points.now s.offsets.now s.addresses.now s.map.now s.d s.bz_grid_type n (some n (sym c.is_empty.ensures ∙ c.if-is_empty.false)) (c.in_ok-t.ensures ∙ ap grid_type_of (to_z-of_z c.ranges.bz_grid_type))) in
+    let e = walk-answer s.points.now s.offsets.now s.addresses.now s.map.now s.d s.bz_grid_type n r.result r.new.out w
+    ∙ after-tests s.points.now s.offsets.now s.addresses.now s.map.now s.d s.bz_grid_type n c.in_ok-input_tests.ensures in
+    record {
+      value = e;
+      found = found-if s.points.now s.offsets.now s.addresses.now s.map.now s.d s.bz_grid_type n r.result e (walk-output s.points.now s.offsets.now s.addresses.now s.map.now s.d s.bz_grid_type n r.result r.new.out w);
+    }

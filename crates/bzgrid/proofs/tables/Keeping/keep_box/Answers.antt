@@ -5,7 +5,7 @@ use Rattle.bzsearch.specs.Search.{chosen, box_at, plane_at, line_at}
 use Rattle.bzsearch.specs.SearchView.{numbers_view, axes_view}
 use Rattle.common.proofs.Sized.{sized-items}
 use Rattle.bzsearch.proofs.Rows.{turn, finished, held-small}
-use Rattle.bzgrid.specs.Writing.{tables}
+use Rattle.bzgrid.specs.Code.Writing.{tables}
 use Rattle.bzgrid.proofs.Kept.{keeping}
 use Rattle.bzgrid.proofs.tables.Keeping.keep_box.Goals as goal
 

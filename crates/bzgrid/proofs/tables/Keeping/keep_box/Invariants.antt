@@ -3,7 +3,7 @@ use mathlib.Core.List.{foldl}
 use Rattle.grgrid.specs.Build.{rows}
 use Rattle.bzsearch.specs.Search.{box_at, plane_at, line_at}
 use Rattle.bzsearch.specs.SearchView.{numbers_view, axes_view}
-use Rattle.bzgrid.specs.Writing.{tables}
+use Rattle.bzgrid.specs.Code.Writing.{tables}
 use Rattle.bzgrid.proofs.Kept.{keeping}
 use Rattle.bzgrid.proofs.tables.Keeping.keep_box.Given as goal
 

@@ -1,22 +1,19 @@
 -- What a walk over all points leaves.
-use Rattle.std.specs.Prelude.{◌≡◌, Bool, true, false, List, ℕ, suc, ◌+◌, ◌*◌, ◌≤◌, ℤ, negsuc, length, replicate, Result, Ok, Err, Option, Some, None}
+use Rattle.std.specs.Prelude.{◌≡◌, Bool, List, ℕ, suc, ◌+◌, ◌*◌, ◌≤◌, ℤ, negsuc, length, replicate, Result, Ok, Err, Option, Some, None, cond}
 use Rattle.common.specs.declared.Refusal.{Refusal}
-use Rattle.integer.specs.Checked.{pick}
 use Rattle.common.specs.declared.Refusal.TheVariants.{WrongLength}
 use Rattle.common.specs.Matrix.{Vec}
 use Rattle.grgrid.specs.Grid.{size}
 use Rattle.grgrid.specs.Sides.{GridFits}
 use Rattle.bzgrid.specs.declared.Lengths.{Lengths}
-use Rattle.bzgrid.specs.declared.GridType.{GridType}
 use Rattle.grgrid.specs.Build.{rows}
-use Rattle.bzsearch.specs.Search.{Search}
-use Rattle.bzgrid.specs.Table.{Image, images_at, others, doubled, address_list, point_list}
-use Rattle.bzgrid.specs.BzGridAddresses.{table_of, map_of, all_found, has_room, padded}
-use Rattle.bzgrid.specs.Writing.{Tables, tables, if_sparse, written, counted}
+use Rattle.bzgrid.specs.Table.{Image, others, doubled}
+use Rattle.bzgrid.specs.BzGridAddresses.{all_found, has_room}
+use Rattle.bzgrid.specs.Code.Writing.{Tables, tables, if_sparse, written, counted}
 
 -- the images of a point that do not stand at its own place
 abbrev pub later : Bool → (ℕ → List Image) → ℕ → List Image
-later sparse g i = pick sparse (others g i) (g i)
+later sparse g i = cond sparse (others g i) (g i)
 
 -- how many there are of the points below i
 abbrev pub before : Bool → (ℕ → List Image) → ℕ → ℕ
@@ -24,7 +21,7 @@ before sparse g i = length (rows (later sparse g) i)
 
 -- how many images there are, or that a point has none
 abbrev pub walk_of : Bool → (ℕ → List Image) → ℕ → Option ℕ
-walk_of sparse g n = pick (all_found g n) (Some (if_sparse sparse n + before sparse g n)) None
+walk_of sparse g n = cond (all_found g n) (Some (if_sparse sparse n + before sparse g n)) None
 
 abbrev pub images_in : Option ℕ → ℕ
 images_in (Some m) = m
@@ -48,17 +45,7 @@ abbrev pub lengths_for : Bool → ℕ → ℕ → Lengths
 lengths_for sparse n m = record { addresses = 3 * m; map = if_sparse sparse (8 * n) + (n + 1); grg = m }
 
 abbrev pub judged : Lengths → ℕ → ℕ → ℕ → Result Lengths Refusal
-judged l x y z = pick (has_room l x y z) (Ok l) (Err WrongLength)
-
-abbrev pub is_built : Result Lengths Refusal → Bool
-is_built (Ok l) = true
-is_built (Err r) = false
-
--- the tables of type t, in outputs of lengths x, y and z
-pub record Filled (t : GridType) (s : Search) (x y z : ℕ) (a m b : List ℤ) : Type 0 where
-  pub addresses : a ≡ padded (address_list (table_of t (images_at s) (size s.d))) x
-  pub map : m ≡ padded (map_of t s.d (images_at s)) y
-  pub grg : b ≡ padded (point_list (table_of t (images_at s) (size s.d))) z
+judged l x y z = cond (has_room l x y z) (Ok l) (Err WrongLength)
 
 -- a grid within the limits, and its doubled mesh
 pub record MeshFits (d : Vec ℕ) : Type 0 where

@@ -1,18 +1,21 @@
 -- How a walk over the points writes the images, one after the other, each where there is room.
-use Rattle.std.specs.Prelude.{Bool, ℕ, zero, suc, ◌+◌, ◌*◌, leb, ℤ, pos, length, set, replicate, drop, Float}
+use Rattle.std.specs.Prelude.{Bool, ℕ, zero, suc, ◌+◌, ◌*◌, leb, ℤ, pos, length, set, replicate, drop, Float, cond}
 use mathlib.Core.List.{List, [], ◌∷◌, ◌++◌, foldl}
-use Rattle.std.proofs.lemmas.List.Edits.{sets}
 use Rattle.std.specs.Float.Ieee.{lt}
-use Rattle.integer.specs.Checked.{pick}
 use Rattle.common.specs.Matrix.{Vec}
 use Rattle.common.specs.Array.{items, vector_of, row_at}
 use Rattle.grgrid.specs.Grid.{size, index}
 use Rattle.bzsearch.specs.Search.{Search, Split, distance, set_bz_address}
 use Rattle.bzgrid.specs.Table.{Image, image_of}
 
+-- the numbers xs, one after the other from place i on
+abbrev pub put : List ℤ → ℕ → List ℤ → List ℤ
+put l i [] = l
+put l i (x ∷ xs) = put (set l i x) (suc i) xs
+
 -- the k-th run of w places
 unfoldable pub put_at : ℕ → List ℤ → ℕ → List ℤ → List ℤ
-put_at w l k xs = pick (leb (w * k + w) (length l)) (sets l (w * k) xs) l
+put_at w l k xs = cond (leb (w * k + w) (length l)) (put l (w * k) xs) l
 
 -- two outputs, the place of the next image, and that of the one after it
 pub record Tables : Type 0 where
@@ -32,14 +35,14 @@ stored t xs = foldl store t xs
 
 -- a candidate of point i, at address a, is stored if it lies under the bound
 abbrev pub keep : Search → ℕ → Vec ℤ → Split → Float → Tables → Vec ℤ → Tables
-keep s i a p bound t m = pick (lt (distance s p.s0 m) bound) (store t (image_of i (set_bz_address s a p.nint m))) t
+keep s i a p bound t m = cond (lt (distance s p.s0 m) bound) (store t (image_of i (set_bz_address s a p.nint m))) t
 
 abbrev pub kept : Search → ℕ → Vec ℤ → Split → Float → Tables → List (Vec ℤ) → Tables
 kept s i a p bound t ms = foldl (keep s i a p bound) t ms
 
 -- ---- point by point: a dense table goes on where it stopped; a sparse one has the first image of point i at place i
 abbrev pub restart : Bool → ℕ → Tables → Tables
-restart sparse i t = pick sparse (tables t.addresses t.grg i t.at) (tables t.addresses t.grg t.at (t.at + 1))
+restart sparse i t = cond sparse (tables t.addresses t.grg i t.at) (tables t.addresses t.grg t.at (t.at + 1))
 
 abbrev pub written : Bool → (ℕ → List Image) → Tables → ℕ → Tables
 written sparse g t zero = t
@@ -47,7 +50,7 @@ written sparse g t (suc i) = stored (restart sparse i (written sparse g t i)) (g
 
 -- n in a sparse table: as the places below n, which are for the first images
 abbrev pub if_sparse : Bool → ℕ → ℕ
-if_sparse sparse n = pick sparse n 0
+if_sparse sparse n = cond sparse n 0
 
 -- the counts of images before each of the first i points, from place `base` on
 abbrev pub counted : (ℕ → ℕ) → ℕ → List ℤ → ℕ → List ℤ
@@ -61,4 +64,4 @@ placed_flat d l (suc k) map = set (placed_flat d l k map) (index d (vector_of (r
 
 -- in a sparse table the map begins with the mesh of d, which is doubled
 abbrev pub with_mesh : Bool → Vec ℕ → List ℤ → ℕ → List ℤ → List ℤ
-with_mesh sparse d l m map = pick sparse (placed_flat d l m (replicate (size d) (pos (size d))) ++ drop (size d) map) map
+with_mesh sparse d l m map = cond sparse (placed_flat d l m (replicate (size d) (pos (size d))) ++ drop (size d) map) map

@@ -17,7 +17,7 @@ use Rattle.common.proofs.Tests.{not-accepted}
 use Rattle.grgrid.proofs.Own.{length-own}
 use Rattle.class_sheet.specs.Sheet.{text, text_fits, place_count}
 use Rattle.class_sheet.specs.ClassSheet.{weight, class_numbers, class_count, row, sheet_tests, outcome_of, class_sheet}
-use Rattle.class_sheet.specs.SheetView.{fitting, weights_of, weighed, Ready, PutSheet, Laid}
+use Rattle.class_sheet.specs.Code.SheetView.{fitting, weights_of, weighed, Ready, PutSheet, Laid}
 
 module _ (classes triplets : List ℤ) (n : ℕ) where
   abbrev k : ℕ

@@ -1,7 +1,7 @@
 -- Fields: which numbers a field holds, what is read of one, and the same of a line.
 use mathlib.Core.Path.{◌≡◌, refl, sym, ◌∙◌, ap, ap₂}
 use mathlib.Core.Logic.{◌↔◌}
-use mathlib.Core.Bool.{Bool}
+use mathlib.Core.Bool.{Bool, cond}
 use mathlib.Core.List.{List, [], ◌∷◌, ◌++◌}
 use Prim.Native.Nat.{ℕ, zero, suc, ◌+◌, ◌*◌, ◌-◌, ◌^◌, ◌/◌, ◌%◌, ◌≤◌, ◌<◌}
 use native.Mathlib.Omega.{arith}
@@ -10,13 +10,12 @@ use lib.IntN.{ℤ, pos, negsuc, neg_ℤ}
 use lib.ListN.{length, replicate, length-append, length-replicate}
 use lib.Seq.{take_at, drop_at}
 use borrow.Author.Tests.{ne_eqb}
-use Rattle.integer.specs.Checked.{pick}
 use Rattle.integer.proofs.Test.{and_l, and_r}
 use Rattle.decimal.specs.Decimal.{decimal, number}
 use Rattle.decimal.proofs.Decimal.{one-digit, last-digit, by_tens, Digits, decimal-digits, digits-few}
 use Rattle.class_sheet.specs.Sheet.{right, field_fits, line, line_fits}
 use Rattle.class_sheet.specs.ReadSheet.{value, read_field, read_line}
-use Rattle.class_sheet.specs.SheetView.{total}
+use Rattle.class_sheet.specs.Code.SheetView.{total}
 
 -- ---- which numbers a field holds
 pub field_holds : (w n : ℕ) → T (field_fits (suc w) (pos n)) ↔ (n < 10 ^ suc w)
@@ -47,7 +46,7 @@ read-digits : (t : List ℕ) → Digits t → read_field t ≡ pos (value 0 t)
 read-digits t d = ap read_field d.is ∙ plain d.first d.rest d.high ∙ ap (λ t. pos (value 0 t)) (sym d.is)
   where
     tested : ℕ → List ℕ → Bool → Bool → ℤ
-    tested c t a b = pick a (read_field t) (pick b (neg_ℤ (pos (value 0 t))) (pos (value 0 (c ∷ t))))
+    tested c t a b = cond a (read_field t) (cond b (neg_ℤ (pos (value 0 t))) (pos (value 0 (c ∷ t))))
 
     plain : (c : ℕ) (t : List ℕ) → 48 ≤ c → read_field (c ∷ t) ≡ pos (value 0 (c ∷ t))
     plain c t h = ap₂ (tested c t) (ne_eqb c 32 (λ e. omega arith)) (ne_eqb c 45 (λ e. omega arith))

@@ -1,7 +1,7 @@
 -- The walk over the classes: the lines of those that it has passed stand in the front of the sheet, the weights of the others at its end.
 use mathlib.Core.Path.{◌≡◌, refl, sym, ◌∙◌, ap, ap₂, subst}
 use mathlib.Core.Logic.{⊎_elim}
-use mathlib.Core.Bool.{Bool, true, false, ◌&&◌}
+use mathlib.Core.Bool.{Bool, true, false, ◌&&◌, cond}
 use mathlib.Core.List.{List, [], ◌∷◌, ◌++◌, map, map-append, append_assoc, append-nil}
 use Prim.Native.Nat.{ℕ, zero, suc, ◌+◌, ◌*◌, ◌-◌, ◌≤◌, ◌<◌}
 use native.Mathlib.Nat.{eq-or-lt_of_le}
@@ -11,7 +11,6 @@ use lib.IntN.{ℤ, pos}
 use lib.ListN.{length, get_or, take, drop, length-map, drop_of_length-le, get_or-append}
 use lib.Seq.{take_at, drop-append-add, drop-drop, get_or-append-add, get_or-drop, get_or_at}
 use Rattle.integer.proofs.Test.{holds}
-use Rattle.integer.specs.Checked.{pick}
 use Rattle.std.specs.Prelude.{Err}
 use Rattle.common.specs.Array.{row_at}
 use Rattle.common.specs.Tested.{Tested, Accepted}
@@ -22,7 +21,7 @@ use Rattle.grgrid.proofs.Numbers.{own-more, own_same}
 use Rattle.grgrid.proofs.Own.{length-own, own-rises, points_more}
 use Rattle.class_sheet.specs.Sheet.{line, line_fits, row_widths, page_line, page_fits, lined, text, text_fits, place_count}
 use Rattle.class_sheet.specs.ClassSheet.{weight, class_numbers, class_count, row}
-use Rattle.class_sheet.specs.SheetView.{fitting, PutClass, Ready, PutSheet}
+use Rattle.class_sheet.specs.Code.SheetView.{fitting, PutClass, Ready, PutSheet}
 use Rattle.class_sheet.proofs.Placing.{fits-told}
 use Rattle.class_sheet.proofs.ReadBack.{row-five, text-length}
 
@@ -32,7 +31,7 @@ module _ (classes : List ℤ) where
   early n zero i h l = let e : n ≡ 0 = omega arith in ap (λ n. get_or (own_points classes n) i 0) (sym e)
   early n (suc m) i h l =
       ⊎_elim (λ e. ap (λ n. get_or (own_points classes n) i 0) (sym e))
-      (λ k. get_or-append (own_points classes m) (pick (is_place (get_or classes m (pos 0)) m) (m ∷ []) []) 0 i (omega (arith, length-own classes m, own-rises classes n m (omega arith))) ∙ early n m i (omega arith) l)
+      (λ k. get_or-append (own_points classes m) (cond (is_place (get_or classes m (pos 0)) m) (m ∷ []) []) 0 i (omega (arith, length-own classes m, own-rises classes n m (omega arith))) ∙ early n m i (omega arith) l)
       (eq-or-lt_of_le h)
 
   module _ (q : ℕ) (h : q < length classes) (e : is_place (get_or classes q (pos 0)) q ≡ true) where

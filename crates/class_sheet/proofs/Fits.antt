@@ -1,6 +1,6 @@
 -- When every field fits: bounds on the numbers, page numbers, weights; and then a call of the right lengths is accepted.
 use mathlib.Core.Path.{◌≡◌, refl, ◌∙◌, ap, ap₂}
-use mathlib.Core.Bool.{Bool, true, false, ◌&&◌}
+use mathlib.Core.Bool.{Bool, true, false, ◌&&◌, cond}
 use mathlib.Core.List.{List, [], ◌∷◌}
 use Prim.Native.Nat.{ℕ, zero, suc, ◌+◌, ◌*◌, ◌/◌, ◌%◌, ◌≤◌, ◌<◌}
 use native.Mathlib.Nat.{lt_of_le_of_lt}
@@ -9,7 +9,6 @@ use lib.Dec.{T, eqb, lit<}
 use lib.IntN.{ℤ, pos}
 use lib.ListN.{length}
 use borrow.Author.Tests.{eq-eqb}
-use Rattle.integer.specs.Checked.{pick}
 use Rattle.integer.proofs.Test.{and_in, is_true}
 use Rattle.common.specs.Tested.{require, Accepted}
 use Rattle.common.specs.declared.Refusal.TheVariants.{OutsideLimits, WrongLength}
@@ -29,7 +28,7 @@ row-fits {p} {w} {x} {y} {z} a b c d e =
 pub page-fits : (r : ℕ) → r < 0x10000000000000000 → T (page_fits r)
 page-fits r h = go (eqb (r % 40) 0)
   where
-    go : (b : Bool) → T (pick b (line_fits page_widths (page_number r)) true)
+    go : (b : Bool) → T (cond b (line_fits page_widths (page_number r)) true)
     go true = and_in (field_fits 45 (pos (r / 40 + 1))) true ((field_holds 44 (r / 40 + 1)).1 (lt_of_le_of_lt {m = 0x10000000000000000} (omega arith) (lit< tt))) tt
     go false = tt
 

@@ -1,6 +1,6 @@
 -- Laws of a sheet's length, and of the lines of a class within it.
 use mathlib.Core.Path.{◌≡◌, refl, sym, ◌∙◌, ap, ap₂, subst}
-use mathlib.Core.Bool.{Bool, true, false, ◌&&◌}
+use mathlib.Core.Bool.{Bool, true, false, ◌&&◌, cond}
 use mathlib.Core.List.{List, [], ◌∷◌, ◌++◌, map, map-append, append_assoc, append-nil}
 use Prim.Native.Nat.{ℕ, zero, suc, ◌+◌, ◌*◌, ◌/◌, ◌%◌, ◌≤◌, ◌<◌}
 use native.Mathlib.Nat.{add-zero}
@@ -12,13 +12,12 @@ use lib.Seq.{length-take-le, take_at, drop-append-add, drop-drop}
 use borrow.Author.Tests.{eq-eqb, ne_eqb, eqb-true, eqb-false}
 use borrow.Rule.Slice.PartMut.{put_mid}
 use Rattle.std.proofs.lemmas.List.{take-append-drop}
-use Rattle.integer.specs.Checked.{pick}
 use Rattle.integer.proofs.Test.{holds}
 use Rattle.common.specs.Tested.{Tested, Accepted}
 use Rattle.common.specs.declared.Refusal.TheVariants.{OutsideLimits}
 use Rattle.common.proofs.Tests.{passed}
 use Rattle.class_sheet.specs.Sheet.{line, line_fits, row_widths, page_widths, page_number, page_line, page_fits, place_count}
-use Rattle.class_sheet.specs.SheetView.{fitting, PutLine, PutClass}
+use Rattle.class_sheet.specs.Code.SheetView.{fitting, PutLine, PutClass}
 use Rattle.class_sheet.proofs.Fields.{length-line}
 
 -- ---- where the lines of class r stand
@@ -53,10 +52,10 @@ pub record Headed (before : List ℤ) (r : ℕ) (out : List ℤ) : Type 0 where
 
 module _ (l : List ℤ) (r : ℕ) where
   abbrev line_by : Bool → List ℕ
-  line_by t = pick t (line page_widths (page_number r)) []
+  line_by t = cond t (line page_widths (page_number r)) []
 
   abbrev fits_by : Bool → Bool
-  fits_by t = pick t (line_fits page_widths (page_number r)) true
+  fits_by t = cond t (line_fits page_widths (page_number r)) true
 
   abbrev Laid_by : List ℤ → Bool → Type 0
   Laid_by out t = out ≡ (take (place_count r) l ++ map pos (line_by t)) ++ drop (row_place r) l
@@ -91,7 +90,7 @@ module _ (l nums : List ℤ) (r : ℕ) (room : place_count (suc r) ≤ length l)
   head-size : length head ≡ row_place r
   head-size = length-append (take (place_count r) l) (map pos (page_line r)) ∙ ap₂ ◌+◌ (length-take-le (place_count r) l (omega (arith, next-places r))) (length-map (page_line r) pos) ∙ begins (eqb (r % 40) 0) refl d.fits
     where
-      begins : (b : Bool) → eqb (r % 40) 0 ≡ b → pick b (line_fits page_widths (page_number r)) true ≡ true → place_count r + length (pick b (line page_widths (page_number r)) []) ≡ row_place r
+      begins : (b : Bool) → eqb (r % 40) 0 ≡ b → cond b (line_fits page_widths (page_number r)) true ≡ true → place_count r + length (cond b (line page_widths (page_number r)) []) ≡ row_place r
       begins true e t = omega (arith, length-line page_widths (page_number r) refl (holds t), page-place r (eqb-true (r % 40) 0 e))
       begins false e t = add-zero (place_count r) ∙ no-page-place r (eqb-false (r % 40) 0 e)
 

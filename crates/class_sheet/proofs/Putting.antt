@@ -22,7 +22,7 @@ use Rattle.common.proofs.Tests.{not-accepted}
 use Rattle.decimal.specs.Decimal.{decimal, number}
 use Rattle.decimal.proofs.Decimal.{one-digit, last-digit, some-digit}
 use Rattle.class_sheet.specs.Sheet.{right, field_fits, line, line_fits}
-use Rattle.class_sheet.specs.SheetView.{sign, signed, fitting, total, PutRight, PutLine}
+use Rattle.class_sheet.specs.Code.SheetView.{sign, signed, fitting, total, PutRight, PutLine}
 
 -- ---- one code after another
 module _ (t : List ℕ) (w c : ℕ) where

@@ -1,6 +1,6 @@
 -- The sheet read back gives the same rows: of any rows of five numbers that fit, and of an accepted call.
 use mathlib.Core.Path.{◌≡◌, refl, ◌∙◌, ap, ap₂}
-use mathlib.Core.Bool.{Bool, true, false, ◌&&◌}
+use mathlib.Core.Bool.{Bool, true, false, ◌&&◌, cond}
 use mathlib.Core.List.{List, [], ◌∷◌, ◌++◌, map, map-map, map-id, append_assoc, append-nil}
 use Prim.Native.Nat.{ℕ, zero, suc, ◌*◌, ◌/◌, ◌%◌, ◌<◌}
 use native.Mathlib.Omega.{arith}
@@ -9,7 +9,6 @@ use lib.IntN.{ℤ, pos, nat_abs}
 use lib.ListN.{length, take, drop, length-append, length-drop}
 use lib.Seq.{take-append-le, drop-append-le, drop_at, take_all}
 use borrow.Author.Tests.{eqb-true, eqb-false, eq-eqb, ne_eqb}
-use Rattle.integer.specs.Checked.{pick}
 use Rattle.integer.proofs.Test.{and_l, and_r, holds}
 use Rattle.common.specs.Tested.{require, output_of, Tested, Accepted}
 use Rattle.common.specs.declared.Refusal.TheVariants.{OutsideLimits, WrongLength}
@@ -34,7 +33,7 @@ line_last s t m e f = ap (take 46) (drop_at s t (46 * m) e) ∙ take_all 46 t (o
 
 -- what line i tells
 abbrev told : ℕ → List ℕ → List (List ℤ)
-told i t = pick (eqb (i % 41) 0) [] (read_line row_widths t ∷ [])
+told i t = cond (eqb (i % 41) 0) [] (read_line row_widths t ∷ [])
 
 -- a text of m lines that tell these rows
 record Tells (m : ℕ) (s : List ℕ) (l : List (List ℤ)) : Type 0 where
@@ -60,7 +59,7 @@ module _ (row : ℕ → List ℤ) (five : (r : ℕ) → length (row r) ≡ 5) wh
   listed n = build (λ r done. row r) n
 
   row-told : (n i : ℕ) → T (line_fits row_widths (row n)) → (i % 41 ≡ 0 → ⊥) → told i (line row_widths (row n)) ≡ row n ∷ []
-  row-told n i t e = ap (λ b. pick b [] (read_line row_widths (line row_widths (row n)) ∷ [])) (ne_eqb (i % 41) 0 e) ∙ ap (λ l. l ∷ []) (read-line row_widths (row n) (five n) t)
+  row-told n i t e = ap (λ b. cond b [] (read_line row_widths (line row_widths (row n)) ∷ [])) (ne_eqb (i % 41) 0 e) ∙ ap (λ l. l ∷ []) (read-line row_widths (row n) (five n) t)
 
   row-size : (n : ℕ) → T (line_fits row_widths (row n)) → length (line row_widths (row n)) ≡ 46
   row-size n t = length-line row_widths (row n) (five n) t
@@ -75,7 +74,7 @@ module _ (row : ℕ → List ℤ) (five : (r : ℕ) → length (row r) ≡ 5) wh
         let p = page-here n e in
         let a = one_more d page (length-line page_widths (page_number n) refl f) in
         let b = one_more a (line row_widths (row n)) (row-size n t) in
-        let quiet : told (line_count n) page ≡ [] = ap (λ b. pick b [] (read_line row_widths page ∷ [])) (eq-eqb (line_count n % 41) 0 p.0) in
+        let quiet : told (line_count n) page ≡ [] = ap (λ b. cond b [] (read_line row_widths page ∷ [])) (eq-eqb (line_count n % 41) 0 p.0) in
         let same : (listed n ++ told (line_count n) page) ++ told (suc (line_count n)) (line row_widths (row n)) ≡ listed (suc n) =
         ap₂ ◌++◌ (ap (λ x. listed n ++ x) quiet ∙ append-nil (listed n)) (row-told n (suc (line_count n)) t p.2) in
         rw (p.1, ← append_assoc (text row n) page (line row_widths (row n)), ← same) b
@@ -87,8 +86,8 @@ module _ (row : ℕ → List ℤ) (five : (r : ℕ) → length (row r) ≡ 5) wh
         let same : listed n ++ told (line_count n) (line row_widths (row n)) ≡ listed (suc n) = ap (λ x. listed n ++ x) (row-told n (line_count n) t p.0) in
         rw (p.1, ← same) b
 
-    next-row : (b : Bool) → eqb (n % 40) 0 ≡ b → T (pick b (line_fits page_widths (page_number n)) true)
-        → Tells (line_count (suc n)) (text row n ++ (pick b page [] ++ line row_widths (row n))) (listed (suc n))
+    next-row : (b : Bool) → eqb (n % 40) 0 ≡ b → T (cond b (line_fits page_widths (page_number n)) true)
+        → Tells (line_count (suc n)) (text row n ++ (cond b page [] ++ line row_widths (row n))) (listed (suc n))
     next-row true e f = with_page (eqb-true (n % 40) 0 e) f
     next-row false e f = without_page (eqb-false (n % 40) 0 e)
 

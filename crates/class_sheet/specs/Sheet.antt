@@ -1,6 +1,5 @@
 -- The sheet as the codes of its characters: numbers right in fields of fixed width, a line a class, forty classes a page.
-use Rattle.std.specs.Prelude.{Bool, true, ◌&&◌, List, [], ◌∷◌, ◌++◌, ℕ, zero, suc, ◌+◌, ◌*◌, ◌-◌, ◌/◌, ◌%◌, eqb, leb, ℤ, pos, length, replicate}
-use Rattle.integer.specs.Checked.{pick}
+use Rattle.std.specs.Prelude.{Bool, true, ◌&&◌, List, [], ◌∷◌, ◌++◌, ℕ, zero, suc, ◌+◌, ◌*◌, ◌-◌, ◌/◌, ◌%◌, eqb, leb, ℤ, pos, length, replicate, cond}
 use Rattle.decimal.specs.Decimal.{decimal, number}
 use Rattle.grgrid.specs.Build.{rows}
 
@@ -38,10 +37,10 @@ abbrev pub page_number : ℕ → List ℤ
 page_number r = pos (r / 40 + 1) ∷ []
 
 abbrev pub page_line : ℕ → List ℕ
-page_line r = pick (eqb (r % 40) 0) (line page_widths (page_number r)) []
+page_line r = cond (eqb (r % 40) 0) (line page_widths (page_number r)) []
 
 abbrev pub page_fits : ℕ → Bool
-page_fits r = pick (eqb (r % 40) 0) (line_fits page_widths (page_number r)) true
+page_fits r = cond (eqb (r % 40) 0) (line_fits page_widths (page_number r)) true
 
 unfoldable pub lined : (ℕ → List ℤ) → ℕ → List ℕ
 unfolding decimal

@@ -1,7 +1,7 @@
 // Numbers right in fields of fixed width, and lines of them.
 ghost use Rattle.std.specs.Prelude.{◌≡◌, ◌+◌, length};
 ghost use Rattle.decimal.specs.Decimal.{number};
-ghost use Rattle.class_sheet.specs.SheetView.{sign, signed, total, PutRight, PutLine};
+ghost use Rattle.class_sheet.specs.Code.SheetView.{sign, signed, total, PutRight, PutLine};
 
 use common::Refusal;
 

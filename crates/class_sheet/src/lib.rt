@@ -7,7 +7,7 @@ mod weights;
 
 ghost use Rattle.std.specs.Prelude.{◌≡◌, length};
 ghost use Rattle.class_sheet.specs.ClassSheet.{outcome_of, class_sheet, ReadsBack};
-ghost use Rattle.class_sheet.specs.SheetView.{Laid};
+ghost use Rattle.class_sheet.specs.Code.SheetView.{Laid};
 
 use common::Refusal;
 

@@ -2,7 +2,7 @@
 ghost use Rattle.std.specs.Prelude.{◌≡◌, suc, ◌≤◌, ◌<◌, eqb, length};
 ghost use Rattle.class_sheet.specs.Sheet.{place_count};
 ghost use Rattle.class_sheet.specs.ClassSheet.{class_count};
-ghost use Rattle.class_sheet.specs.SheetView.{PutClass, Ready, PutSheet};
+ghost use Rattle.class_sheet.specs.Code.SheetView.{PutClass, Ready, PutSheet};
 
 use crate::field;
 use common::Refusal;

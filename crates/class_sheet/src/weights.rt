@@ -1,7 +1,7 @@
 // The numbers of the classes and their weights, in lent places: each point finds its class by halving, since the numbers rise.
 ghost use Rattle.std.specs.Prelude.{◌≡◌, map, ◌+◌, pos, length};
 ghost use Rattle.class_sheet.specs.ClassSheet.{class_numbers, class_count};
-ghost use Rattle.class_sheet.specs.SheetView.{weights_of, weighed};
+ghost use Rattle.class_sheet.specs.Code.SheetView.{weights_of, weighed};
 
 // The places that hold their own number, from the lowest up.
 fn list_numbers(class_map: &[i64], out: &mut [i64])

@@ -1,5 +1,5 @@
--- The class sheet of every accepted chain, whatever its list of rotations: every number fits its field, so that a sheet of the right length is never refused, and
--- read back it gives the numbers. The theorem is `finished-sheet` of proofs/FinishedSheet.
+-- The class sheet of every accepted chain, whatever its list of rotations: every number fits its field, so that a sheet of the right length is never
+-- refused, and read back it gives the numbers. The theorem is `finished-sheet` of proofs/FinishedSheet.
 use Rattle.std.specs.Prelude.{◌≡◌, List, [], ◌∷◌, map, ℕ, ◌<◌, ◌≤◌, ℤ, pos, nat_abs}
 use Rattle.common.specs.Tested.{Accepted}
 use Rattle.class_sheet.specs.Sheet.{place_count}

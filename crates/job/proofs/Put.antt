@@ -1,7 +1,7 @@
 -- Laws of a text that is put into a slice byte by byte.
 use mathlib.Core.Path.{◌≡◌, refl, sym, ◌∙◌, ap, ap₂}
 use mathlib.Core.Logic.{⊎_elim}
-use mathlib.Core.Bool.{Bool, true, false}
+use mathlib.Core.Bool.{Bool, true, false, cond}
 use mathlib.Core.List.{List, [], ◌∷◌, ◌++◌}
 use Prim.Native.Nat.{ℕ, zero, suc, ◌+◌, ◌-◌, ◌<◌, ◌≤◌}
 use native.Mathlib.Nat.{eq-or-lt_of_le, le_of_suc-le-suc, not-suc-le-zero, add-zero, zero-add}
@@ -13,15 +13,14 @@ use lib.Seq.{take-suc, append_snoc, set-append_seam}
 use borrow.Author.Tests.{lt-ltb, le-ltb, leb-true, leb-false}
 use Rattle.std.proofs.lemmas.List.{take-append-drop}
 use Rattle.std.specs.Prelude.{Option, Some, None}
-use Rattle.integer.specs.Checked.{pick}
 use Rattle.grgrid.specs.Build.{rows}
 use Rattle.job.proofs.Lists.{drop-replicate}
-use Rattle.job.specs.Writing.{Page, page, next, put, puts, finished, printed, printed_answer}
+use Rattle.job.specs.Writing.{Page, page, next, put, puts, finished, printed}
 
 -- ---- one byte
 module _ (l : List ℕ) (b n : ℕ) where
   at : Bool → Page
-  at t = pick t (page (set l n b) (Some (n + 1))) (page l None)
+  at t = cond t (page (set l n b) (Some (n + 1))) (page l None)
 
   put_in : n < length l → page (set l n b) (Some (n + 1)) ≡ put (page l (Some n)) b
   unfolding at
@@ -91,15 +90,15 @@ spilling s l [] h = absurd (not-suc-le-zero h)
 spilling s [] (b ∷ t) h = ap (λ p. (puts p t).so_far) (sym (put-out (s ++ []) b (length s) (omega (arith, length-append s [])))) ∙ ap (λ p. p.so_far) (full (s ++ []) t)
 spilling s (x ∷ l) (b ∷ t) h = ap (λ p. (puts p t).so_far) (next_place s x l b) ∙ spilling (s ++ (b ∷ [])) l t (le_of_suc-le-suc h)
 
-kept-length : (p : Page) (t : List ℕ) → length (puts p t).bytes ≡ length p.bytes
+kept-length : (p : Page) (t : List ℕ) → length (puts p t).text ≡ length p.text
 kept-length p [] = refl
-kept-length p (b ∷ t) = kept-length (put p b) t ∙ one p.bytes p.so_far
+kept-length p (b ∷ t) = kept-length (put p b) t ∙ one p.text p.so_far
   where
-    by-room : (l : List ℕ) (n : ℕ) (r : Bool) → length (pick r (page (set l n b) (Some (n + 1))) (page l None)).bytes ≡ length l
+    by-room : (l : List ℕ) (n : ℕ) (r : Bool) → length (cond r (page (set l n b) (Some (n + 1))) (page l None)).text ≡ length l
     by-room l n true = length-set l n b
     by-room l n false = refl
 
-    one : (l : List ℕ) (w : Option ℕ) → length (next l w b).bytes ≡ length l
+    one : (l : List ℕ) (w : Option ℕ) → length (next l w b).text ≡ length l
     one l None = refl
     one l (Some n) = by-room l n (ltb n (length l))
 
@@ -116,23 +115,11 @@ module _ (t : List ℕ) (n : ℕ) where
   spills h = spilling [] (replicate n 0) t (omega (arith, length-replicate {A = ℕ} n 0))
 
   -- by whether there is room
-  answered : (r : Bool) → leb (length t) n ≡ r → (puts blank t).so_far ≡ pick r (Some (length t)) None
-  answered true h = ap (λ p. p.so_far) (fits (leb-true (length t) n h))
-  answered false h = spills (leb-false (length t) n h)
-
-  left : (r : Bool) → leb (length t) n ≡ r → finished (puts blank t).bytes (puts blank t).so_far ≡ pick r (t ++ replicate (n - length t) 0) (replicate n 0)
-  left true h = ap (λ p. finished p.bytes p.so_far) (fits (leb-true (length t) n h))
-  left false h = ap (finished (puts blank t).bytes) (spills (leb-false (length t) n h)) ∙ ap (λ m. replicate m 0) (kept-length blank t ∙ length-replicate {A = ℕ} n 0)
+  left : (r : Bool) → leb (length t) n ≡ r → finished (puts blank t).text (puts blank t).so_far ≡ cond r (page (t ++ replicate (n - length t) 0) (Some (length t))) (page (replicate n 0) None)
+  left true h = ap (λ p. finished p.text p.so_far) (fits (leb-true (length t) n h))
+  left false h = ap (finished (puts blank t).text) (spills (leb-false (length t) n h)) ∙ ap (λ m. page (replicate m 0) None) (kept-length blank t ∙ length-replicate {A = ℕ} n 0)
 
   -- in a slice that was cleared
-  module _ {l : List ℕ} {q : Page} (z : l ≡ replicate n 0) (e : q ≡ puts (page l (Some 0)) t) where
-    from-blank : q ≡ puts blank t
-    from-blank = e ∙ ap (λ l. puts (page l (Some 0)) t) z
-
-    pub whole-answer : q.so_far ≡ printed_answer t n
-    unfolding printed_answer
-    whole-answer = ap (λ p. p.so_far) from-blank ∙ answered (leb (length t) n) refl
-
-    pub whole-text : finished q.bytes q.so_far ≡ printed t n
-    unfolding printed
-    whole-text = ap (λ p. finished p.bytes p.so_far) from-blank ∙ left (leb (length t) n) refl
+  pub whole : {l : List ℕ} {q : Page} → l ≡ replicate n 0 → q ≡ puts (page l (Some 0)) t → finished q.text q.so_far ≡ printed t n
+  unfolding printed
+  whole z e = ap (λ p. finished p.text p.so_far) (e ∙ ap (λ l. puts (page l (Some 0)) t) z) ∙ left (leb (length t) n) refl

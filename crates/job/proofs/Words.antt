@@ -1,4 +1,5 @@
 -- Numbers of several bytes, and signed words.
+use mathlib.Core.Bool.{cond}
 use mathlib.Core.Path.{◌≡◌, sym, ◌∙◌, ap, ap₂}
 use mathlib.Core.List.{List}
 use Prim.Native.Nat.{ℕ, suc, ◌+◌, ◌*◌, ◌-◌, ◌^◌, ◌<◌, ◌≤◌}
@@ -12,7 +13,6 @@ use mir.Syntax.{w64}
 use mir.Val.{SFits, to_z}
 use mir.Facts.{to_z_pos, to_z-of_z}
 use borrow.Author.Tests.{lt-ltb}
-use Rattle.integer.specs.Checked.{pick}
 use Rattle.integer.proofs.Fits.{held, range-sfits}
 use Rattle.integer.proofs.Parts.{difference}
 use Rattle.job.specs.Job.{little_endian, word, signed, float}
@@ -49,7 +49,7 @@ module _ {w : ℕ} (h : w < 0x100000000) where
 
 pub small_word : (w : ℕ) → w < 0x80000000 → to_z w64 w ≡ signed w
 unfolding signed
-small_word w h = to_z_pos w64 (omega arith) ∙ sym (ap (λ t. pick t (pos w) (pos w -ℤ pos 0x100000000)) (lt-ltb w 0x80000000 h))
+small_word w h = to_z_pos w64 (omega arith) ∙ sym (ap (λ t. cond t (pos w) (pos w -ℤ pos 0x100000000)) (lt-ltb w 0x80000000 h))
 
 -- ---- the numbers of a section
 abbrev pub signed_item : List ℕ → ℕ → ℕ → List ℤ → ℤ

@@ -1,8 +1,9 @@
--- The job file: little-endian 32-bit words, of which a header of eight says where A, the rotations and the lattice stand. Sections may overlap and stand at any byte from 32 on.
-use Rattle.std.specs.Prelude.{Bool, ◌&&◌, List, ◌++◌, ℕ, zero, suc, ◌+◌, ◌*◌, ◌-◌, ◌%◌, eqb, leb, ltb, Float, ℤ, pos, negsuc, ◌-ℤ◌, length, get_or, replicate, Result, Ok, Err}
+-- The job file: little-endian 32-bit words, of which a header of eight says where A, the rotations and
+-- the lattice stand. Sections may overlap and stand at any byte from 32 on.
+use Rattle.std.specs.Prelude.{Bool, ◌&&◌, List, ◌++◌, ℕ, zero, suc, ◌+◌, ◌*◌, ◌-◌, ◌%◌, eqb, leb, ltb, Float, ℤ, pos}
+use Rattle.std.specs.Prelude.{negsuc, ◌-ℤ◌, length, get_or, replicate, Result, Ok, Err, cond}
 use Rattle.std.specs.Float.{binary64}
 use Rattle.std.specs.Float.Ieee.{of_bits}
-use Rattle.integer.specs.Checked.{pick}
 use Rattle.common.specs.declared.Refusal.{Refusal}
 use Rattle.common.specs.declared.Refusal.TheVariants.{BadHeader}
 use Rattle.grgrid.specs.Build.{build}
@@ -18,7 +19,7 @@ word b at = little_endian b at 4
 
 -- the number of a signed word
 unfoldable pub signed : ℕ → ℤ
-signed w = pick (ltb w 0x80000000) (pos w) (pos w -ℤ pos 0x100000000)
+signed w = cond (ltb w 0x80000000) (pos w) (pos w -ℤ pos 0x100000000)
 
 unfoldable pub float : List ℕ → ℕ → Float
 float b at = of_bits binary64 (little_endian b at 8)
@@ -45,7 +46,16 @@ pub record Header : Type 0 where
 
 abbrev pub header : List ℕ → Header
 header b =
-    record { total = word b 0; count = word b 4; a = word b 8; rotations = word b 12; lattice = word b 16; flags = word b 20; grid_type = word b 24; q0 = word b 28 }
+    record {
+      total = word b 0;
+      count = word b 4;
+      a = word b 8;
+      rotations = word b 12;
+      lattice = word b 16;
+      flags = word b 20;
+      grid_type = word b 24;
+      q0 = word b 28;
+    }
 
 -- a section of `size` bytes from place `at` on, in a file of n bytes
 abbrev pub section_fits : ℕ → ℕ → ℕ → Bool
@@ -82,7 +92,7 @@ accepted b =
 
 unfoldable pub job_of : List ℕ → Result Job Refusal
 unfolding job_fits accepted
-job_of b = pick (job_fits b) (Ok (accepted b)) (Err BadHeader)
+job_of b = cond (job_fits b) (Ok (accepted b)) (Err BadHeader)
 
 unfoldable pub rotations_of : List ℕ → List ℤ
 unfolding word signed_words
@@ -91,4 +101,4 @@ rotations_of b = let h = header b in signed_words b h.rotations (9 * h.count)
 -- as they stand in n places, -1 after them
 unfoldable pub rotations_written : List ℕ → ℕ → List ℤ
 unfolding job_fits rotations_of
-rotations_written b n = pick (job_fits b) (rotations_of b ++ replicate (n - 9 * (header b).count) (negsuc 0)) (replicate n (negsuc 0))
+rotations_written b n = cond (job_fits b) (rotations_of b ++ replicate (n - 9 * (header b).count) (negsuc 0)) (replicate n (negsuc 0))

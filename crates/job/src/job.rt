@@ -1,6 +1,7 @@
 // The job file: words, sections, and the job that they tell.
 ghost use Rattle.std.specs.Prelude.{◌≡◌, true, ◌+◌, ◌*◌, ◌^◌, ◌≤◌, ◌<◌, length};
-ghost use Rattle.job.specs.Job.{little_endian, word, signed, float, signed_words, floats, header, section_fits, numbers_fit, sections_fit, job_fits, job_of, rotations_written, accepted};
+ghost use Rattle.job.specs.Job.{little_endian, word, signed, float, signed_words, floats, header, section_fits};
+ghost use Rattle.job.specs.Job.{numbers_fit, sections_fit, job_fits, job_of, rotations_written, accepted};
 
 use common::Refusal;
 

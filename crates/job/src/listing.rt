@@ -4,7 +4,7 @@ ghost use Rattle.std.specs.Prelude.{◌≡◌, ◌/◌, length, Some};
 ghost use Rattle.grgrid.specs.Build.{rows};
 ghost use Rattle.decimal.specs.Decimal.{decimal, number};
 ghost use Rattle.job.specs.Listing.{spaced, line, triplet_line, listing, refusal};
-ghost use Rattle.job.specs.Writing.{printed, printed_answer, page, put, puts, finished};
+ghost use Rattle.job.specs.Writing.{printed, page, put, puts, finished};
 
 use common::Refusal;
 
@@ -80,8 +80,7 @@ fn put_triplets(list: &[i64], out: &mut [u8], n: usize) -> Option<usize>
 
 // Without room, 0 everywhere.
 fn finish(out: &mut [u8], p: Option<usize>) -> Option<usize>
-    ensures value { result ≡ p }
-    ensures out_after { out.new ≡ finished out.old p }
+    ensures { page out.new result ≡ finished out.old p }
 {
     if p.is_none() {
         out.fill(0);
@@ -113,8 +112,7 @@ pub fn print_listing(
     triplets: &[i64],
     out: &mut [u8],
 ) -> Option<usize>
-    ensures value { result ≡ printed_answer (listing d map.now classes triplets.now) (length out.old) }
-    ensures out_after { out.new ≡ printed (listing d map.now classes triplets.now) (length out.old) }
+    ensures { page out.new result ≡ printed (listing d map.now classes triplets.now) (length out.old) }
 {
     out.fill(0);
     let p = put_listing(d, map, classes, triplets, out, 0);
@@ -122,8 +120,7 @@ pub fn print_listing(
 }
 
 pub fn print_refusal(r: Refusal, out: &mut [u8]) -> Option<usize>
-    ensures value { result ≡ printed_answer (refusal r) (length out.old) }
-    ensures out_after { out.new ≡ printed (refusal r) (length out.old) }
+    ensures { page out.new result ≡ printed (refusal r) (length out.old) }
 {
     out.fill(0);
     let p = put_line(b"refused", &[r.answer()], out, 0);

@@ -15,9 +15,10 @@ use Rattle.class_sheet.proofs.ReadBack.{row-five, accepted-fits, read_back}
 use Rattle.finished_sheet.proofs.FinishedSheet.{finished-sheet}
 use Rattle.zone.specs.declared.Finished.{Finished}
 use Rattle.zone_steps.specs.Steps.{Rooms, Lists}
-use Rattle.zone.specs.Chain.{chain_tests, chain_finished, chain_lists}
+use Rattle.zone.specs.Chain.{chain_tests, chain_finished, finished_list}
 use Rattle.zone.proofs.ChainNumbers.{Told, chain-told}
-use Rattle.zone_list.specs.List.{chain_job, finished, job_lists}
+use Rattle.zone.proofs.Outcomes.{leaving}
+use Rattle.zone_list.specs.List.{chain_job, run_job}
 use Rattle.zone_list.proofs.Listed.{chain-answered, whole-job, lists-are}
 use Rattle.sheet_print.specs.SheetText.{sheet_of, job_sheet}
 use Rattle.sheet_print.specs.SheetView.{Sheeted}
@@ -28,7 +29,7 @@ module _ (b : List ℕ) (r : Rooms) (e : chain_tests (chain_job b) r ≡ Accepte
   F = chain_finished (chain_job b)
 
   abbrev L : Lists
-  L = chain_lists (chain_job b) r
+  L = (finished_list (chain_job b) r).lists
 
   abbrev classes : List ℤ
   classes = take (size (sides_of F.d)) L.classes
@@ -51,13 +52,13 @@ module _ (b : List ℕ) (r : Rooms) (e : chain_tests (chain_job b) r ≡ Accepte
   sheet-tells = read_back (row classes triplets) (row-five classes triplets) (class_count classes) (accepted-fits classes triplets (place_count (nat_abs F.num_ir)) fits)
 
 -- ---- as the job leaves them
-pub sheeted : (b : List ℕ) (r : Rooms) {f : Finished} → Ok f ≡ finished b r → {l : Lists} → l ≡ job_lists b r → length l.classes ≡ r.classes → length l.triplets ≡ r.triplets → Sheeted f l.classes l.triplets
-sheeted b r ef el ec et =
-    let a = chain-answered b r ef in
+pub sheeted : (b : List ℕ) (r : Rooms) {f : Finished} {x y z : List ℤ} {l : Lists} → leaving (Ok f) x y z l ≡ run_job b r → length l.classes ≡ r.classes → length l.triplets ≡ r.triplets → Sheeted f l.classes l.triplets
+sheeted b r o ec et =
+    let a = chain-answered b r o in
     let p = a.0 in
-    let q = lists-are b r ef el in
+    let q = lists-are b r o in
     record {
-      whole = whole-job b r ef ec et;
+      whole = whole-job b r o ec et;
       counted = (λ i. class_count (take (size (sides_of (p i).d)) (q i).classes)) ∙ counted b r a.1 ∙ sym (ap (λ f. nat_abs f.num_ir) p);
       fits = (λ i. (class_sheet (take (size (sides_of (p i).d)) (q i).classes) (take (nat_abs (p i).num_ir * 3) (q i).triplets) (place_count (nat_abs (p i).num_ir))).answer) ∙ fits b r a.1;
     }

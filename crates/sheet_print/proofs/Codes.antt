@@ -1,5 +1,5 @@
 -- The codes of a sheet are bytes.
-use mathlib.Core.Bool.{Bool, true, false}
+use mathlib.Core.Bool.{Bool, true, false, cond}
 use mathlib.Core.List.{List, [], ◌∷◌, ◌++◌}
 use Prim.Native.Nat.{ℕ, zero, suc, ◌+◌, ◌*◌, ◌-◌, ◌/◌, ◌%◌, ◌<◌}
 use native.Mathlib.Omega.{arith}
@@ -8,7 +8,6 @@ use lib.IntN.{ℤ, pos, negsuc, nat_abs}
 use lib.ListN.{length, take, replicate}
 use Rattle.std.specs.List.{All}
 use Rattle.std.proofs.lemmas.List.Elements.{All-nil, All-cons, All-replicate, All-append, All-same}
-use Rattle.integer.specs.Checked.{pick}
 use Rattle.common.specs.Array.{sides_of}
 use Rattle.decimal.specs.Decimal.{decimal, number}
 use Rattle.decimal.proofs.Decimal.{one-digit, last-digit, by_tens}
@@ -48,7 +47,7 @@ module _ (row : ℕ → List ℤ) where
   unfolding lined
   row-bytes r = All-append Byte (page_line r) (line row_widths (row r)) (page (eqb (r % 40) 0)) (line-bytes row_widths (row r))
     where
-      page : (b : Bool) → Bytes (pick b (line page_widths (page_number r)) [])
+      page : (b : Bool) → Bytes (cond b (line page_widths (page_number r)) [])
       page true = line-bytes page_widths (page_number r)
       page false = All-nil Byte
 

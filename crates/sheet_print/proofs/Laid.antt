@@ -1,4 +1,4 @@
--- What the layout answers and leaves.
+-- The outcome of the layout.
 use mathlib.Core.Path.{◌≡◌, sym, ◌∙◌, ap, ap₂}
 use mathlib.Core.Logic.{◌⊎◌, inl, inr}
 use mathlib.Core.Bool.{true, false}
@@ -21,10 +21,12 @@ use Rattle.class_sheet.specs.Sheet.{text, place_count}
 use Rattle.class_sheet.specs.ClassSheet.{row, class_count, outcome_of, class_sheet}
 use Rattle.class_sheet.proofs.ReadBack.{text-length, row-five, accepted-fits}
 use Rattle.zone.specs.declared.Finished.{Finished}
-use Rattle.zone_steps.specs.Steps.{Rooms, Lists}
-use Rattle.zone_list.specs.List.{finished, job_tests, job_lists}
-use Rattle.zone_list.proofs.Listed.{stopped, onward, passed-all, failed-one, chain-answered, lists-are}
-use Rattle.sheet_print.specs.SheetText.{sheet_of, both_rooms, job_sheet, sheet_tests, sheet_places}
+use Rattle.zone_steps.specs.Steps.{Rooms, Lists, Outcome}
+use Rattle.zone.specs.Chain.{wiped}
+use Rattle.zone.proofs.Outcomes.{leaving}
+use Rattle.zone_list.specs.List.{run_job, after_job}
+use Rattle.zone_list.proofs.Listed.{chain-answered, lists-are, stopped, stepped, step-wiped}
+use Rattle.sheet_print.specs.SheetText.{sheet_of, both_rooms, sheet_for, LaidSheet, job_sheet, lay_job}
 use Rattle.sheet_print.specs.SheetView.{Sheeted}
 
 -- ---- a text of k codes, in l places and in n
@@ -65,45 +67,32 @@ module _ {f : Finished} {classes triplets : List ℤ} (s : Sheeted f classes tri
 
 -- ---- a job
 module _ (b : List ℕ) (r : Rooms) (m n : ℕ) where
-  module _ {f : Finished} (ef : Ok f ≡ finished b r) {l : Lists} (el : l ≡ job_lists b r) where
-    abbrev t : List ℕ
-    t = sheet_of f l.classes l.triplets
+  abbrev with-sheet : Outcome ℕ → List ℤ → LaidSheet
+  with-sheet o s = record { answer = o.answer; addresses = o.addresses; map = o.map; grg = o.grg; lists = o.lists; sheet = s }
 
-    sheet-is : t ≡ job_sheet b r
+  laid : {o : Outcome ℕ} → o ≡ after_job (both_rooms (job_sheet b r) m n) (length (job_sheet b r)) r (run_job b r) → {s : List ℤ} → s ≡ sheet_for (without_value o.answer) (job_sheet b r) m → with-sheet o s ≡ lay_job b r m n
+  unfolding lay_job
+  laid o es = λ i. with-sheet (o i) ((es ∙ ap (λ o. sheet_for (without_value o.answer) (job_sheet b r) m) o) i)
+
+  pub laid-refused : {c : Refusal} {x y z : List ℤ} {l : Lists} → leaving (Err c) x y z l ≡ run_job b r → {a : Result ℕ Refusal} → a ≡ Err c → {s : List ℤ} → s ≡ replicate m (negsuc 0)
+      → with-sheet (leaving a x y z l) s ≡ lay_job b r m n
+  laid-refused o e es = laid (stopped b r (both_rooms (job_sheet b r) m n) (length (job_sheet b r)) o e) (es ∙ ap (λ a. sheet_for (without_value a) (job_sheet b r) m) (sym e))
+
+  module _ {f : Finished} {x y z : List ℤ} {l : Lists} (o : leaving (Ok f) x y z l ≡ run_job b r) {a : Result ℕ Refusal}
+      (e : a ≡ giving (both_rooms (sheet_of f l.classes l.triplets) m n) (length (sheet_of f l.classes l.triplets))) {s : List ℤ} (es : s ≡ sheet_for (without_value a) (sheet_of f l.classes l.triplets) m) where
+    sheet-is : sheet_of f l.classes l.triplets ≡ job_sheet b r
     unfolding job_sheet
-    sheet-is = λ i. sheet_of ((chain-answered b r ef).0 i) (lists-are b r ef el i).classes (lists-are b r ef el i).triplets
+    sheet-is = λ i. sheet_of ((chain-answered b r o).0 i) (lists-are b r o i).classes (lists-are b r o i).triplets
 
-    tests-are : both_rooms t m n ≡ sheet_tests b r m n
-    unfolding sheet_tests
-    tests-are = ap (λ t. both_rooms t m n) sheet-is ∙ onward b r ef (both_rooms (job_sheet b r) m n)
+    answer-is : a ≡ giving (both_rooms (job_sheet b r) m n) (length (job_sheet b r))
+    answer-is = e ∙ ap (λ t. giving (both_rooms t m n) (length t)) sheet-is
 
-    pub laid-answer : {a : Result ℕ Refusal} → a ≡ giving (both_rooms t m n) (length t) → a ≡ giving (sheet_tests b r m n) (length (job_sheet b r))
-    laid-answer e = e ∙ ap₂ (λ s t. giving s (length t)) tests-are sheet-is
+    places-are : s ≡ sheet_for (without_value a) (job_sheet b r) m
+    places-are = es ∙ ap (λ t. sheet_for (without_value a) t m) sheet-is
 
-    pub laid-places : {x : List ℤ} → x ≡ output_of (both_rooms t m n) m (padded (map pos t) m) → x ≡ sheet_places b r m n
-    unfolding sheet_places
-    laid-places e = e ∙ ap₂ (λ s t. output_of s m (padded (map pos t) m)) tests-are sheet-is
+    pub laid-told : is_err a ≡ false → with-sheet (leaving a x y z l) s ≡ lay_job b r m n
+    laid-told h = laid (stepped b r (both_rooms (job_sheet b r) m n) (length (job_sheet b r)) o answer-is h) places-are
 
-  module _ {x : Refusal} (e : finished b r ≡ Err x) where
-    pub refused-tests : job_tests b r ≡ sheet_tests b r m n
-    unfolding sheet_tests
-    refused-tests = stopped b r e (both_rooms (job_sheet b r) m n)
-
-    refusal : Err x ≡ sheet_tests b r m n
-    refusal = sym (ap without_value e) ∙ refused-tests
-
-    pub refused-answer : Err x ≡ giving (sheet_tests b r m n) (length (job_sheet b r))
-    refused-answer = ap (λ t. giving t (length (job_sheet b r))) refusal
-
-    pub refused-places : {l : List ℤ} → l ≡ replicate m (negsuc 0) → l ≡ sheet_places b r m n
-    unfolding sheet_places
-    refused-places el = el ∙ ap (λ t. output_of t m (padded (map pos (job_sheet b r)) m)) refusal
-
-  module _ {a : Result ℕ Refusal} (ea : a ≡ giving (sheet_tests b r m n) (length (job_sheet b r))) where
-    pub laid-tests : {f : Finished} → Ok f ≡ finished b r → is_err a ≡ false → job_tests b r ≡ sheet_tests b r m n
-    unfolding sheet_tests
-    laid-tests = passed-all b r (both_rooms (job_sheet b r) m n) (length (job_sheet b r)) ea
-
-    pub no-room : is_err a ≡ true → (x : Refusal) × (Err x ≡ sheet_tests b r m n)
-    unfolding sheet_tests
-    no-room = failed-one b r (both_rooms (job_sheet b r) m n) (length (job_sheet b r)) ea
+    pub laid-wiped : is_err a ≡ true → {x' y' z' : List ℤ} {l' : Lists} → x' ≡ replicate r.addresses (negsuc 0) → y' ≡ replicate r.map (negsuc 0) → z' ≡ replicate r.grg (negsuc 0) → l' ≡ wiped r
+        → with-sheet (leaving a x' y' z' l') s ≡ lay_job b r m n
+    laid-wiped h ex ey ez el = laid (step-wiped b r (both_rooms (job_sheet b r) m n) (length (job_sheet b r)) o answer-is h ex ey ez el) places-are

@@ -1,15 +1,13 @@
 // The program's one call, from the bytes that it read to the class sheet that it prints.
 #![tactic(auto)]
 
-ghost use Rattle.std.specs.Prelude.{◌≡◌, ◌≤◌, ◌<◌, map, pos, nat_abs, length};
+ghost use Rattle.std.specs.Prelude.{◌≡◌, ◌≤◌, ◌<◌, map, nat_abs, length};
 ghost use Rattle.std.specs.List.{All};
-ghost use Rattle.common.specs.Tested.{output_of, giving};
-ghost use Rattle.bzgrid.specs.BzGridAddresses.{padded};
+ghost use Rattle.common.specs.Tested.{giving, without_value};
 ghost use Rattle.class_sheet.specs.Sheet.{place_count};
-ghost use Rattle.job.specs.Writing.{printed};
-ghost use Rattle.zone_steps.specs.StepsView.{rooms, lists};
-ghost use Rattle.zone_list.specs.List.{addresses_left, map_left, grg_left, lists_left};
-ghost use Rattle.sheet_print.specs.SheetText.{sheet_of, both_rooms, PrintedSheet, job_sheet, sheet_tests, sheet_places, printed_sheet};
+ghost use Rattle.zone_steps.specs.StepsView.{rooms_of, lists};
+ghost use Rattle.zone_print.specs.JobText.{printed_text};
+ghost use Rattle.sheet_print.specs.SheetText.{sheet_of, both_rooms, sheet_for, LaidSheet, lay_job, PrintedSheet, printed_sheet};
 ghost use Rattle.sheet_print.specs.SheetView.{Sheeted};
 
 use common::Refusal;
@@ -33,8 +31,7 @@ fn lay_sheet(
 ) -> Result<usize, Refusal>
     requires { Sheeted f classes.now triplets.now }
     ensures value { let t = sheet_of f classes.now triplets.now in result ≡ giving (both_rooms t (length sheet.old) room) (length t) }
-    ensures sheet_after { let t = sheet_of f classes.now triplets.now in
-        sheet.new ≡ output_of (both_rooms t (length sheet.old) room) (length sheet.old) (padded (map pos t) (length sheet.old)) }
+    ensures sheet_after { sheet.new ≡ sheet_for (without_value result) (sheet_of f classes.now triplets.now) (length sheet.old) }
 {
     sheet.fill(-1);
     let k = f.num_ir as usize;
@@ -61,12 +58,17 @@ fn lay_job(
     sheet: &mut [i64],
     room: usize,
 ) -> Result<usize, Refusal>
-    ensures value { let r = rooms (length addresses.old) (length map.old) (length grg.old) (length classes.old) (length points.old) (length triplets.old) (length left.old) (length lengths.old) in result ≡ giving (sheet_tests job.now r (length sheet.old) room) (length (job_sheet job.now r)) }
-    ensures addresses_after { let r = rooms (length addresses.old) (length map.old) (length grg.old) (length classes.old) (length points.old) (length triplets.old) (length left.old) (length lengths.old) in addresses.new ≡ addresses_left job.now r (sheet_tests job.now r (length sheet.old) room) }
-    ensures map_after { let r = rooms (length addresses.old) (length map.old) (length grg.old) (length classes.old) (length points.old) (length triplets.old) (length left.old) (length lengths.old) in map.new ≡ map_left job.now r (sheet_tests job.now r (length sheet.old) room) }
-    ensures grg_after { let r = rooms (length addresses.old) (length map.old) (length grg.old) (length classes.old) (length points.old) (length triplets.old) (length left.old) (length lengths.old) in grg.new ≡ grg_left job.now r (sheet_tests job.now r (length sheet.old) room) }
-    ensures lengths_after { let r = rooms (length addresses.old) (length map.old) (length grg.old) (length classes.old) (length points.old) (length triplets.old) (length left.old) (length lengths.old) in lists classes.new points.new triplets.new left.new lengths.new ≡ lists_left job.now r (sheet_tests job.now r (length sheet.old) room) }
-    ensures sheet_after { sheet.new ≡ sheet_places job.now (rooms (length addresses.old) (length map.old) (length grg.old) (length classes.old) (length points.old) (length triplets.old) (length left.old) (length lengths.old)) (length sheet.old) room }
+    ensures { let r = rooms_of addresses.old map.old grg.old classes.old points.old triplets.old left.old lengths.old in
+        let l = lists classes.new points.new triplets.new left.new lengths.new in
+        let o : LaidSheet = record {
+          answer = result;
+          addresses = addresses.new;
+          map = map.new;
+          grg = grg.new;
+          lists = l;
+          sheet = sheet.new;
+        } in
+        o ≡ lay_job job.now r (length sheet.old) room }
 {
     sheet.fill(-1);
     let f = zone_list::run_job(
@@ -93,7 +95,7 @@ fn lay_job(
 fn put_codes(codes: &[i64], text: &mut [u8])
     requires small { All (λ z. nat_abs z < 256) codes.now }
     requires room { length codes.now ≤ length text.old }
-    ensures { text.new ≡ printed (map nat_abs codes.now) (length text.old) }
+    ensures { text.new ≡ (printed_text (map nat_abs codes.now) (length text.old)).text }
 {
     text.fill(0);
     for (i, c) in codes.iter().enumerate() {
@@ -116,7 +118,8 @@ pub fn print_sheet(
     sheet: &mut [i64],
     text: &mut [u8],
 ) -> usize
-    ensures o_after { let l = lists classes.new points.new triplets.new left.new lengths.new in
+    ensures o_after { let r = rooms_of addresses.old map.old grg.old classes.old points.old triplets.old left.old lengths.old in
+        let l = lists classes.new points.new triplets.new left.new lengths.new in
         let o : PrintedSheet = record {
           bytes = result;
           text = text.new;
@@ -126,7 +129,7 @@ pub fn print_sheet(
           lists = l;
           sheet = sheet.new;
         } in
-        o ≡ printed_sheet job.now (rooms (length addresses.old) (length map.old) (length grg.old) (length classes.old) (length points.old) (length triplets.old) (length left.old) (length lengths.old)) (length sheet.old) (length text.old) }
+        o ≡ printed_sheet job.now r (length sheet.old) (length text.old) }
     ensures upper_bound { result ≤ length text.new }
 {
     match lay_job(

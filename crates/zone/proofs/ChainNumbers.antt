@@ -18,10 +18,10 @@ use Rattle.bztable.specs.Reading.{triple_at}
 use Rattle.grgrid.proofs.Own.{length-own, own-points}
 use Rattle.snf3x3.specs.Snf3x3.{Answer, refused, diagonalised, snf3x3}
 use Rattle.snf3x3.specs.Written.{written}
-use Rattle.zone_steps.specs.Steps.{Rooms, Grid, Lists, transformed, rotation_tests, count, grid_tests, grid_lists, lists_of}
+use Rattle.zone_steps.specs.Steps.{Rooms, Grid, Lists, transformed, rotation_tests, count, listed, lists_of}
 use Rattle.zone_steps.specs.StepsView.{grid}
 use Rattle.demand3.specs.FinishedList.{Calls, points, lowest_points}
-use Rattle.zone.specs.Chain.{Job, rooms_agree, sides_in, change_in, diagonal, grid_of, lists_for, chain_finished, chain_tests, chain_lists}
+use Rattle.zone.specs.Chain.{Job, rooms_agree, sides_in, change_in, diagonal, outcome_of, grid_of, chain_finished, chain_tests, finished_list}
 use Rattle.demand3.proofs.FinishedClasses.{every-number, number-low}
 use Rattle.demand3.proofs.FinishedTriplets.{finished-triplets, best-inside, images-room}
 use Rattle.zone.proofs.ChainFinished.{calls, calls-left}
@@ -101,14 +101,14 @@ module _ (j : Job) (r : Rooms) where
   abbrev tests_by : Answer → Tested
   tests_by w =
       after (without_value (written w))
-      (after (rotation_tests j.rotations j.time_reversal (sides_in (written w)) (change_in (written w))) (grid_tests (grid_by w) j.shift r))
+      (after (rotation_tests j.rotations j.time_reversal (sides_in (written w)) (change_in (written w))) (listed (grid_by w) j.shift r).answer)
 
-  told-by : (w : Answer) → snf3x3 (matrix_of j.matrix) ≡ w → tests_by w ≡ Accepted → Told (sides_in (written w)) (count (grid_by w)) (grid_lists (grid_by w) j.shift r) r.grg
-  unfolding grid_lists lists_of
+  told-by : (w : Answer) → snf3x3 (matrix_of j.matrix) ≡ w → tests_by w ≡ Accepted → Told (sides_in (written w)) (count (grid_by w)) (listed (grid_by w) j.shift r).lists r.grg
+  unfolding listed lists_of
   told-by (refused c) f e = absurd (not-accepted e)
   told-by (diagonalised d p q n) f e =
       let w = diagonalised d p q n in
-      let b = both-accepted (rotation_tests j.rotations j.time_reversal (items d) (rows q)) (grid_tests (grid_by w) j.shift r) e in
+      let b = both-accepted (rotation_tests j.rotations j.time_reversal (items d) (rows q)) (listed (grid_by w) j.shift r).answer e in
       let c = calls j r d p q n f b.0 b.1 in
       let l = calls-left j r d p q n f b.0 b.1 in
       let sides : points c ≡ size (sides_of (items d)) = ap (λ d. size (sides_of (items d))) l.sides-are in
@@ -124,11 +124,11 @@ module _ (j : Job) (r : Rooms) where
       }
 
   module _ (e : chain_tests j r ≡ Accepted) where
-    pub chain-told : Told (chain_finished j).d (nat_abs (chain_finished j).num_ir) (chain_lists j r) r.grg
-    unfolding chain_finished chain_lists chain_tests diagonal grid_of
+    pub chain-told : Told (chain_finished j).d (nat_abs (chain_finished j).num_ir) (finished_list j r).lists r.grg
+    unfolding finished_list diagonal
     chain-told =
-        subst (λ t. Told (chain_finished j).d (nat_abs (chain_finished j).num_ir) (lists_for t r (grid_lists (grid_of j) j.shift r)) r.grg) (sym e)
+        subst (λ t. Told (chain_finished j).d (nat_abs (chain_finished j).num_ir) (outcome_of t (chain_finished j) r (listed (grid_of j) j.shift r)).lists r.grg) (sym e)
         (told-by (snf3x3 (matrix_of j.matrix)) refl (passed (rooms_agree r) WrongLength _ e).1)
 
-    pub chain-numbers : Numbers (chain_finished j).d (nat_abs (chain_finished j).num_ir) (chain_lists j r) r.grg
+    pub chain-numbers : Numbers (chain_finished j).d (nat_abs (chain_finished j).num_ir) (finished_list j r).lists r.grg
     chain-numbers = numbers-of chain-told

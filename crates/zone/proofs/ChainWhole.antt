@@ -1,5 +1,5 @@
--- What the chain answers and leaves, from what its steps do.
-use mathlib.Core.Path.{◌≡◌, refl, sym, ◌∙◌, ap, ap₂, subst}
+-- The outcome of the chain, from those of its steps.
+use mathlib.Core.Path.{◌≡◌, refl, sym, ◌∙◌, ap, ap₂}
 use mathlib.Core.Bool.{true, false, ◌&&◌}
 use mathlib.Core.List.{List, ◌++◌}
 use Prim.Native.Nat.{ℕ, zero, suc, ◌+◌, ◌*◌, ◌-◌, ◌≤◌}
@@ -7,14 +7,13 @@ use native.Mathlib.Nat.{le_of_lt, le_refl}
 use native.Mathlib.Omega.{arith}
 use lib.Dec.{eqb}
 use lib.IntN.{ℤ, pos, negsuc}
-use lib.Ieee.{Float}
 use lib.ListN.{length, get_or, replicate, length-append, length-replicate, get_or-replicate, get_or-append}
 use lib.Seq.{get_or-append-add}
 use borrow.Author.Tests.{eqb-true}
-use Rattle.std.specs.Prelude.{Result, Ok, Err, is_err}
+use Rattle.std.specs.Prelude.{⊤, Result, Ok, Err, is_err}
 use Rattle.integer.proofs.Test.{holds, and_l, and_r, is_true}
 use Rattle.common.specs.Array.{matrix_at, matrix_of, rows}
-use Rattle.common.specs.Tested.{require, output_of, after, giving, Tested, Accepted, without_value}
+use Rattle.common.specs.Tested.{require, after, Tested, Accepted, without_value}
 use Rattle.common.specs.declared.Refusal.{Refusal}
 use Rattle.common.specs.declared.Refusal.TheVariants.{WrongLength}
 use Rattle.grgrid.specs.Own.{is_place, own_places}
@@ -22,10 +21,10 @@ use Rattle.snf3x3.specs.declared.Snf.{Snf}
 use Rattle.snf3x3.specs.Snf3x3.{snf3x3}
 use Rattle.snf3x3.specs.Written.{written}
 use Rattle.zone.specs.declared.Finished.{Finished}
-use Rattle.zone_steps.specs.Steps.{Rooms, Grid, Lists, transformed, rotation_tests, class_map_of, count, lists_of, grid_tests, grid_lists, image_addresses, image_map, image_grg}
-use Rattle.zone.specs.Chain.{Job, rooms_agree, sides_in, change_in, diagonal, diagonal_tests, sides, change, wiped, lists_for, grid_of, chain_finished, chain_tests, chain_answer, chain_addresses, chain_map, chain_grg, chain_lists}
-use Rattle.zone_steps.specs.StepsView.{grid, lists, Agreed, Listed}
-use Rattle.zone.proofs.Outcomes.{no-refusal, a-refusal, tests-told}
+use Rattle.zone_steps.specs.Steps.{Rooms, Grid, Lists, Outcome, transformed, rotation_tests, class_map_of, count, lists_of, listed}
+use Rattle.zone.specs.Chain.{Job, rooms_agree, sides_in, change_in, diagonal, diagonal_tests, sides, change, wiped, outcome_of, grid_of, chain_finished, chain_tests, finished_list}
+use Rattle.zone_steps.specs.StepsView.{grid, Agreed}
+use Rattle.zone.proofs.Outcomes.{no-refusal, leaving, answer-by, tests-told, left-wiped}
 
 -- ---- -1 is no place
 abbrev counted-on : ℕ → ℤ → ℕ → ℕ
@@ -72,14 +71,14 @@ rooms-agreed r e =
 
 module _ (j : Job) (r : Rooms) where
   abbrev gridded : Tested
-  gridded = after (rotation_tests j.rotations j.time_reversal (sides j.matrix) (change j.matrix)) (grid_tests (grid_of j) j.shift r)
-
-  answered : {t : Tested} → t ≡ chain_tests j r → giving t (chain_finished j) ≡ chain_answer j r
-  unfolding chain_answer
-  answered e = ap (λ t. giving t (chain_finished j)) e
+  gridded = after (rotation_tests j.rotations j.time_reversal (sides j.matrix) (change j.matrix)) (listed (grid_of j) j.shift r).answer
 
   -- ---- the refusals
-  pub rooms-refused : rooms_agree r ≡ false → Err WrongLength ≡ chain_answer j r
+  answered : {x : Refusal} → Err x ≡ chain_tests j r → Err x ≡ (finished_list j r).answer
+  unfolding finished_list
+  answered e = ap (λ t. (outcome_of t (chain_finished j) r (listed (grid_of j) j.shift r)).answer) e
+
+  pub rooms-refused : rooms_agree r ≡ false → Err WrongLength ≡ (finished_list j r).answer
   unfolding chain_tests
   rooms-refused h = answered (sym (ap (λ b. require b WrongLength (after (diagonal_tests j.matrix) gridded)) h))
 
@@ -94,7 +93,7 @@ module _ (j : Job) (r : Rooms) where
         sym (ap (λ t. after t gridded) (sym (ap without_value diagonal-is) ∙ e))
         ∙ sym (ap (λ b. require b WrongLength (after (diagonal_tests j.matrix) gridded)) h)
 
-    pub diagonal-refused : {x : Refusal} → s ≡ Err x → Err x ≡ chain_answer j r
+    pub diagonal-refused : {x : Refusal} → s ≡ Err x → Err x ≡ (finished_list j r).answer
     diagonal-refused e = answered (tests-are (ap without_value e))
 
     -- ---- the grid, by what stands for its change of basis, type and q0
@@ -115,79 +114,35 @@ module _ (j : Job) (r : Rooms) where
       grid-path : given w.d_diag q u p ≡ grid_of j
       grid-path = (λ i. given (side-path i) (change-path i) (eu i) (ep i)) ∙ meant
 
-      abbrev stepped : Tested
-      stepped = after (rotation_tests j.rotations j.time_reversal w.d_diag q) (grid_tests (given w.d_diag q u p) j.shift r)
+      module _ {v : Tested} (ev : v ≡ after (rotation_tests j.rotations j.time_reversal w.d_diag q) (listed (given w.d_diag q u p) j.shift r).answer) where
+        tested : v ≡ chain_tests j r
+        tested = ev ∙ (λ i. after (rotation_tests j.rotations j.time_reversal (side-path i) (change-path i)) (listed (grid-path i) j.shift r).answer) ∙ tests-are (ap without_value f)
 
-      stepped-is : stepped ≡ chain_tests j r
-      stepped-is = (λ i. after (rotation_tests j.rotations j.time_reversal (side-path i) (change-path i)) (grid_tests (grid-path i) j.shift r)) ∙ tests-are (ap without_value f)
+        pub grid-refused : {x : Refusal} → v ≡ Err x → Err x ≡ (finished_list j r).answer
+        grid-refused n = answered (sym n ∙ tested)
 
-      pub grid-refused : {v : Tested} → v ≡ stepped → {x : Refusal} → v ≡ Err x → Err x ≡ chain_answer j r
-      grid-refused e n = answered (sym n ∙ e ∙ stepped-is)
+        module _ (n : v ≡ Accepted) {a b c : List ℤ} {l : Lists} (o : leaving Accepted a b c l ≡ listed (given w.d_diag q u p) j.shift r) where
+          left : leaving Accepted a b c l ≡ listed (grid_of j) j.shift r
+          left = o ∙ ap (λ g. listed g j.shift r) grid-path
 
-      module _ {v : Tested} (ev : v ≡ stepped) (n : v ≡ Accepted) {a b c : List ℤ} {classes points triplets left : List ℤ} {lengths : List Float} (l : Listed (given w.d_diag q u p) j.shift r a b c (lists classes points triplets left lengths)) where
-        pub chain-listed : Listed (grid_of j) j.shift r a b c (lists classes points triplets left lengths)
-        chain-listed = subst (λ g. Listed g j.shift r a b c (lists classes points triplets left lengths)) grid-path l
+          counted : own_places l.classes (length l.classes) ≡ count (grid_of j)
+          unfolding listed lists_of
+          counted = ap (λ o. own_places o.lists.classes (length o.lists.classes)) left ∙ own-padded (class_map_of (grid_of j)) (r.classes - length (class_map_of (grid_of j)))
 
-        classes-are : classes ≡ (lists_of (grid_of j) (image_addresses (grid_of j) j.shift r) (image_map (grid_of j) j.shift r) r.classes).classes
-        unfolding grid_lists
-        classes-are = ap (λ l. l.classes) chain-listed.lists-are
+          pub chain-given : (k : ℤ) → k ≡ pos (own_places l.classes (length l.classes)) → leaving (Ok (record { d = w.d_diag; num_ir = k })) a b c l ≡ finished_list j r
+          unfolding chain_finished finished_list
+          chain-given k e = λ i. outcome_of ((sym n ∙ tested) i) (record { d = side-path i; num_ir = (e ∙ ap pos counted) i }) r (left i)
 
-        counted : own_places classes (length classes) ≡ count (grid_of j)
-        unfolding lists_of
-        counted = ap (λ l. own_places l (length l)) classes-are ∙ own-padded (class_map_of (grid_of j)) (r.classes - length (class_map_of (grid_of j)))
-
-        pub chain-given : (k : ℤ) → k ≡ pos (own_places classes (length classes)) → Ok (record { d = w.d_diag; num_ir = k }) ≡ chain_answer j r
-        unfolding chain_finished
-        chain-given k e =
-            let m = e ∙ ap pos counted in
-            let f : ◌≡◌ {A = Finished} (record { d = w.d_diag; num_ir = k }) (chain_finished j) = (λ i. record { d = side-path i; num_ir = m i }) in
-            ap Ok f ∙ answered (sym n ∙ ev ∙ stepped-is)
-
-  -- ---- the outputs
-  pub tested-is : without_value (chain_answer j r) ≡ chain_tests j r
-  unfolding chain_answer
-  tested-is = tests-told (chain_tests j r) (chain_finished j)
-
-  pub record Left (a b c : List ℤ) (l : Lists) : Type 0 where
-    pub addresses-are : a ≡ chain_addresses j r
-    pub map_is : b ≡ chain_map j r
-    pub grg-is : c ≡ chain_grg j r
-    pub lists-are : l ≡ chain_lists j r
-
-  module _ {f : Result Finished Refusal} (e : f ≡ chain_answer j r) where
-    pub tests : without_value f ≡ chain_tests j r
-    tests = ap without_value e ∙ tested-is
+  -- ---- by the answer
+  module _ {f : Result Finished Refusal} (e : f ≡ (finished_list j r).answer) where
+    abbrev tables : Outcome ⊤
+    tables = listed (grid_of j) j.shift r
 
     pub passed-tests : is_err f ≡ false → chain_tests j r ≡ Accepted
-    passed-tests h = sym tests ∙ no-refusal f h
+    unfolding finished_list
+    passed-tests h = sym (ap without_value e ∙ tests-told (chain_finished j) r tables (chain_tests j r)) ∙ no-refusal f h
 
-    pub left-accepted : is_err f ≡ false → {a b c : List ℤ} {l : Lists} → Listed (grid_of j) j.shift r a b c l → Left a b c l
-    unfolding chain_addresses chain_map chain_grg chain_lists
-    left-accepted h k =
-        let t = sym (passed-tests h) in
-        record {
-          addresses-are = k.addresses-are ∙ ap (λ t. output_of t r.addresses (image_addresses (grid_of j) j.shift r)) t;
-          map_is = k.map_is ∙ ap (λ t. output_of t r.map (image_map (grid_of j) j.shift r)) t;
-          grg-is = k.grg-is ∙ ap (λ t. output_of t r.grg (image_grg (grid_of j) j.shift r)) t;
-          lists-are = k.lists-are ∙ ap (λ t. lists_for t r (grid_lists (grid_of j) j.shift r)) t;
-        }
-
-    module _ (h : is_err f ≡ true) where
-      refusal : (x : Refusal) × (Err x ≡ chain_tests j r)
-      refusal = let x = a-refusal f h in (x.0, sym x.1 ∙ tests)
-
-      pub addresses-wiped : {l : List ℤ} → l ≡ replicate r.addresses (negsuc 0) → l ≡ chain_addresses j r
-      unfolding chain_addresses
-      addresses-wiped e = e ∙ ap (λ t. output_of t r.addresses (image_addresses (grid_of j) j.shift r)) refusal.1
-
-      pub map-wiped : {l : List ℤ} → l ≡ replicate r.map (negsuc 0) → l ≡ chain_map j r
-      unfolding chain_map
-      map-wiped e = e ∙ ap (λ t. output_of t r.map (image_map (grid_of j) j.shift r)) refusal.1
-
-      pub grg-wiped : {l : List ℤ} → l ≡ replicate r.grg (negsuc 0) → l ≡ chain_grg j r
-      unfolding chain_grg
-      grg-wiped e = e ∙ ap (λ t. output_of t r.grg (image_grg (grid_of j) j.shift r)) refusal.1
-
-      pub lists-wiped : {l : Lists} → l ≡ wiped r → l ≡ chain_lists j r
-      unfolding chain_lists
-      lists-wiped e = e ∙ ap (λ t. lists_for t r (grid_lists (grid_of j) j.shift r)) refusal.1
+    pub chain-wiped : is_err f ≡ true → {x y z : List ℤ} {l : Lists} → x ≡ replicate r.addresses (negsuc 0) → y ≡ replicate r.map (negsuc 0) → z ≡ replicate r.grg (negsuc 0) → l ≡ wiped r
+        → leaving f x y z l ≡ finished_list j r
+    unfolding finished_list
+    chain-wiped = left-wiped (chain_finished j) r tables (chain_tests j r) (e ∙ answer-by (chain_finished j) r tables (chain_tests j r))

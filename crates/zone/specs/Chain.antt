@@ -4,13 +4,13 @@ use Rattle.std.specs.Prelude.{Bool, ◌&&◌, List, ◌*◌, eqb, ℤ, pos, negs
 use Rattle.std.specs.Float.{binary64}
 use Rattle.std.specs.Float.Ieee.{of_int}
 use Rattle.common.specs.Array.{matrix_of, matrix_at, rows}
-use Rattle.common.specs.Tested.{require, output_of, after, giving, told_of, without_value, Tested}
+use Rattle.common.specs.Tested.{require, after, told_of, without_value, Tested}
 use Rattle.common.specs.declared.Refusal.{Refusal}
 use Rattle.common.specs.declared.Refusal.TheVariants.{WrongLength}
 use Rattle.snf3x3.specs.declared.Snf.{Snf}
 use Rattle.snf3x3.specs.Snf3x3.{snf3x3}
 use Rattle.snf3x3.specs.Written.{written}
-use Rattle.zone_steps.specs.Steps.{Rooms, transformed, rotation_tests, Grid, Lists, class_map_of, count, image_addresses, image_map, image_grg, grid_tests, grid_lists}
+use Rattle.zone_steps.specs.Steps.{Rooms, transformed, rotation_tests, Grid, Lists, Outcome, classified, count, listed}
 use Rattle.zone.specs.declared.Finished.{Finished}
 
 -- what a job asks for: the matrix A, the rotations, nine numbers each, and the rest
@@ -59,9 +59,20 @@ wiped r = record {
   lengths = replicate r.lengths (of_int binary64 (negsuc 0));
 }
 
-abbrev pub lists_for : Tested → Rooms → Lists → Lists
-lists_for (Ok _) r l = l
-lists_for (Err _) r l = wiped r
+-- a refusal leaves that
+abbrev pub refused : {A : Type 0} → Rooms → Refusal → Outcome A
+refused r x = record {
+  answer = Err x;
+  addresses = replicate r.addresses (negsuc 0);
+  map = replicate r.map (negsuc 0);
+  grg = replicate r.grg (negsuc 0);
+  lists = wiped r;
+}
+
+-- where tests pass, v and what o leaves
+abbrev pub outcome_of : {A B : Type 0} → Tested → A → Rooms → Outcome B → Outcome A
+outcome_of (Ok _) v r o = record { answer = Ok v; addresses = o.addresses; map = o.map; grg = o.grg; lists = o.lists }
+outcome_of (Err x) v r o = refused r x
 
 unfoldable pub grid_of : Job → Grid
 unfolding diagonal transformed
@@ -78,34 +89,18 @@ grid_of j = record {
 
 -- what it answers where its tests pass
 unfoldable pub chain_finished : Job → Finished
-unfolding diagonal grid_of class_map_of
+unfolding diagonal grid_of classified
 chain_finished j = record { d = sides j.matrix; num_ir = pos (count (grid_of j)) }
 
 module _ (j : Job) (r : Rooms) where
   unfoldable pub chain_tests : Tested
-  unfolding diagonal rotation_tests grid_of grid_tests
+  unfolding diagonal rotation_tests grid_of listed
   chain_tests =
       require (rooms_agree r) WrongLength
       (after (diagonal_tests j.matrix)
       (after (rotation_tests j.rotations j.time_reversal (sides j.matrix) (change j.matrix))
-      (grid_tests (grid_of j) j.shift r)))
+      (listed (grid_of j) j.shift r).answer))
 
-  unfoldable pub chain_answer : Result Finished Refusal
-  unfolding chain_tests chain_finished
-  chain_answer = giving chain_tests (chain_finished j)
-
-  unfoldable pub chain_addresses : List ℤ
-  unfolding chain_tests grid_of image_addresses
-  chain_addresses = output_of chain_tests r.addresses (image_addresses (grid_of j) j.shift r)
-
-  unfoldable pub chain_map : List ℤ
-  unfolding chain_tests grid_of image_map
-  chain_map = output_of chain_tests r.map (image_map (grid_of j) j.shift r)
-
-  unfoldable pub chain_grg : List ℤ
-  unfolding chain_tests grid_of image_grg
-  chain_grg = output_of chain_tests r.grg (image_grg (grid_of j) j.shift r)
-
-  unfoldable pub chain_lists : Lists
-  unfolding chain_tests grid_of grid_lists
-  chain_lists = lists_for chain_tests r (grid_lists (grid_of j) j.shift r)
+  unfoldable pub finished_list : Outcome Finished
+  unfolding chain_tests chain_finished grid_of listed
+  finished_list = outcome_of chain_tests (chain_finished j) r (listed (grid_of j) j.shift r)

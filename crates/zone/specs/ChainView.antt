@@ -3,7 +3,8 @@ use Rattle.std.specs.Prelude.{Bool, List, ℤ, Float}
 use Rattle.zone.specs.Chain.{Job}
 
 -- a job from the parts that the code holds
-abbrev pub job : (matrix : List (List ℤ)) (rotations : List ℤ) (lattice : List (List Float)) (shift : List ℤ) (time_reversal swappable : Bool) (type q0 : ℤ) → Job
+abbrev pub job : (matrix : List (List ℤ)) (rotations : List ℤ) (lattice : List (List Float)) (shift : List ℤ) (time_reversal swappable : Bool)
+    (type q0 : ℤ) → Job
 job matrix rotations lattice shift time_reversal swappable type q0 = record {
   matrix = matrix;
   rotations = rotations;

@@ -2,9 +2,9 @@
 #![tactic(auto)]
 
 ghost use Rattle.std.specs.Prelude.{◌≡◌, ◌&&◌, ◌*◌, eqb, negsuc, length, replicate, OnOk};
-ghost use Rattle.zone.specs.Chain.{wiped, grid_of, chain_answer, chain_addresses, chain_map, chain_grg, chain_lists};
+ghost use Rattle.zone.specs.Chain.{wiped, finished_list};
 ghost use Rattle.zone.specs.ChainFinished.{FinishedChain};
-ghost use Rattle.zone_steps.specs.StepsView.{rooms, lists, Listed};
+ghost use Rattle.zone_steps.specs.StepsView.{rooms_of, lists};
 ghost use Rattle.zone.specs.ChainView.{job};
 
 use common::Refusal;
@@ -46,8 +46,13 @@ fn run_chain(
     left: &mut [i64],
     lengths: &mut [f64],
 ) -> Result<Finished, Refusal>
-    ensures value { result ≡ chain_answer (job a rotations.now lattice ps is_time_reversal swappable bz_grid_type q0) (rooms (length addresses.old) (length map.old) (length grg.old) (length classes.old) (length points.old) (length triplets.old) (length left.old) (length lengths.old)) }
-    ensures listed { OnOk result (Listed (grid_of (job a rotations.now lattice ps is_time_reversal swappable bz_grid_type q0)) ps (rooms (length addresses.old) (length map.old) (length grg.old) (length classes.old) (length points.old) (length triplets.old) (length left.old) (length lengths.old)) addresses.new map.new grg.new (lists classes.new points.new triplets.new left.new lengths.new)) }
+    ensures value { let r = rooms_of addresses.old map.old grg.old classes.old points.old triplets.old left.old lengths.old in
+        let j = job a rotations.now lattice ps is_time_reversal swappable bz_grid_type q0 in
+        result ≡ (finished_list j r).answer }
+    ensures tables { let r = rooms_of addresses.old map.old grg.old classes.old points.old triplets.old left.old lengths.old in
+        let j = job a rotations.now lattice ps is_time_reversal swappable bz_grid_type q0 in
+        let l = lists classes.new points.new triplets.new left.new lengths.new in
+        OnOk result (record { answer = result; addresses = addresses.new; map = map.new; grg = grg.new; lists = l } ≡ finished_list j r) }
 {
     if !rooms_agree(
         classes.len(),
@@ -102,7 +107,8 @@ pub fn wipe(
     ensures addresses_after { addresses.new ≡ replicate (length addresses.old) (negsuc 0) }
     ensures map_after { map.new ≡ replicate (length map.old) (negsuc 0) }
     ensures grg_after { grg.new ≡ replicate (length grg.old) (negsuc 0) }
-    ensures lengths_after { lists classes.new points.new triplets.new left.new lengths.new ≡ wiped (rooms (length addresses.old) (length map.old) (length grg.old) (length classes.old) (length points.old) (length triplets.old) (length left.old) (length lengths.old)) }
+    ensures lengths_after { let r = rooms_of addresses.old map.old grg.old classes.old points.old triplets.old left.old lengths.old in
+        lists classes.new points.new triplets.new left.new lengths.new ≡ wiped r }
 {
     bzgrid::wipe(addresses, map, grg);
     zone_steps::wipe_lists(classes, points, triplets, left, lengths);
@@ -128,12 +134,13 @@ pub fn finished_list(
     left: &mut [i64],
     lengths: &mut [f64],
 ) -> Result<Finished, Refusal>
-    ensures value { result ≡ chain_answer (job a rotations.now lattice ps is_time_reversal swappable bz_grid_type q0) (rooms (length addresses.old) (length map.old) (length grg.old) (length classes.old) (length points.old) (length triplets.old) (length left.old) (length lengths.old)) }
-    ensures addresses_after { addresses.new ≡ chain_addresses (job a rotations.now lattice ps is_time_reversal swappable bz_grid_type q0) (rooms (length addresses.old) (length map.old) (length grg.old) (length classes.old) (length points.old) (length triplets.old) (length left.old) (length lengths.old)) }
-    ensures map_after { map.new ≡ chain_map (job a rotations.now lattice ps is_time_reversal swappable bz_grid_type q0) (rooms (length addresses.old) (length map.old) (length grg.old) (length classes.old) (length points.old) (length triplets.old) (length left.old) (length lengths.old)) }
-    ensures grg_after { grg.new ≡ chain_grg (job a rotations.now lattice ps is_time_reversal swappable bz_grid_type q0) (rooms (length addresses.old) (length map.old) (length grg.old) (length classes.old) (length points.old) (length triplets.old) (length left.old) (length lengths.old)) }
-    ensures lengths_after { lists classes.new points.new triplets.new left.new lengths.new ≡ chain_lists (job a rotations.now lattice ps is_time_reversal swappable bz_grid_type q0) (rooms (length addresses.old) (length map.old) (length grg.old) (length classes.old) (length points.old) (length triplets.old) (length left.old) (length lengths.old)) }
-    ensures finished_chain { OnOk result (FinishedChain (job a rotations.now lattice ps is_time_reversal swappable bz_grid_type q0) addresses.new map.new (lists classes.new points.new triplets.new left.new lengths.new) (length classes.old)) }
+    ensures value { let r = rooms_of addresses.old map.old grg.old classes.old points.old triplets.old left.old lengths.old in
+        let j = job a rotations.now lattice ps is_time_reversal swappable bz_grid_type q0 in
+        let l = lists classes.new points.new triplets.new left.new lengths.new in
+        record { answer = result; addresses = addresses.new; map = map.new; grg = grg.new; lists = l } ≡ finished_list j r }
+    ensures finished_chain { let j = job a rotations.now lattice ps is_time_reversal swappable bz_grid_type q0 in
+        let l = lists classes.new points.new triplets.new left.new lengths.new in
+        OnOk result (FinishedChain j addresses.new map.new l (length classes.old)) }
 {
     let f = run_chain(
         a,

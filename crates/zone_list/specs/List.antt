@@ -3,7 +3,7 @@ use Rattle.std.specs.Prelude.{◌≡◌, List, [], ◌∷◌, ℕ, ◌*◌, ◌�
 use Rattle.common.specs.declared.Refusal.{Refusal}
 use Rattle.common.specs.Array.{rows, matrix_at, sides_of}
 use Rattle.common.specs.Limits.{diagonal_fits}
-use Rattle.common.specs.Tested.{require, output_of, after, giving, Tested, Accepted, without_value}
+use Rattle.common.specs.Tested.{require, Tested, Accepted, without_value}
 use Rattle.common.specs.declared.Refusal.TheVariants.{WrongLength}
 use Rattle.grgrid.specs.Grid.{size}
 use Rattle.bzsearch.specs.SearchView.{float_nine}
@@ -12,110 +12,78 @@ use Rattle.job.specs.Job.{job_of, accepted, rotations_of}
 use Rattle.job.specs.Listing.{listing}
 use Rattle.job.specs.Writing.{printed}
 use Rattle.zone.specs.declared.Finished.{Finished}
-use Rattle.zone_steps.specs.Steps.{Rooms, Lists}
+use Rattle.zone_steps.specs.Steps.{Rooms, Lists, Outcome}
 use Rattle.zone_steps.specs.StepsView.{rooms}
-use Rattle.zone.specs.Chain.{Job, chain_finished, chain_answer, chain_addresses, chain_map, chain_grg, chain_lists, lists_for}
+use Rattle.zone.specs.Chain.{Job, refused, outcome_of, chain_finished, finished_list}
 use Rattle.zone.specs.ChainView.{job}
 
 -- arrays for 256 points and 1,024 images
 abbrev pub list_rooms : Rooms
 list_rooms = rooms 3072 2305 1024 256 256 768 256 256
 
+-- ---- a job
 -- the chain's job in the bytes of a file that the reader accepts, without shift
 unfoldable pub chain_job : List ℕ → Job
 unfolding accepted rotations_of
 chain_job b =
     let j = accepted b in
-    job (rows (matrix_at j.a 0)) (rotations_of b) (rows (float_nine j.lattice)) (pos 0 ∷ pos 0 ∷ pos 0 ∷ []) j.time_reversal j.swapping j.grid_type j.q0
+    let zero = pos 0 ∷ pos 0 ∷ pos 0 ∷ [] in
+    job (rows (matrix_at j.a 0)) (rotations_of b) (rows (float_nine j.lattice)) zero j.time_reversal j.swapping j.grid_type j.q0
 
 -- the reader's refusal comes before the chain's
-abbrev pub after_reading : Result read.Job Refusal → Result Finished Refusal → Result Finished Refusal
-after_reading (Ok _) f = f
-after_reading (Err r) f = Err r
+abbrev pub after_reading : Result read.Job Refusal → Rooms → Outcome Finished → Outcome Finished
+after_reading (Ok _) r o = o
+after_reading (Err x) r o = refused r x
 
+unfoldable pub run_job : List ℕ → Rooms → Outcome Finished
+unfolding job_of chain_job finished_list
+run_job b r = after_reading (job_of b) r (finished_list (chain_job b) r)
+
+-- a step after it, with tests t and the value v; a refused job is left as it is
+module _ {A : Type 0} (t : Tested) (v : A) (r : Rooms) where
+  abbrev pub step_by : Result Finished Refusal → Outcome Finished → Outcome A
+  step_by (Ok _) o = outcome_of t v r o
+  step_by (Err x) o = record { answer = Err x; addresses = o.addresses; map = o.map; grg = o.grg; lists = o.lists }
+
+  abbrev pub after_job : Outcome Finished → Outcome A
+  after_job o = step_by o.answer o
+
+-- ---- its text
 -- the diagonal, the class of each point, the number of classes, the triplets
 unfoldable pub text_of : Finished → (classes triplets : List ℤ) → List ℕ
 unfolding listing
 text_of f classes triplets = listing f.d (take (size (sides_of f.d)) classes) f.num_ir (take (nat_abs f.num_ir * 3) triplets)
 
--- ---- a text in n places
+-- in n places
 abbrev pub room_tests : List ℕ → ℕ → Tested
 room_tests text n = require (leb (length text) n) WrongLength Accepted
 
 abbrev pub text_for : Tested → List ℕ → ℕ → List ℕ
-text_for (Ok _) text n = printed text n
+text_for (Ok _) text n = (printed text n).text
 text_for (Err r) text n = replicate n 0
 
--- ---- a job
-module _ (b : List ℕ) (r : Rooms) where
-  unfoldable pub finished : Result Finished Refusal
-  unfolding job_of chain_job chain_answer
-  finished = after_reading (job_of b) (chain_answer (chain_job b) r)
+pub record Listing : Type 0 where
+  pub answer : Result ℕ Refusal
+  pub addresses : List ℤ
+  pub map : List ℤ
+  pub grg : List ℤ
+  pub lists : Lists
+  pub text : List ℕ
 
+module _ (b : List ℕ) (r : Rooms) where
   -- of an accepted chain
   unfoldable pub text : List ℕ
-  unfolding chain_job chain_finished chain_lists text_of
-  text = let l = chain_lists (chain_job b) r in text_of (chain_finished (chain_job b)) l.classes l.triplets
-
-  -- what tests of the job leave: what the chain does, or -1 everywhere
-  module _ (t : Tested) where
-    unfoldable pub addresses_left : List ℤ
-    unfolding chain_job chain_addresses
-    addresses_left = output_of t r.addresses (chain_addresses (chain_job b) r)
-
-    unfoldable pub map_left : List ℤ
-    unfolding chain_job chain_map
-    map_left = output_of t r.map (chain_map (chain_job b) r)
-
-    unfoldable pub grg_left : List ℤ
-    unfolding chain_job chain_grg
-    grg_left = output_of t r.grg (chain_grg (chain_job b) r)
-
-    unfoldable pub lists_left : Lists
-    unfolding chain_job chain_lists
-    lists_left = lists_for t r (chain_lists (chain_job b) r)
-
-  -- those of the chain alone
-  abbrev pub job_tests : Tested
-  job_tests = without_value finished
-
-  abbrev pub job_addresses : List ℤ
-  job_addresses = addresses_left job_tests
-
-  abbrev pub job_map : List ℤ
-  job_map = map_left job_tests
-
-  abbrev pub job_grg : List ℤ
-  job_grg = grg_left job_tests
-
-  abbrev pub job_lists : Lists
-  job_lists = lists_left job_tests
+  unfolding chain_job chain_finished finished_list text_of
+  text = let l = (finished_list (chain_job b) r).lists in text_of (chain_finished (chain_job b)) l.classes l.triplets
 
   -- the text has n places
-  module _ (n : ℕ) where
-    unfoldable pub list_tests : Tested
-    unfolding finished text
-    list_tests = after job_tests (room_tests text n)
-
-    unfoldable pub list_answer : Result ℕ Refusal
-    unfolding list_tests text
-    list_answer = giving list_tests (length text)
-
-    unfoldable pub list_text : List ℕ
-    unfolding list_tests text printed
-    list_text = text_for list_tests text n
-
-    abbrev pub list_addresses : List ℤ
-    list_addresses = addresses_left list_tests
-
-    abbrev pub list_map : List ℤ
-    list_map = map_left list_tests
-
-    abbrev pub list_grg : List ℤ
-    list_grg = grg_left list_tests
-
-    abbrev pub list_lists : Lists
-    list_lists = lists_left list_tests
+  unfoldable pub list : ℕ → Listing
+  unfolding run_job text printed
+  list n =
+      let j = run_job b r in
+      let o = after_job (room_tests text n) (length text) r j in
+      let t = text_for (without_value j.answer) text n in
+      record { answer = o.answer; addresses = o.addresses; map = o.map; grg = o.grg; lists = o.lists; text = t }
 
 -- ---- what the printing relies on
 -- the lists hold a class for each point, and three numbers for each class

@@ -4,8 +4,8 @@
 ghost use Rattle.std.specs.Prelude.{◌≡◌, length};
 ghost use Rattle.common.specs.Tested.{giving};
 ghost use Rattle.job.specs.Writing.{printed};
-ghost use Rattle.zone_steps.specs.StepsView.{rooms, lists};
-ghost use Rattle.zone_list.specs.List.{finished, text_of, room_tests, job_addresses, job_map, job_grg, job_lists, list_answer, list_text, list_addresses, list_map, list_grg, list_lists, Whole};
+ghost use Rattle.zone_steps.specs.StepsView.{rooms_of, lists};
+ghost use Rattle.zone_list.specs.List.{run_job, text_of, room_tests, Listing, list, Whole};
 
 use common::Refusal;
 use zone::Finished;
@@ -22,11 +22,9 @@ pub fn run_job(
     left: &mut [i64],
     lengths: &mut [f64],
 ) -> Result<Finished, Refusal>
-    ensures value { result ≡ finished bytes.now (rooms (length addresses.old) (length map.old) (length grg.old) (length classes.old) (length points.old) (length triplets.old) (length left.old) (length lengths.old)) }
-    ensures addresses_after { addresses.new ≡ job_addresses bytes.now (rooms (length addresses.old) (length map.old) (length grg.old) (length classes.old) (length points.old) (length triplets.old) (length left.old) (length lengths.old)) }
-    ensures map_after { map.new ≡ job_map bytes.now (rooms (length addresses.old) (length map.old) (length grg.old) (length classes.old) (length points.old) (length triplets.old) (length left.old) (length lengths.old)) }
-    ensures grg_after { grg.new ≡ job_grg bytes.now (rooms (length addresses.old) (length map.old) (length grg.old) (length classes.old) (length points.old) (length triplets.old) (length left.old) (length lengths.old)) }
-    ensures lengths_after { lists classes.new points.new triplets.new left.new lengths.new ≡ job_lists bytes.now (rooms (length addresses.old) (length map.old) (length grg.old) (length classes.old) (length points.old) (length triplets.old) (length left.old) (length lengths.old)) }
+    ensures { let r = rooms_of addresses.old map.old grg.old classes.old points.old triplets.old left.old lengths.old in
+        let l = lists classes.new points.new triplets.new left.new lengths.new in
+        record { answer = result; addresses = addresses.new; map = map.new; grg = grg.new; lists = l } ≡ run_job bytes.now r }
 {
     let mut rotations = [0i64; 1728];
     match job::read_job(bytes, &mut rotations) {
@@ -70,8 +68,8 @@ fn print_finished(
     text: &mut [u8],
 ) -> Result<usize, Refusal>
     requires { Whole f (length classes.now) (length triplets.now) }
-    ensures value { result ≡ giving (room_tests (text_of f classes.now triplets.now) (length text.old)) (length (text_of f classes.now triplets.now)) }
-    ensures text_after { text.new ≡ printed (text_of f classes.now triplets.now) (length text.old) }
+    ensures value { let t = text_of f classes.now triplets.now in result ≡ giving (room_tests t (length text.old)) (length t) }
+    ensures text_after { text.new ≡ (printed (text_of f classes.now triplets.now) (length text.old)).text }
 {
     let d = f.d;
     let n = grgrid::points(grgrid::grid_of(d));
@@ -94,12 +92,17 @@ pub fn list(
     lengths: &mut [f64],
     text: &mut [u8],
 ) -> Result<usize, Refusal>
-    ensures value { result ≡ list_answer job.now (rooms (length addresses.old) (length map.old) (length grg.old) (length classes.old) (length points.old) (length triplets.old) (length left.old) (length lengths.old)) (length text.old) }
-    ensures addresses_after { addresses.new ≡ list_addresses job.now (rooms (length addresses.old) (length map.old) (length grg.old) (length classes.old) (length points.old) (length triplets.old) (length left.old) (length lengths.old)) (length text.old) }
-    ensures map_after { map.new ≡ list_map job.now (rooms (length addresses.old) (length map.old) (length grg.old) (length classes.old) (length points.old) (length triplets.old) (length left.old) (length lengths.old)) (length text.old) }
-    ensures grg_after { grg.new ≡ list_grg job.now (rooms (length addresses.old) (length map.old) (length grg.old) (length classes.old) (length points.old) (length triplets.old) (length left.old) (length lengths.old)) (length text.old) }
-    ensures lengths_after { lists classes.new points.new triplets.new left.new lengths.new ≡ list_lists job.now (rooms (length addresses.old) (length map.old) (length grg.old) (length classes.old) (length points.old) (length triplets.old) (length left.old) (length lengths.old)) (length text.old) }
-    ensures text_after { text.new ≡ list_text job.now (rooms (length addresses.old) (length map.old) (length grg.old) (length classes.old) (length points.old) (length triplets.old) (length left.old) (length lengths.old)) (length text.old) }
+    ensures { let r = rooms_of addresses.old map.old grg.old classes.old points.old triplets.old left.old lengths.old in
+        let l = lists classes.new points.new triplets.new left.new lengths.new in
+        let o : Listing = record {
+          answer = result;
+          addresses = addresses.new;
+          map = map.new;
+          grg = grg.new;
+          lists = l;
+          text = text.new;
+        } in
+        o ≡ list job.now r (length text.old) }
 {
     text.fill(0);
     let f = run_job(

@@ -1,6 +1,6 @@
 -- The listing of an accepted job fits the program's array, so that the program prints it whole or the line of the job's refusal.
 use mathlib.Core.Path.{◌≡◌, refl, sym, ◌∙◌, ap, ap₂, subst}
-use mathlib.Core.Bool.{Bool, true, false}
+use mathlib.Core.Bool.{Bool, true, false, cond}
 use mathlib.Core.List.{List, [], ◌∷◌, ◌++◌}
 use Prim.Native.Nat.{ℕ, zero, suc, ◌*◌, ◌^◌, ◌-◌, ◌/◌, ◌≤◌, ◌<◌}
 use native.Mathlib.Nat.{le_trans}
@@ -11,11 +11,10 @@ use lib.ListN.{length, get_or, take, replicate, length-take, length-append}
 use borrow.Author.Tests.{le-leb}
 use Rattle.std.specs.Prelude.{Result, Ok, Err, Some, None}
 use Rattle.std.specs.Option.{unwrap_or}
-use Rattle.integer.specs.Checked.{pick}
 use Rattle.common.specs.Array.{sides_of}
 use Rattle.common.specs.Limits.{side_fits, diagonal_fits}
 use Rattle.common.specs.Refusal.{number_of}
-use Rattle.common.specs.Tested.{require, after, giving, Tested, Accepted, without_value}
+use Rattle.common.specs.Tested.{require, giving, Tested, Accepted, without_value}
 use Rattle.common.specs.declared.Refusal.{Refusal}
 use Rattle.common.specs.declared.Refusal.TheVariants.{Singular, NotConverged, OutsideLimits, Overflow, SingularQ, SymmetryBroken, TooManyRotations, TooManyForInversion, BadGridType, NotUnimodularQ, SingularReciprocalLattice, SearchFailed, WrongLength, OutsideTable, BadHeader, NotGroup, InvertedRange}
 use Rattle.common.proofs.Bounds.{side-size}
@@ -24,16 +23,15 @@ use Rattle.grgrid.specs.Grid.{size}
 use Rattle.grgrid.proofs.Accepted.{side-0, side-1, side-2}
 use Rattle.decimal.specs.Decimal.{decimal, number}
 use Rattle.job.specs.Listing.{refusal}
-use Rattle.job.specs.Writing.{printed, printed_answer}
+use Rattle.job.specs.Writing.{page, printed}
 use Rattle.decimal.proofs.Decimal.{digits-few}
 use Rattle.job.proofs.Lengths.{listing-length}
 use Rattle.zone.specs.declared.Finished.{Finished}
-use Rattle.zone.specs.Chain.{chain_finished, chain_lists}
+use Rattle.zone.specs.Chain.{outcome_of, chain_finished, finished_list}
 use Rattle.zone.proofs.ChainNumbers.{Below, Numbers, chain-numbers}
 use Rattle.zone_steps.specs.Steps.{Rooms, Lists}
-use Rattle.zone_steps.specs.StepsView.{rooms}
-use Rattle.zone_list.specs.List.{list_rooms, Whole, chain_job, text_of, text_for, finished, text, list_tests, list_answer, list_text, list_addresses, list_map, list_grg, list_lists}
-use Rattle.zone_print.specs.JobText.{text_or_refusal, job_text, bytes_printed, PrintedJob, printed_job}
+use Rattle.zone_list.specs.List.{list_rooms, Whole, chain_job, run_job, step_by, text_of, room_tests, text_for, text, list}
+use Rattle.zone_print.specs.JobText.{text_or_refusal, job_text, PrintedText, printed_text, PrintedJob, printed_job}
 use Rattle.zone_list.proofs.Listed.{accepted-tests, whole-chain}
 
 -- ---- short numbers
@@ -90,33 +88,30 @@ module _ (f : Finished) (l : Lists) (w : Whole f 256 768) (n : Numbers f.d (nat_
       (below-short 3 1024 (omega arith) chosen n.triplets-listed) in
       omega (arith, n.three-sides, shown-few, chosen-few)
 
-module _ (b : List ℕ) where
-  -- an accepted listing has at most 6,940 bytes
-  pub text-short : without_value (finished b list_rooms) ≡ Accepted → length (text b list_rooms) ≤ 6940
-  unfolding text
-  text-short e =
-      let t = accepted-tests b list_rooms e in
-      finished-short (chain_finished (chain_job b)) (chain_lists (chain_job b) list_rooms) (whole-chain (chain_job b) list_rooms t) (chain-numbers (chain_job b) list_rooms t)
+-- an accepted listing has at most 6,940 bytes
+pub text-short : (b : List ℕ) → without_value (run_job b list_rooms).answer ≡ Accepted → length (text b list_rooms) ≤ 6940
+unfolding text
+text-short b e =
+    let t = accepted-tests b list_rooms e in
+    finished-short (chain_finished (chain_job b)) (finished_list (chain_job b) list_rooms).lists (whole-chain (chain_job b) list_rooms t) (chain-numbers (chain_job b) list_rooms t)
 
-  -- ---- so that nothing is refused for want of room
-  module _ (n : ℕ) (room : 6940 ≤ n) where
-    pub same_tests : list_tests b list_rooms n ≡ without_value (finished b list_rooms)
-    unfolding list_tests
-    same_tests = go (without_value (finished b list_rooms)) text-short
-      where
-        go : (t : Tested) → (t ≡ Accepted → length (text b list_rooms) ≤ 6940) → after t (require (leb (length (text b list_rooms)) n) WrongLength Accepted) ≡ t
-        go (Ok _) h = ap (λ v. require v WrongLength Accepted) (le-leb (length (text b list_rooms)) n (le_trans (h refl) room))
-        go (Err r) h = refl
+-- ---- a text in n places
+module _ (t : List ℕ) (n : ℕ) where
+  abbrev taken : Bool → PrintedText
+  taken v = let p = cond v (page (t ++ replicate (n - length t) 0) (Some (length t))) (page (replicate n 0) None) in record { bytes = unwrap_or p.so_far 0; text = p.text }
 
--- ---- what the program prints
--- no more than it holds
-pub bytes-inside : (t : List ℕ) (n : ℕ) → bytes_printed t n ≤ length (printed t n)
-unfolding bytes_printed printed printed_answer
-bytes-inside t n = go (leb (length t) n)
-  where
-    go : (b : Bool) → unwrap_or (pick b (Some (length t)) None) 0 ≤ length (pick b (t ++ replicate (n - length t) 0) (replicate n 0))
-    go true = omega (arith, length-append t (replicate (n - length t) 0))
-    go false = omega arith
+  pub whole-printed : length t ≤ n → taken true ≡ printed_text t n
+  unfolding printed_text
+  whole-printed h = sym (ap taken (le-leb (length t) n h))
+
+  -- no more is printed than it holds
+  pub bytes-inside : (printed_text t n).bytes ≤ length (printed_text t n).text
+  unfolding printed_text
+  bytes-inside = go (leb (length t) n)
+    where
+      go : (v : Bool) → (taken v).bytes ≤ length (taken v).text
+      go true = omega (arith, length-append t (replicate (n - length t) 0))
+      go false = omega arith
 
 pub given-tests : (t : Tested) (n : ℕ) {k : ℕ} → giving t n ≡ Ok k → t ≡ Accepted
 given-tests (Ok _) n e = refl
@@ -150,72 +145,66 @@ refusal-short : (r : Refusal) → length (refusal r) ≤ 11
 unfolding refusal
 refusal-short r = let h = (digits-few 1 (number_of r)).1 (ltb→lt (number_of r) 100 (few-digits r)) in omega (arith, length-append (decimal (number_of r)) (10 ∷ []))
 
-refusal-printed : (r : Refusal) {m k : ℕ} → m ≡ 8192 → k ≡ bytes_printed (refusal r) m → k ≡ length (refusal r)
-unfolding bytes_printed printed_answer
-refusal-printed r em ek =
-    ek ∙ ap (bytes_printed (refusal r)) em ∙ ap (λ t. unwrap_or (pick t (Some (length (refusal r))) None) 0) (le-leb (length (refusal r)) 8192 (le_trans (refusal-short r) (omega arith)))
-
-pub same-rooms : {a b c d e f g h : ℕ} → a ≡ 3072 → b ≡ 2305 → c ≡ 1024 → d ≡ 256 → e ≡ 256 → f ≡ 768 → g ≡ 256 → h ≡ 256 → rooms a b c d e f g h ≡ list_rooms
-same-rooms a b c d e f g h = λ i. rooms (a i) (b i) (c i) (d i) (e i) (f i) (g i) (h i)
-
-abbrev printed-with : ℕ → List ℕ → (addresses map grg : List ℤ) → Lists → PrintedJob
-printed-with n text addresses map grg lists = record { bytes = n; text = text; addresses = addresses; map = map; grg = grg; lists = lists }
-
+-- ---- what the program prints
 module _ (b : List ℕ) where
-  tests-are : {a : Result ℕ Refusal} → a ≡ list_answer b list_rooms 8192 → a ≡ giving (without_value (finished b list_rooms)) (length (text b list_rooms))
-  unfolding list_answer list_tests
-  tests-are e = e ∙ ap (λ t. giving t (length (text b list_rooms))) (same_tests b 8192 (omega arith))
-
-  -- the listing
-  module _ {k : ℕ} (e : Ok k ≡ list_answer b list_rooms 8192) where
-    accepted : without_value (finished b list_rooms) ≡ Accepted
-    accepted = given-tests (without_value (finished b list_rooms)) (length (text b list_rooms)) (sym (tests-are e))
-
-    text-is : text b list_rooms ≡ job_text b
-    unfolding job_text
-    text-is = sym (ap (λ t. text_or_refusal t (text b list_rooms)) accepted)
-
-    pub listed-bytes : k ≡ length (job_text b)
-    listed-bytes = same-ok (tests-are e ∙ ap (λ t. giving t (length (text b list_rooms))) accepted) ∙ ap length text-is
-
-    pub listed-whole : {t : List ℕ} → t ≡ list_text b list_rooms 8192 → t ≡ printed (job_text b) 8192
-    unfolding list_text list_tests
-    listed-whole h = h ∙ ap (λ t. text_for t (text b list_rooms) 8192) (same_tests b 8192 (omega arith) ∙ accepted) ∙ ap (λ t. printed t 8192) text-is
-
-  -- the line of a refusal
-  pub refused-text : {r : Refusal} → Err r ≡ list_answer b list_rooms 8192 → refusal r ≡ job_text b
-  unfolding job_text
-  refused-text {r} e = sym (ap (λ t. text_or_refusal t (text b list_rooms)) (refused-tests (without_value (finished b list_rooms)) (length (text b list_rooms)) (sym (tests-are e))))
+  -- a listing is not refused for want of room
+  answer-is : (list b list_rooms 8192).answer ≡ giving (without_value (run_job b list_rooms).answer) (length (text b list_rooms))
+  unfolding list
+  answer-is = go (run_job b list_rooms).answer (text-short b)
+    where
+      go : (a : Result Finished Refusal) → (without_value a ≡ Accepted → length (text b list_rooms) ≤ 6940)
+          → (step_by (room_tests (text b list_rooms) 8192) (length (text b list_rooms)) list_rooms a (run_job b list_rooms)).answer ≡ giving (without_value a) (length (text b list_rooms))
+      go (Ok f) h = ap (λ v. (outcome_of (require v WrongLength Accepted) (length (text b list_rooms)) list_rooms (run_job b list_rooms)).answer) (le-leb (length (text b list_rooms)) 8192 (le_trans (h refl) (omega arith)))
+      go (Err r) h = refl
 
   text-fits : length (job_text b) ≤ 6940
   unfolding job_text
-  text-fits = go (without_value (finished b list_rooms)) (text-short b)
+  text-fits = go (without_value (run_job b list_rooms).answer) (text-short b)
     where
       go : (t : Tested) → (t ≡ Accepted → length (text b list_rooms) ≤ 6940) → length (text_or_refusal t (text b list_rooms)) ≤ 6940
       go (Ok _) h = h refl
       go (Err r) h = le_trans (refusal-short r) (omega arith)
 
+  fitting : record { bytes = length (job_text b); text = job_text b ++ replicate (8192 - length (job_text b)) 0 } ≡ printed_text (job_text b) 8192
+  fitting = whole-printed (job_text b) 8192 (le_trans text-fits (omega arith))
+
   pub printed-fits : {o : PrintedJob} → o ≡ printed_job b → o.bytes ≤ length o.text
-  unfolding printed_job printed
-  printed-fits e =
-      let t = job_text b in
-      let room = le-leb (length t) 8192 (le_trans text-fits (omega arith)) in
-      subst (λ o. o.bytes ≤ length o.text) (sym e)
-      (subst (λ v. length t ≤ length (pick v (t ++ replicate (8192 - length t) 0) (replicate 8192 0))) (sym room) (omega (arith, length-append t (replicate (8192 - length t) 0))))
+  unfolding printed_job
+  printed-fits e = subst (λ o. o.bytes ≤ length o.text) (sym e) (subst (λ k. k ≤ length (printed_text (job_text b) 8192).text) (sym (ap (λ o. o.bytes) fitting)) (bytes-inside (job_text b) 8192))
 
   -- ---- every array, by its length
-  module _ {r : Rooms} {n : ℕ} (er : r ≡ list_rooms) (en : n ≡ 8192) {x y z : List ℤ} {l : Lists} (ex : x ≡ list_addresses b r n) (ey : y ≡ list_map b r n) (ez : z ≡ list_grg b r n) (el : l ≡ list_lists b r n) where
-    sized : {A : Type 0} (f : Rooms → ℕ → A) → f r n ≡ f list_rooms 8192
-    sized f = ap₂ f er en
+  module _ {r : Rooms} {n : ℕ} (er : r ≡ list_rooms) (en : n ≡ 8192) {a : Result ℕ Refusal} {x y z : List ℤ} {l : Lists} {t : List ℕ} (o : record { answer = a; addresses = x; map = y; grg = z; lists = l; text = t } ≡ list b r n) where
+    sized : record { answer = a; addresses = x; map = y; grg = z; lists = l; text = t } ≡ list b list_rooms 8192
+    sized = o ∙ ap₂ (list b) er en
 
-    whole-print : (k : ℕ) (t : List ℕ) → k ≡ length (job_text b) → t ≡ printed (job_text b) 8192 → printed-with k t x y z l ≡ printed_job b
+    -- printed as s
+    printed-as : {s : PrintedText} → s ≡ printed_text (job_text b) 8192 → record { bytes = s.bytes; text = s.text; addresses = x; map = y; grg = z; lists = l } ≡ printed_job b
     unfolding printed_job
-    whole-print k t ek et = λ i. printed-with (ek i) (et i) ((ex ∙ sized (list_addresses b)) i) ((ey ∙ sized (list_map b)) i) ((ez ∙ sized (list_grg b)) i) ((el ∙ sized (list_lists b)) i)
+    printed-as e = λ i. record {
+      bytes = (ap (λ s. s.bytes) (e ∙ sym fitting)) i;
+      text = (e i).text;
+      addresses = (sized i).addresses;
+      map = (sized i).map;
+      grg = (sized i).grg;
+      lists = (sized i).lists;
+    }
 
-    pub listing-printed : {k : ℕ} {t : List ℕ} → Ok k ≡ list_answer b r n → t ≡ list_text b r n → printed-with k t x y z l ≡ printed_job b
-    listing-printed {k} {t} e et = let a = e ∙ sized (list_answer b) in whole-print k t (listed-bytes a) (listed-whole a (et ∙ sized (list_text b)))
+    tested : a ≡ giving (without_value (run_job b list_rooms).answer) (length (text b list_rooms))
+    tested = ap (λ o. o.answer) sized ∙ answer-is
 
-    pub line-printed : {c : Refusal} {k m : ℕ} {t : List ℕ} → Err c ≡ list_answer b r n → m ≡ 8192 → k ≡ bytes_printed (refusal c) m → t ≡ printed (refusal c) m → printed-with k t x y z l ≡ printed_job b
-    line-printed {c = c} {k = k} {t = t} e em ek et =
-        let a = e ∙ sized (list_answer b) in
-        whole-print k t (refusal-printed c em ek ∙ ap length (refused-text a)) (et ∙ ap₂ printed (refused-text a) em)
+    -- the listing
+    pub listing-printed : {k : ℕ} → a ≡ Ok k → record { bytes = k; text = t; addresses = x; map = y; grg = z; lists = l } ≡ printed_job b
+    unfolding list job_text printed_text
+    listing-printed {k} e =
+        let s = text b list_rooms in
+        let accepted = given-tests (without_value (run_job b list_rooms).answer) (length s) (sym tested ∙ e) in
+        let count = same-ok (sym e ∙ tested ∙ ap (λ t. giving t (length s)) accepted) in
+        let same = sym (ap (λ v. text_or_refusal v s) accepted) in
+        printed-as (λ i. record { bytes = (count ∙ ap length same ∙ ap (λ s. s.bytes) fitting) i; text = (ap (λ o. o.text) sized ∙ ap (λ v. text_for v s 8192) accepted ∙ ap (λ s. (printed s 8192).text) same) i })
+
+    -- the line of a refusal
+    pub line-printed : {c : Refusal} → a ≡ Err c → {m : ℕ} → m ≡ 8192 → {s : PrintedText} → s ≡ printed_text (refusal c) m → record { bytes = s.bytes; text = s.text; addresses = x; map = y; grg = z; lists = l } ≡ printed_job b
+    unfolding job_text
+    line-printed e em es =
+        let refused = refused-tests (without_value (run_job b list_rooms).answer) (length (text b list_rooms)) (sym tested ∙ e) in
+        printed-as (es ∙ ap₂ printed_text (sym (ap (λ t. text_or_refusal t (text b list_rooms)) refused)) em)

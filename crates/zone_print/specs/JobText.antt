@@ -3,22 +3,26 @@ use Rattle.std.specs.Prelude.{List, ℕ, ℤ, length, Ok, Err}
 use Rattle.std.specs.Option.{unwrap_or}
 use Rattle.common.specs.Tested.{Tested, without_value}
 use Rattle.job.specs.Listing.{refusal}
-use Rattle.job.specs.Writing.{printed, printed_answer}
+use Rattle.job.specs.Writing.{printed}
 use Rattle.zone_steps.specs.Steps.{Lists}
-use Rattle.zone_list.specs.List.{list_rooms, finished, text, addresses_left, map_left, grg_left, lists_left, list_tests, list_addresses, list_map, list_grg, list_lists}
+use Rattle.zone_list.specs.List.{list_rooms, run_job, text, list}
 
 abbrev pub text_or_refusal : Tested → List ℕ → List ℕ
 text_or_refusal (Ok _) t = t
 text_or_refusal (Err r) t = refusal r
 
 unfoldable pub job_text : List ℕ → List ℕ
-unfolding finished text refusal
-job_text b = text_or_refusal (without_value (finished b list_rooms)) (text b list_rooms)
+unfolding run_job text refusal
+job_text b = text_or_refusal (without_value (run_job b list_rooms).answer) (text b list_rooms)
 
--- how many bytes there are to print of a text in n places: none without room
-unfoldable pub bytes_printed : List ℕ → ℕ → ℕ
-unfolding printed_answer
-bytes_printed t n = unwrap_or (printed_answer t n) 0
+-- how many bytes there are to print of a text in n places, none without room, and what the places hold
+pub record PrintedText : Type 0 where
+  pub bytes : ℕ
+  pub text : List ℕ
+
+unfoldable pub printed_text : List ℕ → ℕ → PrintedText
+unfolding printed
+printed_text t n = let p = printed t n in record { bytes = unwrap_or p.so_far 0; text = p.text }
 
 -- the number of bytes to print, and every array
 pub record PrintedJob : Type 0 where
@@ -30,12 +34,8 @@ pub record PrintedJob : Type 0 where
   pub lists : Lists
 
 unfoldable pub printed_job : List ℕ → PrintedJob
-unfolding job_text printed list_tests addresses_left map_left grg_left lists_left
-printed_job b = record {
-  bytes = length (job_text b);
-  text = printed (job_text b) 8192;
-  addresses = list_addresses b list_rooms 8192;
-  map = list_map b list_rooms 8192;
-  grg = list_grg b list_rooms 8192;
-  lists = list_lists b list_rooms 8192;
-}
+unfolding job_text printed_text list
+printed_job b =
+    let t = job_text b in
+    let o = list b list_rooms 8192 in
+    record { bytes = length t; text = (printed_text t 8192).text; addresses = o.addresses; map = o.map; grg = o.grg; lists = o.lists }

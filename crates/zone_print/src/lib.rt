@@ -3,16 +3,14 @@
 
 ghost use Rattle.std.specs.Prelude.{◌≡◌, ◌≤◌, length};
 ghost use Rattle.job.specs.Listing.{refusal};
-ghost use Rattle.job.specs.Writing.{printed};
 ghost use Rattle.zone_steps.specs.StepsView.{lists};
-ghost use Rattle.zone_print.specs.JobText.{bytes_printed, PrintedJob, printed_job};
+ghost use Rattle.zone_print.specs.JobText.{printed_text, PrintedJob, printed_job};
 
 use common::Refusal;
 
 // The line of a refusal, and how many bytes it is: 0 without room.
 pub fn print_refused(r: Refusal, text: &mut [u8]) -> usize
-    ensures value { result ≡ bytes_printed (refusal r) (length text.old) }
-    ensures text_after { text.new ≡ printed (refusal r) (length text.old) }
+    ensures { record { bytes = result; text = text.new } ≡ printed_text (refusal r) (length text.old) }
 {
     job::print_refusal(r, text).unwrap_or(0)
 }

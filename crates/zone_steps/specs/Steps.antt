@@ -1,6 +1,6 @@
--- The steps of the chain: the rotations in the basis of a grid, its images, classes and triplets. Their tests are those of the calls, one after the other, and their
--- outputs what the calls leave; an output may be longer than needed, and the rest holds -1.
-use Rattle.std.specs.Prelude.{Bool, true, List, ◌++◌, ℕ, ◌*◌, ◌-◌, leb, ℤ, pos, negsuc, nat_abs, length, get_or, replicate, Float, Result, Ok, Err}
+-- The steps of the chain: the rotations in the basis of a grid, its images, classes and triplets. Their tests are those of the calls, one after the
+-- other, and their outputs what the calls leave; an output may be longer than needed, and the rest holds -1.
+use Rattle.std.specs.Prelude.{Bool, true, List, ◌++◌, ℕ, ◌*◌, ◌-◌, leb, ℤ, pos, negsuc, nat_abs, length, get_or, replicate, Float, ⊤, Result, Ok, Err}
 use Rattle.std.specs.Float.{binary64}
 use Rattle.std.specs.Float.Ieee.{of_int}
 use Rattle.common.specs.declared.Refusal.{Refusal}
@@ -11,12 +11,12 @@ use Rattle.grgrid.specs.Grid.{size}
 use Rattle.grgrid.specs.Own.{own_places}
 use Rattle.recip_rotations.specs.PointGroup.{point_group}
 use Rattle.rotation_group.specs.ReciprocalGroup.{reciprocal_tests}
-use Rattle.transform_rotations.specs.TransformRotations.{transform_tests, transform_written}
+use Rattle.transform_rotations.specs.TransformRotations.{transform_tests, transform_rotations}
 use Rattle.bzgrid.specs.declared.GridType.{GridType}
 use Rattle.bzgrid.specs.declared.GridType.TheVariants.{Sparse, Dense}
-use Rattle.bzgrid.specs.BzGridAddresses.{grid_type_of, padded, bz_answer, addresses_written, map_written, grg_written}
-use Rattle.triplet_grid.specs.IrTriplets.{triplet_tests, map_triplets_written, map_qwritten}
-use Rattle.bz_triplets.specs.BzTriplets.{bz_triplets_answer, triplets_written, left_written, left_length_written}
+use Rattle.bzgrid.specs.BzGridAddresses.{grid_type_of, padded, BzGridAddresses, bz_grid_addresses}
+use Rattle.triplet_grid.specs.IrTriplets.{IrTriplets, ir_triplets_at_q}
+use Rattle.bz_triplets.specs.BzTriplets.{BzTriplets, bz_triplets_at_q}
 
 -- how many places are lent: for the image tables, and for each point one in `classes`, `points`, `left` and `lengths`, three in `triplets`
 pub record Rooms : Type 0 where
@@ -37,12 +37,14 @@ group rotations time_reversal = flat (point_group (matrices rotations) time_reve
 
 module _ (rotations : List ℤ) (time_reversal : Bool) (d : List ℤ) (q : List (List ℤ)) where
   unfoldable pub transformed : List ℤ
-  unfolding group transform_written
-  transformed = transform_written (group rotations time_reversal) d q (length (group rotations time_reversal))
+  unfolding group transform_rotations
+  transformed = (transform_rotations (group rotations time_reversal) d q (length (group rotations time_reversal))).out
 
   unfoldable pub rotation_tests : Tested
   unfolding group reciprocal_tests transform_tests
-  rotation_tests = after (reciprocal_tests rotations time_reversal 432) (transform_tests (group rotations time_reversal) d q (length (group rotations time_reversal)))
+  rotation_tests =
+      after (reciprocal_tests rotations time_reversal 432)
+      (transform_tests (group rotations time_reversal) d q (length (group rotations time_reversal)))
 
 -- ---- images, classes and triplets of a grid, whose rotations are in its basis
 pub record Grid : Type 0 where
@@ -63,6 +65,14 @@ pub record Lists : Type 0 where
   pub left : List ℤ
   pub lengths : List Float
 
+-- an answer, and what is left in the image tables and in the lists
+pub record Outcome (A : Type 0) : Type 0 where
+  pub answer : Result A Refusal
+  pub addresses : List ℤ
+  pub map : List ℤ
+  pub grg : List ℤ
+  pub lists : Lists
+
 -- type 2 starts from the first image of q0
 abbrev pub start_of : Result GridType Refusal → List ℤ → ℤ → ℤ
 start_of (Ok Sparse) map q0 = q0
@@ -79,81 +89,54 @@ module _ (g : Grid) where
   points_of = size (sides_of g.d)
 
   -- the classes of the triplets, one number a point
-  unfoldable pub class_map_of : List ℤ
-  unfolding map_triplets_written
-  class_map_of = map_triplets_written g.q0 g.d g.rotations g.time_reversal g.swappable points_of points_of
+  unfoldable pub classified : IrTriplets
+  unfolding ir_triplets_at_q
+  classified = ir_triplets_at_q g.q0 g.d g.rotations g.time_reversal g.swappable points_of points_of
 
-  unfoldable pub point_map : List ℤ
-  unfolding map_qwritten
-  point_map = map_qwritten g.q0 g.d g.rotations g.time_reversal g.swappable points_of points_of
-
-  unfoldable pub class_tests : Tested
-  unfolding triplet_tests
-  class_tests = triplet_tests g.q0 g.d g.rotations g.time_reversal points_of points_of
+  abbrev pub class_map_of : List ℤ
+  class_map_of = classified.map_triplets
 
   -- how many triplets there are
   abbrev pub count : ℕ
-  count = own_places (class_map_of) (length (class_map_of))
+  count = own_places class_map_of (length class_map_of)
 
   -- ---- from a table of images
   module _ (addresses map : List ℤ) where
     abbrev pub start : ℤ
     start = start_of (grid_type_of g.type) map g.q0
 
-    unfoldable pub choice_tests : Tested
-    unfolding class_map_of bz_triplets_answer
-    choice_tests = bz_triplets_answer start addresses map class_map_of g.d g.q g.lattice g.type (count * 3) count count
-
-    unfoldable pub triplets : List ℤ
-    unfolding class_map_of triplets_written
-    triplets = triplets_written start addresses map class_map_of g.d g.q g.lattice g.type (count * 3) count count
-
-    unfoldable pub left : List ℤ
-    unfolding class_map_of left_written
-    left = left_written start addresses map class_map_of g.d g.q g.lattice g.type (count * 3) count count
-
-    unfoldable pub lengths : List Float
-    unfolding class_map_of left_length_written
-    lengths = left_length_written start addresses map class_map_of g.d g.q g.lattice g.type (count * 3) count count
+    unfoldable pub chosen : BzTriplets
+    unfolding classified bz_triplets_at_q
+    chosen = bz_triplets_at_q start addresses map class_map_of g.d g.q g.lattice g.type (count * 3) count count
 
     unfoldable pub list_tests : Tested
-    unfolding class_tests choice_tests
-    list_tests = after class_tests choice_tests
+    unfolding classified chosen
+    list_tests = after (without_value classified.answer) chosen.answer
 
     -- in outputs with room for n points
     unfoldable pub lists_of : ℕ → Lists
-    unfolding class_map_of point_map triplets left lengths
+    unfolding classified chosen
     lists_of n = record {
       classes = padded class_map_of n;
-      points = padded point_map n;
-      triplets = padded triplets (n * 3);
-      left = padded left n;
-      lengths = padded_lengths lengths n;
+      points = padded classified.map_q n;
+      triplets = padded chosen.out (n * 3);
+      left = padded chosen.left n;
+      lengths = padded_lengths chosen.left_length n;
     }
 
   -- ---- the table of images
   module _ (shift : List ℤ) (r : Rooms) where
-    unfoldable pub image_addresses : List ℤ
-    unfolding addresses_written
-    image_addresses = addresses_written g.d g.q shift g.lattice g.type r.addresses r.map r.grg
+    unfoldable pub images : BzGridAddresses
+    unfolding bz_grid_addresses
+    images = bz_grid_addresses g.d g.q shift g.lattice g.type r.addresses r.map r.grg
 
-    unfoldable pub image_map : List ℤ
-    unfolding map_written
-    image_map = map_written g.d g.q shift g.lattice g.type r.addresses r.map r.grg
-
-    unfoldable pub image_grg : List ℤ
-    unfolding grg_written
-    image_grg = grg_written g.d g.q shift g.lattice g.type r.addresses r.map r.grg
-
-    unfoldable pub image_tests : Tested
-    unfolding bz_answer
-    image_tests = without_value (bz_answer g.d g.q shift g.lattice g.type r.addresses r.map r.grg)
-
-    -- the points must find room
-    unfoldable pub grid_tests : Tested
-    unfolding image_tests image_addresses image_map list_tests
-    grid_tests = require (leb points_of r.classes) WrongLength (after image_tests (list_tests image_addresses image_map))
-
-    unfoldable pub grid_lists : Lists
-    unfolding image_addresses image_map lists_of
-    grid_lists = lists_of image_addresses image_map r.classes
+    -- its tests, and what passing them leaves; the points must find room
+    unfoldable pub listed : Outcome ⊤
+    unfolding images list_tests lists_of
+    listed = record {
+      answer = require (leb points_of r.classes) WrongLength (after (without_value images.answer) (list_tests images.addresses images.map));
+      addresses = images.addresses;
+      map = images.map;
+      grg = images.grg;
+      lists = lists_of images.addresses images.map r.classes;
+    }

@@ -1,11 +1,11 @@
 -- What the steps of the chain answer and leave, as their contracts say it.
 use Rattle.std.specs.Prelude.{◌≡◌, Bool, List, ◌++◌, ℕ, ◌*◌, ◌≤◌, ℤ, Float, length, take, drop, Result, Ok, Err}
 use Rattle.common.specs.declared.Refusal.{Refusal}
-use Rattle.common.specs.Tested.{Tested}
-use Rattle.grgrid.specs.Own.{own_places}
-use Rattle.bz_triplets.specs.BzTriplets.{bz_triplets_answer, triplets_written, left_written, left_length_written}
+use Rattle.common.specs.Tested.{Tested, without_value}
+use Rattle.triplet_grid.specs.IrTriplets.{IrTriplets}
+use Rattle.bz_triplets.specs.BzTriplets.{BzTriplets}
 use Rattle.zone_steps.specs.declared.grid.Input.{Input}
-use Rattle.zone_steps.specs.Steps.{Rooms, Grid, Lists, transformed, image_addresses, image_map, image_grg, grid_lists}
+use Rattle.zone_steps.specs.Steps.{Rooms, Grid, Lists, transformed}
 
 -- ---- records from the parts that the code holds
 abbrev pub grid : (d : List ℤ) (q : List (List ℤ)) (rotations : List ℤ) (lattice : List (List Float)) (time_reversal swappable : Bool) (type q0 : ℤ) → Grid
@@ -25,7 +25,8 @@ input_grid g = grid g.d g.q g.rotations.now g.lattice g.is_time_reversal g.swapp
 
 -- with its rotations in its basis
 abbrev pub turned_grid : Input → Grid
-turned_grid g = grid g.d g.q (transformed g.rotations.now g.is_time_reversal g.d g.q) g.lattice g.is_time_reversal g.swappable g.bz_grid_type g.q0
+turned_grid g =
+    grid g.d g.q (transformed g.rotations.now g.is_time_reversal g.d g.q) g.lattice g.is_time_reversal g.swappable g.bz_grid_type g.q0
 
 abbrev pub lists : (classes points triplets left : List ℤ) → List Float → Lists
 lists classes points triplets left lengths = record { classes = classes; points = points; triplets = triplets; left = left; lengths = lengths }
@@ -41,6 +42,11 @@ rooms addresses map grg classes points triplets left lengths = record {
   left = left;
   lengths = lengths;
 }
+
+-- those of what is lent
+abbrev pub rooms_of : (addresses map grg classes points triplets left : List ℤ) → List Float → Rooms
+rooms_of addresses map grg classes points triplets left lengths =
+    rooms (length addresses) (length map) (length grg) (length classes) (length points) (length triplets) (length left) (length lengths)
 
 -- ---- the rotations
 -- the list of n rotations stands in the front
@@ -59,18 +65,25 @@ pub record Roomy (n classes points triplets left lengths : ℕ) : Type 0 where
   pub fits : n ≤ classes
   pub agreed : Agreed classes points triplets left lengths
 
--- ---- what an accepted grid leaves
-pub record Listed (g : Grid) (shift : List ℤ) (r : Rooms) (addresses map grg : List ℤ) (l : Lists) : Type 0 where
-  pub addresses-are : addresses ≡ image_addresses g shift r
-  pub map_is : map ≡ image_map g shift r
-  pub grg-is : grg ≡ image_grg g shift r
-  pub lists-are : l ≡ grid_lists g shift r
+-- ---- what a call leaves, in the front of longer outputs
+-- the classes of n points
+pub record Numbered : Type 0 where
+  pub answer : Tested
+  pub classes : List ℤ
+  pub points : List ℤ
 
--- ---- triplets in the front of the outputs, one for each of the k classes of a whole class map
-pub record Chosen (start : ℤ) (addresses map classes d : List ℤ) (q : List (List ℤ)) (lattice : List (List Float)) (type : ℤ) (answer : Tested) (triplets left : List ℤ) (lengths : List Float) (triplets' left' : List ℤ) (lengths' : List Float) : Type 0 where
-  pub k : ℕ
-  pub own : k ≡ own_places classes (length classes)
-  pub tested : answer ≡ bz_triplets_answer start addresses map classes d q lattice type (k * 3) k k
-  pub written : triplets' ≡ triplets_written start addresses map classes d q lattice type (k * 3) k k ++ drop (k * 3) triplets
-  pub marked : left' ≡ left_written start addresses map classes d q lattice type (k * 3) k k ++ drop k left
-  pub measured : lengths' ≡ left_length_written start addresses map classes d q lattice type (k * 3) k k ++ drop k lengths
+abbrev pub numbered : IrTriplets → ℕ → (classes points : List ℤ) → Numbered
+numbered o n classes points = record {
+  answer = without_value o.answer;
+  classes = o.map_triplets ++ drop n classes;
+  points = o.map_q ++ drop n points;
+}
+
+-- k triplets
+abbrev pub in_front : BzTriplets → ℕ → (triplets left : List ℤ) → List Float → BzTriplets
+in_front o k triplets left lengths = record {
+  answer = o.answer;
+  out = o.out ++ drop (k * 3) triplets;
+  left = o.left ++ drop k left;
+  left_length = o.left_length ++ drop k lengths;
+}

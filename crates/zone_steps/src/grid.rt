@@ -1,5 +1,5 @@
 // Images, classes and triplets of a grid whose rotations are in its basis.
-ghost use Rattle.std.specs.Prelude.{◌≡◌, ◌++◌, ◌*◌, ◌≤◌, T, negsuc, length, drop, replicate};
+ghost use Rattle.std.specs.Prelude.{◌≡◌, ◌*◌, ◌≤◌, T, negsuc, length, replicate};
 ghost use Rattle.std.specs.Float.{binary64};
 ghost use Rattle.std.specs.Float.Ieee.{of_int};
 ghost use Rattle.std.specs.Int.Signed.{non_neg};
@@ -7,9 +7,8 @@ ghost use Rattle.common.specs.Tested.{Accepted};
 ghost use Rattle.common.specs.Array.{sides_of};
 ghost use Rattle.grgrid.specs.Grid.{size};
 ghost use Rattle.bzgrid.specs.BzGridAddresses.{grid_type_of};
-ghost use Rattle.triplet_grid.specs.IrTriplets.{triplet_tests, map_triplets_written, map_qwritten};
-ghost use Rattle.zone_steps.specs.Steps.{start_of, list_tests, lists_of};
-ghost use Rattle.zone_steps.specs.StepsView.{input_grid, lists, Roomy, Chosen};
+ghost use Rattle.zone_steps.specs.Steps.{start_of, classified, class_map_of, count, chosen, list_tests, lists_of};
+ghost use Rattle.zone_steps.specs.StepsView.{input_grid, lists, Roomy, numbered, in_front};
 
 use bzgrid::GridType;
 use common::Refusal;
@@ -35,13 +34,9 @@ fn number_classes(
     classes: &mut [i64],
     points: &mut [i64],
 ) -> Result<(), Refusal>
-    requires { (n ≤ length classes.old) × (n ≤ length points.old) }
-    ensures value { let i = input.now in
-        result ≡ triplet_tests i.q0 i.d i.rotations.now i.is_time_reversal n n }
-    ensures classes_after { let i = input.now in
-        classes.new ≡ map_triplets_written i.q0 i.d i.rotations.now i.is_time_reversal i.swappable n n ++ drop n classes.old }
-    ensures points_after { let i = input.now in
-        points.new ≡ map_qwritten i.q0 i.d i.rotations.now i.is_time_reversal i.swappable n n ++ drop n points.old }
+    requires grid_points { n ≡ size (sides_of input.now.d) }
+    requires room { (n ≤ length classes.old) × (n ≤ length points.old) }
+    ensures { record { answer = result; classes = classes.new; points = points.new } ≡ numbered (classified (input_grid input.now)) n classes.old points.old }
 {
     triplet_grid::ir_triplets_at_q(
         input.q0,
@@ -66,7 +61,7 @@ fn start_of(bz_grid_type: i64, map: &[i64], q0: i64) -> i64
     }
 }
 
-// In the front of the outputs, for the classes of a whole class map.
+// In the front of the outputs, for the classes of the class map.
 fn choose_triplets(
     start: i64,
     addresses: &[i64],
@@ -77,8 +72,12 @@ fn choose_triplets(
     left: &mut [i64],
     lengths: &mut [f64],
 ) -> Result<(), Refusal>
-    requires { (length classes.now * 3 ≤ length triplets.old) × (length classes.now ≤ length left.old) × (length classes.now ≤ length lengths.old) }
-    ensures { Chosen start addresses.now map.now classes.now input.now.d input.now.q input.now.lattice input.now.bz_grid_type result triplets.old left.old lengths.old triplets.new left.new lengths.new }
+    requires begin { start ≡ start_of (grid_type_of input.now.bz_grid_type) map.now input.now.q0 }
+    requires class_map { classes.now ≡ class_map_of (input_grid input.now) }
+    requires room { (length classes.now * 3 ≤ length triplets.old) × (length classes.now ≤ length left.old) × (length classes.now ≤ length lengths.old) }
+    ensures { let g = input_grid input.now in
+        let o = in_front (chosen g addresses.now map.now) (count g) triplets.old left.old lengths.old in
+        record { answer = result; out = triplets.new; left = left.new; left_length = lengths.new } ≡ o }
 {
     let k = grgrid::own_places(classes);
     bz_triplets::bz_triplets_at_q(
@@ -133,7 +132,8 @@ pub fn list_classes(
     requires fact_1 { n ≡ size (sides_of input.now.d) }
     requires fact_2 { Roomy n (length classes.old) (length points.old) (length triplets.old) (length left.old) (length lengths.old) }
     ensures value { result ≡ list_tests (input_grid input.now) addresses.now map.now }
-    ensures lengths_after { result ≡ Accepted → lists classes.new points.new triplets.new left.new lengths.new ≡ lists_of (input_grid input.now) addresses.now map.now (length classes.old) }
+    ensures lengths_after { let l = lists_of (input_grid input.now) addresses.now map.now (length classes.old) in
+        result ≡ Accepted → lists classes.new points.new triplets.new left.new lengths.new ≡ l }
 {
     wipe_lists(
         &mut *classes,

@@ -2,8 +2,8 @@
 ghost use Rattle.std.specs.Prelude.{◌≡◌, T, length};
 ghost use Rattle.common.specs.Limits.{diagonal_fits};
 ghost use Rattle.common.specs.Tested.{after, Accepted};
-ghost use Rattle.zone_steps.specs.Steps.{rotation_tests, grid_tests};
-ghost use Rattle.zone_steps.specs.StepsView.{input_grid, turned_grid, rooms, lists, Agreed, Listed};
+ghost use Rattle.zone_steps.specs.Steps.{rotation_tests, listed};
+ghost use Rattle.zone_steps.specs.StepsView.{input_grid, turned_grid, rooms_of, lists, Agreed};
 
 use crate::grid::Input;
 use crate::{basis, grid};
@@ -24,8 +24,12 @@ fn list_grid(
 ) -> Result<(), Refusal>
     requires fact_1 { T (diagonal_fits input.now.d) }
     requires fact_2 { Agreed (length classes.old) (length points.old) (length triplets.old) (length left.old) (length lengths.old) }
-    ensures value { result ≡ grid_tests (input_grid input.now) ps (rooms (length addresses.old) (length map.old) (length grg.old) (length classes.old) (length points.old) (length triplets.old) (length left.old) (length lengths.old)) }
-    ensures listed { result ≡ Accepted → Listed (input_grid input.now) ps (rooms (length addresses.old) (length map.old) (length grg.old) (length classes.old) (length points.old) (length triplets.old) (length left.old) (length lengths.old)) addresses.new map.new grg.new (lists classes.new points.new triplets.new left.new lengths.new) }
+    ensures value { let r = rooms_of addresses.old map.old grg.old classes.old points.old triplets.old left.old lengths.old in
+        result ≡ (listed (input_grid input.now) ps r).answer }
+    ensures tables { let r = rooms_of addresses.old map.old grg.old classes.old points.old triplets.old left.old lengths.old in
+        let l = lists classes.new points.new triplets.new left.new lengths.new in
+        let o = listed (input_grid input.now) ps r in
+        result ≡ Accepted → record { answer = Accepted; addresses = addresses.new; map = map.new; grg = grg.new; lists = l } ≡ o }
 {
     let n = grgrid::points(grgrid::grid_of(input.d));
     if classes.len() < n {
@@ -60,8 +64,13 @@ pub fn list_in_basis(
     lengths: &mut [f64],
 ) -> Result<(), Refusal>
     requires { Agreed (length classes.old) (length points.old) (length triplets.old) (length left.old) (length lengths.old) }
-    ensures value { result ≡ after (rotation_tests input.now.rotations.now input.now.is_time_reversal input.now.d input.now.q) (grid_tests (turned_grid input.now) ps (rooms (length addresses.old) (length map.old) (length grg.old) (length classes.old) (length points.old) (length triplets.old) (length left.old) (length lengths.old))) }
-    ensures listed { result ≡ Accepted → Listed (turned_grid input.now) ps (rooms (length addresses.old) (length map.old) (length grg.old) (length classes.old) (length points.old) (length triplets.old) (length left.old) (length lengths.old)) addresses.new map.new grg.new (lists classes.new points.new triplets.new left.new lengths.new) }
+    ensures value { let r = rooms_of addresses.old map.old grg.old classes.old points.old triplets.old left.old lengths.old in
+        let i = input.now in
+        result ≡ after (rotation_tests i.rotations.now i.is_time_reversal i.d i.q) (listed (turned_grid i) ps r).answer }
+    ensures tables { let r = rooms_of addresses.old map.old grg.old classes.old points.old triplets.old left.old lengths.old in
+        let l = lists classes.new points.new triplets.new left.new lengths.new in
+        let o = listed (turned_grid input.now) ps r in
+        result ≡ Accepted → record { answer = Accepted; addresses = addresses.new; map = map.new; grg = grg.new; lists = l } ≡ o }
 {
     let mut turned = [0; 432];
     let n = basis::turn_rotations(

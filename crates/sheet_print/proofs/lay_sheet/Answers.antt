@@ -1,12 +1,9 @@
 use mathlib.Core.Path.{◌∙◌, ap}
-use mathlib.Core.List.{map}
-use lib.IntN.{pos}
 use lib.ListN.{length}
 use lib.Seq.{length-take-le}
 use borrow.Author.Rules.{rules}
 use Rattle.std.specs.Prelude.{Ok}
-use Rattle.common.specs.Tested.{output_of, giving}
-use Rattle.bzgrid.specs.BzGridAddresses.{padded}
+use Rattle.common.specs.Tested.{giving}
 use Rattle.grgrid.specs.Grid.{size}
 use Rattle.zone_list.proofs.Listed.{held-count}
 use Rattle.sheet_print.specs.SheetText.{sheet_of}
@@ -19,13 +16,6 @@ returns-then-sheet-n-clause-value c =
     let t = sheet_of a.f a.classes.now a.triplets.now in
     let n = sheet-long c.requires (held-count c.requires.whole) c.place_count-n.ensures in
     ap (λ r. giving r (length t)) (rooms-refused t n c.fill.ensures.len c.then-sheet-n.either)
-
-pub returns-then-sheet-n-clause-sheet_after : goal.returns-then-sheet-n-clause-sheet_after
-returns-then-sheet-n-clause-sheet_after c =
-    let a = c.args in
-    let t = sheet_of a.f a.classes.now a.triplets.now in
-    let n = sheet-long c.requires (held-count c.requires.whole) c.place_count-n.ensures in
-    search rules ∙ ap (λ r. output_of r (length a.sheet.now) (padded (map pos t) (length a.sheet.now))) (rooms-refused t n c.fill.ensures.len c.then-sheet-n.either)
 
 pub returns-clause-value : goal.returns-clause-value
 returns-clause-value c =
@@ -43,4 +33,4 @@ returns-clause-sheet_after c =
     let n = sheet-long c.requires u c.place_count-n.ensures in
     let long = length-take-le c.place_count-n.result c.fill.new.self c.if-sheet-n.false in
     let laid = sheet-laid c.requires u (c.points-points.ensures ∙ ap size c.grid_of.ensures) (long ∙ c.place_count-n.ensures) c.class_sheet.ensures.value in
-    laid-whole t n m laid (search rules) ∙ ap (λ r. output_of r m (padded (map pos t) m)) (rooms-there t n c.fill.ensures.len c.if-sheet-n.false c.if-room-n.false)
+    laid-whole t n m laid (search rules)

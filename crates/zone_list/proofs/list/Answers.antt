@@ -1,68 +1,21 @@
-use mathlib.Core.Path.{◌≡◌, sym, ◌∙◌, ap}
+use mathlib.Core.Path.{◌≡◌}
+use lib.ListN.{length}
 use borrow.Author.Rules.{rules}
 use Rattle.std.specs.Prelude.{Err}
-use Rattle.zone_list.specs.List.{addresses_left, map_left, grg_left, lists_left}
-use Rattle.zone_list.proofs.Listed.{whole-job, listed_answer, listed-text, refused-tests, refused-answer, refused-blank, listed-tests, no-room, addresses-wiped, map-wiped, grg-wiped, lists-wiped}
+use Rattle.zone_list.proofs.Listed.{whole-job, listed-refused, listed-told, listed-wiped}
 use Rattle.zone_list.proofs.list.Goals as goal
 
 pub print_finished-printed-requires : goal.print_finished-printed-requires
-print_finished-printed-requires c = whole-job _ _ c.in_ok-f.ensures.value (search rules) (search rules)
+print_finished-printed-requires c = whole-job _ _ c.in_ok-f.ensures (search rules) (search rules)
 
--- ---- a refused job
-pub returns-in_err-f-clause-value : goal.returns-in_err-f-clause-value
-returns-in_err-f-clause-value c =
+pub returns-in_err-f : goal.returns-in_err-f
+returns-in_err-f c =
     let e : c.from_residual.result ≡ Err c.in_err-f.field-0.0 = search rules in
-    e ∙ refused-answer _ _ _ (sym c.run_job.ensures.value ∙ c.in_err-f.was)
+    listed-refused _ _ _ c.in_err-f.ensures e (search rules)
 
-pub returns-in_err-f-clause-addresses_after : goal.returns-in_err-f-clause-addresses_after
-returns-in_err-f-clause-addresses_after c = c.run_job.ensures.addresses_after ∙ ap (addresses_left _ _) (refused-tests _ _ _ (sym c.run_job.ensures.value ∙ c.in_err-f.was))
+pub returns-then-is_err : goal.returns-then-is_err
+returns-then-is_err c =
+    listed-wiped _ _ (length c.args.text.now) c.in_ok-f.ensures (search rules) (search rules) (search rules) (search rules) (search rules) (search rules) (search rules)
 
-pub returns-in_err-f-clause-map_after : goal.returns-in_err-f-clause-map_after
-returns-in_err-f-clause-map_after c = c.run_job.ensures.map_after ∙ ap (map_left _ _) (refused-tests _ _ _ (sym c.run_job.ensures.value ∙ c.in_err-f.was))
-
-pub returns-in_err-f-clause-grg_after : goal.returns-in_err-f-clause-grg_after
-returns-in_err-f-clause-grg_after c = c.run_job.ensures.grg_after ∙ ap (grg_left _ _) (refused-tests _ _ _ (sym c.run_job.ensures.value ∙ c.in_err-f.was))
-
-pub returns-in_err-f-clause-lengths_after : goal.returns-in_err-f-clause-lengths_after
-returns-in_err-f-clause-lengths_after c = c.run_job.ensures.lengths_after ∙ ap (lists_left _ _) (refused-tests _ _ _ (sym c.run_job.ensures.value ∙ c.in_err-f.was))
-
-pub returns-in_err-f-clause-text_after : goal.returns-in_err-f-clause-text_after
-returns-in_err-f-clause-text_after c = refused-blank _ _ _ (sym c.run_job.ensures.value ∙ c.in_err-f.was) (search rules)
-
--- ---- a text without room
-pub returns-then-is_err-clause-value : goal.returns-then-is_err-clause-value
-returns-then-is_err-clause-value c = listed_answer _ _ c.in_ok-f.ensures.value c.in_ok-f.ensures.lengths_after _ (search rules)
-
-pub returns-then-is_err-clause-addresses_after : goal.returns-then-is_err-clause-addresses_after
-returns-then-is_err-clause-addresses_after c = addresses-wiped _ _ (no-room _ _ _ (returns-then-is_err-clause-value c) (search rules)).1 (search rules)
-
-pub returns-then-is_err-clause-map_after : goal.returns-then-is_err-clause-map_after
-returns-then-is_err-clause-map_after c = map-wiped _ _ (no-room _ _ _ (returns-then-is_err-clause-value c) (search rules)).1 (search rules)
-
-pub returns-then-is_err-clause-grg_after : goal.returns-then-is_err-clause-grg_after
-returns-then-is_err-clause-grg_after c = grg-wiped _ _ (no-room _ _ _ (returns-then-is_err-clause-value c) (search rules)).1 (search rules)
-
-pub returns-then-is_err-clause-lengths_after : goal.returns-then-is_err-clause-lengths_after
-returns-then-is_err-clause-lengths_after c = lists-wiped _ _ (no-room _ _ _ (returns-then-is_err-clause-value c) (search rules)).1 (search rules)
-
-pub returns-then-is_err-clause-text_after : goal.returns-then-is_err-clause-text_after
-returns-then-is_err-clause-text_after c = listed-text _ _ c.in_ok-f.ensures.value c.in_ok-f.ensures.lengths_after _ (search rules)
-
--- ---- a listing
-pub returns-else-is_err-clause-value : goal.returns-else-is_err-clause-value
-returns-else-is_err-clause-value c = listed_answer _ _ c.in_ok-f.ensures.value c.in_ok-f.ensures.lengths_after _ (search rules)
-
-pub returns-else-is_err-clause-addresses_after : goal.returns-else-is_err-clause-addresses_after
-returns-else-is_err-clause-addresses_after c = c.in_ok-f.ensures.addresses_after ∙ ap (addresses_left _ _) (listed-tests _ _ _ (returns-else-is_err-clause-value c) c.in_ok-f.ensures.value (search rules))
-
-pub returns-else-is_err-clause-map_after : goal.returns-else-is_err-clause-map_after
-returns-else-is_err-clause-map_after c = c.in_ok-f.ensures.map_after ∙ ap (map_left _ _) (listed-tests _ _ _ (returns-else-is_err-clause-value c) c.in_ok-f.ensures.value (search rules))
-
-pub returns-else-is_err-clause-grg_after : goal.returns-else-is_err-clause-grg_after
-returns-else-is_err-clause-grg_after c = c.in_ok-f.ensures.grg_after ∙ ap (grg_left _ _) (listed-tests _ _ _ (returns-else-is_err-clause-value c) c.in_ok-f.ensures.value (search rules))
-
-pub returns-else-is_err-clause-lengths_after : goal.returns-else-is_err-clause-lengths_after
-returns-else-is_err-clause-lengths_after c = c.in_ok-f.ensures.lengths_after ∙ ap (lists_left _ _) (listed-tests _ _ _ (returns-else-is_err-clause-value c) c.in_ok-f.ensures.value (search rules))
-
-pub returns-else-is_err-clause-text_after : goal.returns-else-is_err-clause-text_after
-returns-else-is_err-clause-text_after c = listed-text _ _ c.in_ok-f.ensures.value c.in_ok-f.ensures.lengths_after _ (search rules)
+pub returns-else-is_err : goal.returns-else-is_err
+returns-else-is_err c = listed-told _ _ (length c.args.text.now) c.in_ok-f.ensures (search rules) (search rules) (search rules)

@@ -1,14 +1,15 @@
 use mathlib.Core.Path.{◌∙◌, ap}
+use Rattle.common.specs.declared.Refusal.TheVariants.{WrongLength}
 use Rattle.grgrid.specs.Grid.{size}
-use Rattle.zone_list.proofs.Listed.{first-places, held-count, text-answered, text-printed}
+use Rattle.job.specs.Writing.{printed}
+use Rattle.std.specs.Option.{ok_or}
+use lib.ListN.{length}
+use Rattle.zone_list.proofs.Listed.{first-places, held-count, same_text, text-answered}
 use Rattle.zone_list.proofs.print_finished.Goals as goal
 
-pub returns-clause-value : goal.returns-clause-value
-returns-clause-value c =
+pub returns : goal.returns
+returns c =
+    let n = length c.args.text.now in
     let h = first-places c.args.classes.now (c.points-n.ensures ∙ ap size c.grid_of.ensures) in
-    c.ok_or.ensures.value ∙ text-answered c.args.f c.args.classes.now c.args.triplets.now _ (held-count c.requires) c.print_listing.ensures.value h
-
-pub returns-clause-text_after : goal.returns-clause-text_after
-returns-clause-text_after c =
-    let h = first-places c.args.classes.now (c.points-n.ensures ∙ ap size c.grid_of.ensures) in
-    text-printed c.args.f c.args.classes.now c.args.triplets.now _ (held-count c.requires) c.print_listing.ensures.out_after h
+    let p = c.print_listing.ensures ∙ ap (λ t. printed t n) (same_text c.args.f c.args.classes.now c.args.triplets.now (held-count c.requires) h) in
+    record { value = c.ok_or.ensures.value ∙ ap (λ o. ok_or o.so_far WrongLength) p ∙ text-answered _ n; text_after = ap (λ o. o.text) p }

@@ -4,7 +4,7 @@ use lib.ListN.{length}
 use borrow.Author.Rules.{rules}
 use Rattle.std.specs.Prelude.{Err}
 use Rattle.common.specs.declared.Refusal.TheVariants.{OutsideLimits}
-use Rattle.class_sheet.specs.SheetView.{sign, signed}
+use Rattle.class_sheet.specs.Code.SheetView.{sign, signed}
 use Rattle.class_sheet.proofs.Putting.{no-room, put-last, signed-one, signed-last, signed-some}
 use Rattle.class_sheet.proofs.field.+put_digits.Goals as goal
 

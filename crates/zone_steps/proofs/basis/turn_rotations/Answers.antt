@@ -11,33 +11,31 @@ pub returns-in_err-n-clause-result_value : goal.returns-in_err-n-clause-result_v
 returns-in_err-n-clause-result_value c =
     let s = c.args in
     let e : c.from_residual.result ≡ Err c.in_err-n.field-0.0 = search rules in
-    ap without_value e ∙ turned-refused s.rotations.now s.is_time_reversal s.d s.q c.reciprocal_group.ensures.value c.in_err-n.was
+    ap without_value e ∙ turned-refused s.rotations.now s.is_time_reversal c.reciprocal_group.ensures c.in_err-n.was s.d s.q
 
 pub overflow_mul-n : goal.overflow_mul-n
 overflow_mul-n c =
-    let h = few-rotations c.args.rotations.now c.args.is_time_reversal c.reciprocal_group.ensures.value c.in_ok-n.was in
+    let h = few-rotations c.args.rotations.now c.args.is_time_reversal c.reciprocal_group.ensures c.in_ok-n.was in
     search rules
 
 pub slice_bounds-transform_rotations-end : goal.slice_bounds-transform_rotations-end
 slice_bounds-transform_rotations-end c =
-    let h = few-rotations c.args.rotations.now c.args.is_time_reversal c.reciprocal_group.ensures.value c.in_ok-n.was in
+    let h = few-rotations c.args.rotations.now c.args.is_time_reversal c.reciprocal_group.ensures c.in_ok-n.was in
     search rules
 
 pub returns-in_err-transform_rotations-clause-result_value : goal.returns-in_err-transform_rotations-clause-result_value
 returns-in_err-transform_rotations-clause-result_value c =
     let s = c.args in
-    let g = c.reciprocal_group.ensures in
     let e : c.from_residual-in_err-transform_rotations.result ≡ Err c.in_err-transform_rotations.field-0.0 = search rules in
     ap without_value e
     ∙ sym (ap without_value c.in_err-transform_rotations.was)
-    ∙ turned-tested s.rotations.now s.is_time_reversal g.value c.in_ok-n.was s.d s.q s.out.now c.requires g.out_after c.transform_rotations.ensures.value
+    ∙ turned-tested s.rotations.now s.is_time_reversal c.reciprocal_group.ensures c.in_ok-n.was s.d s.q s.out.now c.requires c.transform_rotations.ensures
 
 pub returns-clause-result_value : goal.returns-clause-result_value
 returns-clause-result_value c =
     let s = c.args in
-    let g = c.reciprocal_group.ensures in
     sym (ap without_value c.in_ok-transform_rotations.was)
-    ∙ turned-tested s.rotations.now s.is_time_reversal g.value c.in_ok-n.was s.d s.q s.out.now c.requires g.out_after c.transform_rotations.ensures.value
+    ∙ turned-tested s.rotations.now s.is_time_reversal c.reciprocal_group.ensures c.in_ok-n.was s.d s.q s.out.now c.requires c.transform_rotations.ensures
 
 pub returns-clause-turned_into : goal.returns-clause-turned_into
 returns-clause-turned_into c =
@@ -45,4 +43,4 @@ returns-clause-turned_into c =
     let g = c.reciprocal_group.ensures in
     let t = c.transform_rotations in
     let m : length t.new.out ≡ length (take (c.in_ok-n.n * 9 - 0) s.out.now) = search rules in
-    (few-rotations s.rotations.now s.is_time_reversal g.value c.in_ok-n.was, turned-list s.rotations.now s.is_time_reversal g.value c.in_ok-n.was s.d s.q s.out.now c.requires g.out_after t.ensures.out_after m _)
+    (few-rotations s.rotations.now s.is_time_reversal g c.in_ok-n.was, turned-list s.rotations.now s.is_time_reversal g c.in_ok-n.was s.d s.q s.out.now c.requires t.ensures m _)

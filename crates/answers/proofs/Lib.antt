@@ -1,12 +1,2 @@
-pub mod Lengths
-pub mod Grids
-pub mod ClassWeights
-pub mod GroupAnswers
-pub mod Diagonals
-pub mod Forms
-pub mod Transforms
-pub mod ImageTables
-pub mod MarksTold
-pub mod TripletClasses
-pub mod ImageTriplets
-pub mod WorstPairs
+pub mod Entries
+pub mod ToldFits

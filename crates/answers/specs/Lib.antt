@@ -1,6 +1,7 @@
+pub mod Lengths
 pub mod Grids
 pub mod ClassWeights
-pub mod PointGroupTold
+pub mod PointGroups
 pub mod Diagonals
 pub mod Forms
 pub mod Transforms

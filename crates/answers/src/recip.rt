@@ -2,7 +2,7 @@
 ghost use Rattle.std.specs.Prelude.{◌≡◌, ◌<◌, ◌≤◌, length, IfOk};
 ghost use Rattle.common.specs.Tested.{answer_of};
 ghost use Rattle.recip_rotations.specs.PointGroup.{count_of};
-ghost use Rattle.answers.specs.PointGroupTold.{count_told, PointGroupTold};
+ghost use Rattle.answers.specs.PointGroups.{count_told, group_told};
 
 use crate::{refuse, tell};
 use common::Refusal;
@@ -22,7 +22,8 @@ pub fn tell_count(answer: Result<usize, Refusal>, told: &mut [i64]) -> i64
 
 pub fn tell_group(answer: Result<usize, Refusal>, out: &mut [i64], told: &mut [i64]) -> i64
     requires { count_of answer ≤ 48 }
-    ensures { PointGroupTold answer out.old (length out.old) (length told.old) result out.new told.new }
+    ensures { record { answer = result; out = out.new; told = told.new }
+        ≡ group_told (record { answer = answer; out = out.old }) (length out.old) (length told.old) }
 {
     if told.len() != 1 {
         out.fill(-1);

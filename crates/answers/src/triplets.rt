@@ -1,9 +1,8 @@
 // What the exports of triplet_grid and bz_triplets tell.
-ghost use Rattle.std.specs.Prelude.{◌≡◌, pos, negsuc, length, replicate};
+ghost use Rattle.std.specs.Prelude.{◌≡◌, negsuc, length, replicate};
 ghost use Rattle.std.specs.Float.{binary64};
 ghost use Rattle.std.specs.Float.Ieee.{of_int};
-ghost use Rattle.common.specs.declared.Refusal.TheVariants.{WrongLength};
-ghost use Rattle.common.specs.Refusal.{number_of};
+ghost use Rattle.answers.specs.Lengths.{wrong_length, unwritten};
 ghost use Rattle.answers.specs.Triplets.{triplet_class_lengths, triplet_lengths};
 
 use crate::refuse;
@@ -22,9 +21,9 @@ pub fn triplet_lengths(d: usize, q: usize, lattice: usize) -> bool
 
 // Three outputs: see docs/DECISIONS.md, 'Output slices'.
 pub fn refuse_triplets(out: &mut [i64], left: &mut [i64], left_length: &mut [f64]) -> i64
-    ensures value { result ≡ pos (number_of WrongLength) }
-    ensures out_after { out.new ≡ replicate (length out.old) (negsuc 0) }
-    ensures left_after { left.new ≡ replicate (length left.old) (negsuc 0) }
+    ensures value { result ≡ wrong_length }
+    ensures out_after { out.new ≡ unwritten (length out.old) }
+    ensures left_after { left.new ≡ unwritten (length left.old) }
     ensures left_length_after { left_length.new ≡ replicate (length left_length.old) (of_int binary64 (negsuc 0)) }
 {
     left_length.fill(-1.0);

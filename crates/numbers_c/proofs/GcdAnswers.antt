@@ -8,8 +8,7 @@ use lib.ListN.{replicate}
 use borrow.Author.Tests.{eq-eqb, ne_eqb}
 use mir.Syntax.{w64}
 use mir.Val.{SFits}
-use Rattle.std.specs.Prelude.{Option, Some, None}
-use Rattle.integer.specs.Checked.{pick}
+use Rattle.std.specs.Prelude.{Option, Some, None, cond}
 use Rattle.integer.proofs.Fits.{fits-size, range-fits, sfits-range}
 use Rattle.common.specs.declared.Refusal.TheVariants.{WrongLength}
 use Rattle.common.specs.Refusal.{number_of}
@@ -38,13 +37,13 @@ module _ (a b : ℤ) (n : ℕ) {r : ℤ} {told : List ℤ} where
   pub gcd-unsized : (n ≡ 4 → ⊥) → r ≡ pos (number_of WrongLength) → told ≡ replicate n (negsuc 0) → GcdTold a b n r told
   gcd-unsized h er et =
       let e = sym (ne_eqb n 4 h) in record {
-        answer = er ∙ ap (λ t. pick t (gcd_number (counted_gcd a b)) (pos (number_of WrongLength))) e;
-        value = et ∙ ap (λ t. pick t (gcd_told (counted_gcd a b)) (replicate n (negsuc 0))) e;
+        answer = er ∙ ap (λ t. cond t (gcd_number (counted_gcd a b)) (pos (number_of WrongLength))) e;
+        value = et ∙ ap (λ t. cond t (gcd_told (counted_gcd a b)) (replicate n (negsuc 0))) e;
       }
 
   pub gcd-told : n ≡ 4 → {g : Option Counted} → g ≡ counted_gcd a b → r ≡ gcd_number g → told ≡ gcd_told g → GcdTold a b n r told
   gcd-told h eg er et =
       let e = sym (eq-eqb n 4 h) in record {
-        answer = er ∙ ap gcd_number eg ∙ ap (λ t. pick t (gcd_number (counted_gcd a b)) (pos (number_of WrongLength))) e;
-        value = et ∙ ap gcd_told eg ∙ ap (λ t. pick t (gcd_told (counted_gcd a b)) (replicate n (negsuc 0))) e;
+        answer = er ∙ ap gcd_number eg ∙ ap (λ t. cond t (gcd_number (counted_gcd a b)) (pos (number_of WrongLength))) e;
+        value = et ∙ ap gcd_told eg ∙ ap (λ t. cond t (gcd_told (counted_gcd a b)) (replicate n (negsuc 0))) e;
       }

@@ -1,6 +1,5 @@
 -- What the export of the extended gcd answers, and what it leaves in `told`: r, s and t with r = s·a + t·b, and the divisions that it took.
-use Rattle.std.specs.Prelude.{◌≡◌, List, [], ◌∷◌, ℕ, eqb, ℤ, pos, negsuc, replicate, Option, Some, None}
-use Rattle.integer.specs.Checked.{pick}
+use Rattle.std.specs.Prelude.{◌≡◌, List, [], ◌∷◌, ℕ, eqb, ℤ, pos, negsuc, replicate, Option, Some, None, cond}
 use Rattle.common.specs.declared.Refusal.TheVariants.{Overflow, WrongLength}
 use Rattle.common.specs.Refusal.{number_of}
 use Rattle.snf_steps.specs.declared.gcd.Counted.{Counted}
@@ -17,5 +16,5 @@ gcd_told None = replicate 4 (negsuc 0)
 
 -- the answer r and `told`, which had n places
 pub record GcdTold (a b : ℤ) (n : ℕ) (r : ℤ) (told : List ℤ) : Type 0 where
-  pub answer : r ≡ pick (eqb n 4) (gcd_number (counted_gcd a b)) (pos (number_of WrongLength))
-  pub value : told ≡ pick (eqb n 4) (gcd_told (counted_gcd a b)) (replicate n (negsuc 0))
+  pub answer : r ≡ cond (eqb n 4) (gcd_number (counted_gcd a b)) (pos (number_of WrongLength))
+  pub value : told ≡ cond (eqb n 4) (gcd_told (counted_gcd a b)) (replicate n (negsuc 0))

@@ -1,6 +1,5 @@
 -- What an export of a checked operation answers, and what it leaves in its output, which has one place.
-use Rattle.std.specs.Prelude.{◌≡◌, List, [], ◌∷◌, ℕ, eqb, ℤ, pos, negsuc, length, replicate, Result, Ok, Err}
-use Rattle.integer.specs.Checked.{pick}
+use Rattle.std.specs.Prelude.{◌≡◌, List, [], ◌∷◌, ℕ, eqb, ℤ, pos, negsuc, length, replicate, Result, Ok, Err, cond}
 use Rattle.integer.specs.declared.ArithmeticError.{ArithmeticError}
 use Rattle.common.specs.declared.Refusal.TheVariants.{Overflow, WrongLength}
 use Rattle.common.specs.Refusal.{number_of}
@@ -12,10 +11,10 @@ checked_answer (Err e) = pos (number_of Overflow)
 
 -- n is the output's length
 abbrev pub told_answer : ℕ → Result ℤ ArithmeticError → ℤ
-told_answer n c = pick (eqb n 1) (checked_answer c) (pos (number_of WrongLength))
+told_answer n c = cond (eqb n 1) (checked_answer c) (pos (number_of WrongLength))
 
 abbrev pub told : ℕ → Result ℤ ArithmeticError → List ℤ
-told n (Ok z) = pick (eqb n 1) (z ∷ []) (replicate n (negsuc 0))
+told n (Ok z) = cond (eqb n 1) (z ∷ []) (replicate n (negsuc 0))
 told n (Err e) = replicate n (negsuc 0)
 
 -- the whole answer r and output after, where the output was before

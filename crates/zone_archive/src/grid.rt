@@ -1,6 +1,6 @@
 // The exports of grgrid.
-ghost use Rattle.std.specs.Prelude.{length};
-ghost use Rattle.answers.specs.Grids.{IrGridMapTold, AddressesTold};
+ghost use Rattle.std.specs.Prelude.{◌≡◌, length};
+ghost use Rattle.answers.specs.Grids.{zone_ir_grid_map, zone_all_grid_addresses};
 
 #[unsafe(no_mangle)]
 pub extern "C" fn zone_ir_grid_map(
@@ -10,14 +10,14 @@ pub extern "C" fn zone_ir_grid_map(
     map: &mut [i64],
     told: &mut [i64],
 ) -> i64
-    ensures { IrGridMapTold rotations.now d.now ps.now (length map.old) (length told.old) result map.new told.new }
+    ensures { record { answer = result; map = map.new; told = told.new } ≡ zone_ir_grid_map rotations.now d.now ps.now (length map.old) (length told.old) }
 {
     zone_c::zone_ir_grid_map(rotations, d, ps, map, told)
 }
 
 #[unsafe(no_mangle)]
 pub extern "C" fn zone_all_grid_addresses(d: &[i64], out: &mut [i64]) -> i64
-    ensures { AddressesTold d.now (length out.old) result out.new }
+    ensures { record { answer = result; out = out.new } ≡ zone_all_grid_addresses d.now (length out.old) }
 {
     zone_c::zone_all_grid_addresses(d, out)
 }

@@ -1,6 +1,6 @@
 // The exports of bzgrid.
-ghost use Rattle.std.specs.Prelude.{length};
-ghost use Rattle.answers.specs.Images.{BzGridAddressesTold, RotateTold, NeighboursTold};
+ghost use Rattle.std.specs.Prelude.{◌≡◌, length};
+ghost use Rattle.answers.specs.Images.{zone_bz_grid_addresses, zone_rotate_bz_grid_index, zone_neighboring_grid_points};
 
 #[unsafe(no_mangle)]
 pub extern "C" fn zone_bz_grid_addresses(
@@ -14,7 +14,8 @@ pub extern "C" fn zone_bz_grid_addresses(
     grg: &mut [i64],
     told: &mut [i64],
 ) -> i64
-    ensures { BzGridAddressesTold d.now q.now ps.now lattice.now bz_grid_type (length addresses.old) (length map.old) (length grg.old) (length told.old) result addresses.new map.new grg.new told.new }
+    ensures { record { answer = result; addresses = addresses.new; map = map.new; grg = grg.new; told = told.new }
+        ≡ zone_bz_grid_addresses d.now q.now ps.now lattice.now bz_grid_type (length addresses.old) (length map.old) (length grg.old) (length told.old) }
 {
     zone_c::zone_bz_grid_addresses(d, q, ps, lattice, bz_grid_type, addresses, map, grg, told)
 }
@@ -30,7 +31,8 @@ pub extern "C" fn zone_rotate_bz_grid_index(
     bz_grid_type: i64,
     told: &mut [i64],
 ) -> i64
-    ensures { RotateTold index rotation.now addresses.now map.now d.now ps.now bz_grid_type (length told.old) result told.new }
+    ensures { record { answer = result; told = told.new }
+        ≡ zone_rotate_bz_grid_index index rotation.now addresses.now map.now d.now ps.now bz_grid_type (length told.old) }
 {
     zone_c::zone_rotate_bz_grid_index(index, rotation, addresses, map, d, ps, bz_grid_type, told)
 }
@@ -45,7 +47,8 @@ pub extern "C" fn zone_neighboring_grid_points(
     bz_grid_type: i64,
     out: &mut [i64],
 ) -> i64
-    ensures { NeighboursTold points.now offsets.now addresses.now map.now d.now bz_grid_type (length out.old) result out.new }
+    ensures { record { answer = result; out = out.new }
+        ≡ zone_neighboring_grid_points points.now offsets.now addresses.now map.now d.now bz_grid_type (length out.old) }
 {
     zone_c::zone_neighboring_grid_points(points, offsets, addresses, map, d, bz_grid_type, out)
 }

@@ -1,6 +1,6 @@
 // The exports of triplet_grid and bz_triplets.
-ghost use Rattle.std.specs.Prelude.{length};
-ghost use Rattle.answers.specs.Triplets.{IrTripletsTold, BzTripletsTold};
+ghost use Rattle.std.specs.Prelude.{◌≡◌, length};
+ghost use Rattle.answers.specs.Triplets.{zone_ir_triplets_at_q, zone_bz_triplets_at_q};
 
 #[unsafe(no_mangle)]
 pub extern "C" fn zone_ir_triplets_at_q(
@@ -13,7 +13,8 @@ pub extern "C" fn zone_ir_triplets_at_q(
     map_q: &mut [i64],
     told: &mut [i64],
 ) -> i64
-    ensures { IrTripletsTold q0 d.now rotations.now time_reversal swappable (length map_triplets.old) (length map_q.old) (length told.old) result map_triplets.new map_q.new told.new }
+    ensures { record { answer = result; map_triplets = map_triplets.new; map_q = map_q.new; told = told.new }
+        ≡ zone_ir_triplets_at_q q0 d.now rotations.now time_reversal swappable (length map_triplets.old) (length map_q.old) (length told.old) }
 {
     zone_c::zone_ir_triplets_at_q(
         q0,
@@ -41,7 +42,11 @@ pub extern "C" fn zone_bz_triplets_at_q(
     left: &mut [i64],
     left_length: &mut [f64],
 ) -> i64
-    ensures { BzTripletsTold q0 addresses.now map.now class_map.now d.now q.now lattice.now bz_grid_type (length out.old) (length left.old) (length left_length.old) result out.new left.new left_length.new }
+    ensures { let n = length out.old in
+        let m = length left.old in
+        let l = length left_length.old in
+        record { answer = result; out = out.new; left = left.new; left_length = left_length.new }
+        ≡ zone_bz_triplets_at_q q0 addresses.now map.now class_map.now d.now q.now lattice.now bz_grid_type n m l }
 {
     zone_c::zone_bz_triplets_at_q(
         q0,

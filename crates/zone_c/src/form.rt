@@ -1,9 +1,9 @@
 // The exports of hermite3x3.
-ghost use Rattle.std.specs.Prelude.{length};
-ghost use Rattle.answers.specs.Forms.{Hermite3x3Told, OrderFormsTold, SameGridTold};
+ghost use Rattle.std.specs.Prelude.{◌≡◌, length};
+ghost use Rattle.answers.specs.Forms.{zone_hermite3x3, zone_order_forms, zone_same_grid};
 
 pub fn zone_hermite3x3(a: &[i64], h: &mut [i64]) -> i64
-    ensures { Hermite3x3Told a.now (length h.old) result h.new }
+    ensures { record { answer = result; h = h.new } ≡ zone_hermite3x3 a.now (length h.old) }
 {
     if !answers::form_lengths(a.len(), h.len()) {
         return answers::refuse(h);
@@ -13,7 +13,7 @@ pub fn zone_hermite3x3(a: &[i64], h: &mut [i64]) -> i64
 
 // Whether the first comes before the second (0), is equal to it (1), or comes after it (2).
 pub fn zone_order_forms(g: &[i64], h: &[i64], told: &mut [i64]) -> i64
-    ensures { OrderFormsTold g.now h.now (length told.old) result told.new }
+    ensures { record { answer = result; told = told.new } ≡ zone_order_forms g.now h.now (length told.old) }
 {
     if g.len() != 9 || h.len() != 9 || told.len() != 1 {
         return answers::refuse(told);
@@ -24,7 +24,7 @@ pub fn zone_order_forms(g: &[i64], h: &[i64], told: &mut [i64]) -> i64
 }
 
 pub fn zone_same_grid(a: &[i64], b: &[i64], told: &mut [i64]) -> i64
-    ensures { SameGridTold a.now b.now (length told.old) result told.new }
+    ensures { record { answer = result; told = told.new } ≡ zone_same_grid a.now b.now (length told.old) }
 {
     if a.len() != 9 || b.len() != 9 || told.len() != 1 {
         return answers::refuse(told);

@@ -1,6 +1,6 @@
 // The exports of grgrid.
-ghost use Rattle.std.specs.Prelude.{length};
-ghost use Rattle.answers.specs.Grids.{IrGridMapTold, AddressesTold};
+ghost use Rattle.std.specs.Prelude.{◌≡◌, length};
+ghost use Rattle.answers.specs.Grids.{zone_ir_grid_map, zone_all_grid_addresses};
 
 pub fn zone_ir_grid_map(
     rotations: &[i64],
@@ -9,7 +9,7 @@ pub fn zone_ir_grid_map(
     map: &mut [i64],
     told: &mut [i64],
 ) -> i64
-    ensures { IrGridMapTold rotations.now d.now ps.now (length map.old) (length told.old) result map.new told.new }
+    ensures { record { answer = result; map = map.new; told = told.new } ≡ zone_ir_grid_map rotations.now d.now ps.now (length map.old) (length told.old) }
 {
     if !answers::class_lengths(d.len(), ps.len(), told.len()) {
         map.fill(-1);
@@ -22,7 +22,7 @@ pub fn zone_ir_grid_map(
 }
 
 pub fn zone_all_grid_addresses(d: &[i64], out: &mut [i64]) -> i64
-    ensures { AddressesTold d.now (length out.old) result out.new }
+    ensures { record { answer = result; out = out.new } ≡ zone_all_grid_addresses d.now (length out.old) }
 {
     if d.len() != 3 {
         return answers::refuse(out);

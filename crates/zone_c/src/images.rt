@@ -1,6 +1,6 @@
 // The exports of bzgrid.
-ghost use Rattle.std.specs.Prelude.{length};
-ghost use Rattle.answers.specs.Images.{BzGridAddressesTold, RotateTold, NeighboursTold};
+ghost use Rattle.std.specs.Prelude.{◌≡◌, length};
+ghost use Rattle.answers.specs.Images.{zone_bz_grid_addresses, zone_rotate_bz_grid_index, zone_neighboring_grid_points};
 
 pub fn zone_bz_grid_addresses(
     d: &[i64],
@@ -13,7 +13,8 @@ pub fn zone_bz_grid_addresses(
     grg: &mut [i64],
     told: &mut [i64],
 ) -> i64
-    ensures { BzGridAddressesTold d.now q.now ps.now lattice.now bz_grid_type (length addresses.old) (length map.old) (length grg.old) (length told.old) result addresses.new map.new grg.new told.new }
+    ensures { record { answer = result; addresses = addresses.new; map = map.new; grg = grg.new; told = told.new }
+        ≡ zone_bz_grid_addresses d.now q.now ps.now lattice.now bz_grid_type (length addresses.old) (length map.old) (length grg.old) (length told.old) }
 {
     if !answers::image_lengths(d.len(), q.len(), ps.len(), lattice.len(), told.len()) {
         return answers::refuse_four(addresses, map, grg, told);
@@ -43,7 +44,8 @@ pub fn zone_rotate_bz_grid_index(
     bz_grid_type: i64,
     told: &mut [i64],
 ) -> i64
-    ensures { RotateTold index rotation.now addresses.now map.now d.now ps.now bz_grid_type (length told.old) result told.new }
+    ensures { record { answer = result; told = told.new }
+        ≡ zone_rotate_bz_grid_index index rotation.now addresses.now map.now d.now ps.now bz_grid_type (length told.old) }
 {
     if !answers::rotate_lengths(rotation.len(), d.len(), ps.len(), told.len()) {
         return answers::refuse(told);
@@ -71,7 +73,8 @@ pub fn zone_neighboring_grid_points(
     bz_grid_type: i64,
     out: &mut [i64],
 ) -> i64
-    ensures { NeighboursTold points.now offsets.now addresses.now map.now d.now bz_grid_type (length out.old) result out.new }
+    ensures { record { answer = result; out = out.new }
+        ≡ zone_neighboring_grid_points points.now offsets.now addresses.now map.now d.now bz_grid_type (length out.old) }
 {
     if d.len() != 3 {
         return answers::refuse(out);

@@ -1,14 +1,14 @@
 // The export of a job's listing.
 ghost use Rattle.std.specs.Prelude.{◌≡◌, length};
-ghost use Rattle.zone_list.specs.List.{list_rooms, list_answer, list_text};
-ghost use Rattle.zone_c.specs.Lists.{ZoneListTold};
+ghost use Rattle.zone_list.specs.List.{list_rooms, list};
+ghost use Rattle.zone_c.specs.Lists.{zone_list};
 
 use common::Refusal;
 
 // In arrays for 256 points and 1,024 images. Fixed arrays: no heap.
 fn list_job(job: &[u8], text: &mut [u8]) -> Result<usize, Refusal>
-    ensures value { result ≡ list_answer job.now list_rooms (length text.old) }
-    ensures text_after { text.new ≡ list_text job.now list_rooms (length text.old) }
+    ensures value { result ≡ (list job.now list_rooms (length text.old)).answer }
+    ensures text_after { text.new ≡ (list job.now list_rooms (length text.old)).text }
 {
     let mut addresses = [0; 3072];
     let mut map = [-1; 2305];
@@ -33,7 +33,7 @@ fn list_job(job: &[u8], text: &mut [u8]) -> Result<usize, Refusal>
 }
 
 pub fn zone_list(job: &[u8], text: &mut [u8], told: &mut [i64]) -> i64
-    ensures { ZoneListTold job.now (length text.old) (length told.old) result text.new told.new }
+    ensures { record { answer = result; text = text.new; told = told.new } ≡ zone_list job.now (length text.old) (length told.old) }
 {
     if told.len() != 1 {
         text.fill(0);

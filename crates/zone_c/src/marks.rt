@@ -1,6 +1,8 @@
 // The export of mark_candidates.
-ghost use Rattle.std.specs.Prelude.{length};
-ghost use Rattle.answers.specs.Marks.{MarkCandidatesTold};
+ghost use Rattle.std.specs.Prelude.{◌≡◌, pos, length};
+ghost use Rattle.common.specs.Array.{rows, matrix_at};
+ghost use Rattle.mark_candidates.specs.CertainMarks.{MarksSay};
+ghost use Rattle.answers.specs.Marks.{zone_mark_candidates};
 
 pub fn zone_mark_candidates(
     d: &[i64],
@@ -11,8 +13,9 @@ pub fn zone_mark_candidates(
     point: i64,
     marks: &mut [i64],
 ) -> i64
-    ensures { let out = MarkCandidatesTold d.now q.now ps.now lowest.now highest.now point in
-        out (length marks.old) result marks.new }
+    ensures outcome { record { answer = result; marks = marks.new }
+        ≡ zone_mark_candidates d.now q.now ps.now lowest.now highest.now point (length marks.old) }
+    ensures marks_say { result ≡ pos 0 → MarksSay d.now (rows (matrix_at q.now 0)) ps.now lowest.now highest.now point marks.new }
 {
     if !answers::mark_lengths(d.len(), q.len(), ps.len(), lowest.len(), highest.len()) {
         return answers::refuse(marks);

@@ -1,8 +1,6 @@
 // The reciprocal point group, of any list and of one that must be a group.
-ghost use Rattle.std.specs.Prelude.{true, length};
-ghost use Rattle.recip_rotations.specs.PointGroup.{point_group_answer, point_group_written};
-ghost use Rattle.rotation_group.specs.ReciprocalGroup.{reciprocal_answer, reciprocal_written};
-ghost use Rattle.answers.specs.PointGroupTold.{PointGroupTold};
+ghost use Rattle.std.specs.Prelude.{◌≡◌, length};
+ghost use Rattle.answers.specs.PointGroups.{zone_reciprocal_point_group, zone_reciprocal_rotations, zone_reciprocal_group};
 
 pub fn zone_reciprocal_point_group(
     rotations: &[i64],
@@ -11,7 +9,8 @@ pub fn zone_reciprocal_point_group(
     out: &mut [i64],
     told: &mut [i64],
 ) -> i64
-    ensures { PointGroupTold (point_group_answer rotations.now time_reversal transpose (length out.old)) (point_group_written rotations.now time_reversal transpose (length out.old)) (length out.old) (length told.old) result out.new told.new }
+    ensures { record { answer = result; out = out.new; told = told.new }
+        ≡ zone_reciprocal_point_group rotations.now time_reversal transpose (length out.old) (length told.old) }
 {
     let answer = recip_rotations::get_reciprocal_point_group(
         rotations,
@@ -28,7 +27,8 @@ pub fn zone_reciprocal_rotations(
     out: &mut [i64],
     told: &mut [i64],
 ) -> i64
-    ensures { PointGroupTold (point_group_answer rotations.now time_reversal true (length out.old)) (point_group_written rotations.now time_reversal true (length out.old)) (length out.old) (length told.old) result out.new told.new }
+    ensures { record { answer = result; out = out.new; told = told.new }
+        ≡ zone_reciprocal_rotations rotations.now time_reversal (length out.old) (length told.old) }
 {
     let answer = recip_rotations::reciprocal_rotations(rotations, time_reversal, out);
     answers::tell_group(answer, out, told)
@@ -40,10 +40,8 @@ pub fn zone_reciprocal_group(
     out: &mut [i64],
     told: &mut [i64],
 ) -> i64
-    ensures { let l = rotations.now in
-        let n = length out.old in
-        let k = length told.old in
-        PointGroupTold (reciprocal_answer l time_reversal n) (reciprocal_written l time_reversal n) n k result out.new told.new }
+    ensures { record { answer = result; out = out.new; told = told.new }
+        ≡ zone_reciprocal_group rotations.now time_reversal (length out.old) (length told.old) }
 {
     let answer = rotation_group::reciprocal_group(rotations, time_reversal, out);
     answers::tell_group(answer, out, told)

@@ -1,9 +1,9 @@
 // The export of transform_rotations.
-ghost use Rattle.std.specs.Prelude.{length};
-ghost use Rattle.answers.specs.Transforms.{TransformRotationsTold};
+ghost use Rattle.std.specs.Prelude.{◌≡◌, length};
+ghost use Rattle.answers.specs.Transforms.{zone_transform_rotations};
 
 pub fn zone_transform_rotations(rotations: &[i64], d: &[i64], q: &[i64], out: &mut [i64]) -> i64
-    ensures { TransformRotationsTold rotations.now d.now q.now (length out.old) result out.new }
+    ensures { record { answer = result; out = out.new } ≡ zone_transform_rotations rotations.now d.now q.now (length out.old) }
 {
     if !answers::transform_lengths(d.len(), q.len()) {
         return answers::refuse(out);

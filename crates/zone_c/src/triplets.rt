@@ -1,6 +1,6 @@
 // The exports of triplet_grid and bz_triplets.
-ghost use Rattle.std.specs.Prelude.{length};
-ghost use Rattle.answers.specs.Triplets.{IrTripletsTold, BzTripletsTold};
+ghost use Rattle.std.specs.Prelude.{◌≡◌, length};
+ghost use Rattle.answers.specs.Triplets.{zone_ir_triplets_at_q, zone_bz_triplets_at_q};
 
 pub fn zone_ir_triplets_at_q(
     q0: i64,
@@ -12,7 +12,8 @@ pub fn zone_ir_triplets_at_q(
     map_q: &mut [i64],
     told: &mut [i64],
 ) -> i64
-    ensures { IrTripletsTold q0 d.now rotations.now time_reversal swappable (length map_triplets.old) (length map_q.old) (length told.old) result map_triplets.new map_q.new told.new }
+    ensures { record { answer = result; map_triplets = map_triplets.new; map_q = map_q.new; told = told.new }
+        ≡ zone_ir_triplets_at_q q0 d.now rotations.now time_reversal swappable (length map_triplets.old) (length map_q.old) (length told.old) }
 {
     if !answers::triplet_class_lengths(d.len(), told.len()) {
         return answers::refuse_three(map_triplets, map_q, told);
@@ -44,7 +45,11 @@ pub fn zone_bz_triplets_at_q(
     left: &mut [i64],
     left_length: &mut [f64],
 ) -> i64
-    ensures { BzTripletsTold q0 addresses.now map.now class_map.now d.now q.now lattice.now bz_grid_type (length out.old) (length left.old) (length left_length.old) result out.new left.new left_length.new }
+    ensures { let n = length out.old in
+        let m = length left.old in
+        let l = length left_length.old in
+        record { answer = result; out = out.new; left = left.new; left_length = left_length.new }
+        ≡ zone_bz_triplets_at_q q0 addresses.now map.now class_map.now d.now q.now lattice.now bz_grid_type n m l }
 {
     if !answers::triplet_lengths(d.len(), q.len(), lattice.len()) {
         return answers::refuse_triplets(out, left, left_length);

@@ -1,7 +1,6 @@
 // The weights of the classes.
-ghost use Rattle.std.specs.Prelude.{length};
-ghost use Rattle.class_weights.specs.ClassWeights.{rooms_of};
-ghost use Rattle.answers.specs.ClassWeights.{weight_lengths, weights_outcome, WeightsTold};
+ghost use Rattle.std.specs.Prelude.{◌≡◌, length};
+ghost use Rattle.answers.specs.ClassWeights.{zone_class_weights};
 
 pub fn zone_class_weights(
     rotations: &[i64],
@@ -13,11 +12,8 @@ pub fn zone_class_weights(
     keepers: &mut [i64],
     told: &mut [i64],
 ) -> i64
-    ensures { let rooms = rooms_of (length weights.old) (length members.old) (length keepers.old) in
-        let m = length told.old in
-        let o = weights_outcome rotations.now d.now ps.now point rooms m in
-        let lengths = weight_lengths (length d.now) (length ps.now) m in
-        WeightsTold o lengths m result weights.new members.new keepers.new told.new }
+    ensures { record { answer = result; weights = weights.new; members = members.new; keepers = keepers.new; told = told.new }
+        ≡ zone_class_weights rotations.now d.now ps.now point (length weights.old) (length members.old) (length keepers.old) (length told.old) }
 {
     if !answers::weight_lengths(d.len(), ps.len(), told.len()) {
         return answers::refuse_four(weights, members, keepers, told);

@@ -1,12 +1,13 @@
-use mathlib.Core.Path.{sym, ◌∙◌}
-use lib.ListN.{length}
-use Rattle.integer.proofs.Fits.{held-is}
-use Rattle.answers.proofs.ImageTables.{rotate-passed}
+use mathlib.Core.Path.{◌∙◌}
+use mir.Facts.{to_z-of_z}
+use borrow.Author.Rules.{rules}
+use Rattle.answers.proofs.Entries.{three-entries}
 use Rattle.zone_c.proofs.images.zone_rotate_bz_grid_index.Goals as goal
 
 pub returns : goal.returns
 returns c =
     let s = c.args in
-    rotate-passed s.index s.rotation.now s.addresses.now s.map.now s.d.now s.ps.now s.bz_grid_type (length s.told.now) (sym c.rotate_lengths.ensures ∙ c.if-not-rotate_lengths.false)
-    (held-is s.index c.ranges.index.sfits) (held-is s.bz_grid_type c.ranges.bz_grid_type.sfits) c.matrix_at.ensures c.row_at.ensures c.row_at-2.ensures c.rotate_bz_grid_index.ensures
-    (held-is c.tell_rotated.result c.tell_rotated.type_inv ∙ c.tell_rotated.ensures.value) c.tell_rotated.ensures.told_after
+    let d = c.row_at.ensures ∙ three-entries s.d.now (search rules) in
+    let ps = c.row_at-2.ensures ∙ three-entries s.ps.now (search rules) in
+    let o = rw (to_z-of_z c.ranges.index, to_z-of_z c.ranges.bz_grid_type, c.matrix_at.ensures, d, ps) at c.rotate_bz_grid_index.ensures in
+    search rules

@@ -1,6 +1,6 @@
 use mir.Facts.{to_z-of_z}
 use Rattle.worst_pair.specs.WorstPair.{Answers}
-use Rattle.answers.proofs.WorstPairs.{pair_fits}
+use Rattle.answers.proofs.ToldFits.{pair_fits}
 use Rattle.zone_c.proofs.pair.zone_worst_pair.Goals as goal
 
 pub tell_pair-requires-clause-fact_2 : goal.tell_pair-requires-clause-fact_2

@@ -1,15 +1,12 @@
-use mathlib.Core.Path.{sym, ◌∙◌, ap}
-use lib.ListN.{length}
-use Rattle.integer.proofs.Fits.{held-is}
-use Rattle.class_weights.specs.ClassWeights.{rooms_of, class_weights}
-use Rattle.answers.proofs.ClassWeights.{weights-passed}
+use mathlib.Core.Path.{◌∙◌}
+use mir.Facts.{to_z-of_z}
+use borrow.Author.Rules.{rules}
+use Rattle.answers.proofs.Entries.{three-entries}
 use Rattle.zone_c.proofs.weights.zone_class_weights.Goals as goal
 
 pub returns : goal.returns
 returns c =
-    let s = c.args in
-    let rooms = rooms_of (length s.weights.now) (length s.members.now) (length s.keepers.now) in
-    weights-passed s.rotations.now s.d.now s.ps.now s.point rooms (length s.told.now) (sym c.weight_lengths.ensures ∙ c.if-not-weight_lengths.false)
-    c.row_at.ensures c.row_at-2.ensures
-    (c.class_weights.ensures ∙ ap (λ q. class_weights s.rotations.now c.row_at.result c.row_at-2.result q rooms) (held-is s.point c.ranges.point.sfits))
-    (held-is c.tell_weights.result c.tell_weights.type_inv ∙ c.tell_weights.ensures.value) c.tell_weights.ensures.told_after
+    let d = c.row_at.ensures ∙ three-entries c.args.d.now (search rules) in
+    let ps = c.row_at-2.ensures ∙ three-entries c.args.ps.now (search rules) in
+    let o = rw (to_z-of_z c.ranges.point, d, ps) at c.class_weights.ensures in
+    search rules

@@ -106,7 +106,8 @@ module _ {R : Type 0} (o : Ops R) where
   -- the transpose of the cofactors, whose signs the circle of axes gives
   abbrev pub adjugate_over : Mat R → Mat R
   adjugate_over m =
-      matrix (λ j k. cross (entry m (next k) (next j)) (entry m (next k) (next (next j))) (entry m (next (next k)) (next j)) (entry m (next (next k)) (next (next j))))
+      matrix (λ j k. cross (entry m (next k) (next j)) (entry m (next k) (next (next j)))
+      (entry m (next (next k)) (next j)) (entry m (next (next k)) (next (next j))))
 
   -- v on the diagonal
   abbrev pub diagonal_over : Vec R → Mat R

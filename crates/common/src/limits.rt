@@ -2,7 +2,8 @@
 ghost use Rattle.std.specs.Prelude.{◌≡◌, ◌&&◌, ◌*◌, ◌≤◌, leb, eqb, nat_abs};
 ghost use Rattle.common.specs.Matrix.{all_axes};
 ghost use Rattle.common.specs.Array.{along, matrix_of};
-ghost use Rattle.common.specs.Limits.{within, all_within, matrix_within, rotations_fit, whole_matrices, side_fits, diagonal_fits, half_fits, shift_fits, point_fits};
+ghost use Rattle.common.specs.Limits.{within, all_within, matrix_within, rotations_fit, whole_matrices, side_fits};
+ghost use Rattle.common.specs.Limits.{diagonal_fits, half_fits, shift_fits, point_fits};
 
 pub fn within(z: i64, k: u64) -> bool
     ensures { result ≡ within k z }

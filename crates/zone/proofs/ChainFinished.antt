@@ -7,7 +7,7 @@ use lib.Dec.{T, leb}
 use lib.IntN.{ℤ, pos, negsuc, nat_abs}
 use lib.ListN.{length, take, length-map}
 use lib.Signed.{non_neg}
-use Rattle.std.specs.Prelude.{Result, Ok, Err}
+use Rattle.std.specs.Prelude.{Result, Ok, Err, IfOk}
 use Rattle.common.specs.declared.Refusal.{Refusal}
 use Rattle.common.specs.Matrix.{Vec, Mat}
 use Rattle.common.specs.Array.{matrix_of, matrices, items, rows}
@@ -37,6 +37,7 @@ use Rattle.zone.specs.declared.Finished.{Finished}
 use Rattle.zone_steps.specs.StepsView.{grid}
 use Rattle.zone.specs.ChainFinished.{FinishedChain}
 use Rattle.zone.proofs.Outcomes.{leaving}
+use Rattle.grgrid.proofs.Own.{length-own}
 use Rattle.bzgrid.proofs.Accepted.{passes-first}
 use Rattle.demand3.proofs.AcceptedTriplets.{triplets-accepted, first-in}
 use Rattle.recip_rotations.proofs.ToldPart.{told_part}
@@ -222,10 +223,11 @@ module _ (j : Job) (r : Rooms) (d : Vec ℤ) (p q : Mat ℤ) (rounds : ℕ) (dia
     unfolding calls
     calls-left = record { sides-are = refl; room-is = refl; classes-are = refl; triplets-are = refl }
 
-    finished-calls : {f : Result Finished Refusal} {v : Finished} {x y z : List ℤ} {l : Lists} → leaving f x y z l ≡ outcome_of Accepted v r (listed g j.shift r)
-        → FinishedChain j x y l r.classes
+    finished-calls : {f : Result Finished Refusal} {x y z : List ℤ} {l : Lists}
+        → leaving f x y z l ≡ outcome_of Accepted (record { d = items d; num_ir = pos (count g) }) r (listed g j.shift r)
+        → IfOk f (λ v. FinishedChain j v x y l r.classes)
     unfolding listed lists_of calls
-    finished-calls k = record {
+    finished-calls {f} {x} {y} {z} {l} k = subst (λ f. IfOk f (λ v. FinishedChain j v x y l r.classes)) (sym (ap (λ o. o.answer) k)) (record {
       calls = calls;
       list-is = refl;
       matrix-is = refl;
@@ -235,26 +237,33 @@ module _ (j : Job) (r : Rooms) (d : Vec ℤ) (p q : Mat ℤ) (rounds : ℕ) (dia
       time-is = refl;
       swapping-is = refl;
       q0-is = sym q0-is;
+      rotations-are = refl;
+      diagonal-is = refl;
+      num_ir-is = ap pos (sym (length-own (class_map_of g) (length (class_map_of g))));
+      start_is = sym start_is ∙ ap (λ t. start_of t m j.q0) call.input.known;
       addresses-are = ap (λ o. o.addresses) k;
       map_is = ap (λ o. o.map) k;
       classes-are = ap (λ o. o.lists.classes) k;
       triplets-are = ap (λ o. o.lists.triplets) k;
       finished = finished-list calls (accepted-joined j.rotations j.time_reversal 432 both.0);
-    }
+    })
 
 -- ---- the chain
 pub chain-finished-list : (j : Job) (r : Rooms) → chain_tests j r ≡ Accepted → {f : Result Finished Refusal} {x y z : List ℤ} {l : Lists} → leaving f x y z l ≡ finished_list j r
-    → FinishedChain j x y l r.classes
-unfolding finished_list diagonal
+    → IfOk f (λ v. FinishedChain j v x y l r.classes)
+unfolding finished_list diagonal chain_finished grid_of
 chain-finished-list j r e {f} {x} {y} {z} {l} k =
     go (snf3x3 (matrix_of j.matrix)) refl (passed (rooms_agree r) WrongLength _ e).1 (k ∙ ap (λ t. outcome_of t (chain_finished j) r (listed (grid_of j) j.shift r)) e)
   where
     grid_by : Answer → Grid
     grid_by w = grid (sides_in (written w)) (change_in (written w)) (transformed j.rotations j.time_reversal (sides_in (written w)) (change_in (written w))) j.lattice j.time_reversal j.swappable j.type j.q0
 
+    finished_by : Answer → Finished
+    finished_by w = record { d = sides_in (written w); num_ir = pos (count (grid_by w)) }
+
     go : (w : Answer) → snf3x3 (matrix_of j.matrix) ≡ w
         → after (without_value (written w)) (after (rotation_tests j.rotations j.time_reversal (sides_in (written w)) (change_in (written w))) (listed (grid_by w) j.shift r).answer) ≡ Accepted
-        → leaving f x y z l ≡ outcome_of Accepted (chain_finished j) r (listed (grid_by w) j.shift r) → FinishedChain j x y l r.classes
+        → leaving f x y z l ≡ outcome_of Accepted (finished_by w) r (listed (grid_by w) j.shift r) → IfOk f (λ v. FinishedChain j v x y l r.classes)
     go (refused c) f e k = absurd (not-accepted e)
     go (diagonalised d p q n) f e k =
         let b = both-accepted (rotation_tests j.rotations j.time_reversal (items d) (rows q)) (listed (grid_by (diagonalised d p q n)) j.shift r).answer e in

@@ -26,10 +26,6 @@ module _ {A : Type 0} where
     had (Ok v) h p = p
     had (Err x) h p = absurd (not-both h)
 
-    pub told : (a : Result A Refusal) → P → OnOk a P
-    told (Ok v) p = p
-    told (Err x) p = tt
-
 -- ---- tests t, by which a call gives v and leaves what o does
 abbrev pub leaving : {A : Type 0} → Result A Refusal → (addresses map grg : List ℤ) → Lists → Outcome A
 leaving a x y z l = record { answer = a; addresses = x; map = y; grg = z; lists = l }

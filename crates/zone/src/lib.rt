@@ -1,7 +1,7 @@
 // The chain of calls, from a matrix and its rotations to the finished list.
 #![tactic(auto)]
 
-ghost use Rattle.std.specs.Prelude.{◌≡◌, ◌&&◌, ◌*◌, eqb, negsuc, length, replicate, OnOk};
+ghost use Rattle.std.specs.Prelude.{◌≡◌, ◌&&◌, ◌*◌, eqb, negsuc, length, replicate, OnOk, IfOk};
 ghost use Rattle.zone.specs.Chain.{wiped, finished_list};
 ghost use Rattle.zone.specs.ChainFinished.{FinishedChain};
 ghost use Rattle.zone_steps.specs.StepsView.{rooms_of, lists};
@@ -140,7 +140,7 @@ pub fn finished_list(
         record { answer = result; addresses = addresses.new; map = map.new; grg = grg.new; lists = l } ≡ finished_list j r }
     ensures finished_chain { let j = job a rotations.now lattice ps is_time_reversal swappable bz_grid_type q0 in
         let l = lists classes.new points.new triplets.new left.new lengths.new in
-        OnOk result (FinishedChain j addresses.new map.new l (length classes.old)) }
+        IfOk result (λ v. FinishedChain j v addresses.new map.new l (length classes.old)) }
 {
     let f = run_chain(
         a,

@@ -1,7 +1,7 @@
 use mir.Facts.{to_z-of_z}
 use borrow.Author.Rules.{rules}
 use Rattle.zone.proofs.ChainWhole.{passed-tests, chain-wiped}
-use Rattle.zone.proofs.Outcomes.{had, told}
+use Rattle.zone.proofs.Outcomes.{had}
 use Rattle.zone.proofs.ChainFinished.{chain-finished-list}
 use Rattle.zone.proofs.finished_list.Goals as goal
 
@@ -18,4 +18,4 @@ returns-else-is_err-clause-value c =
 pub returns-else-is_err-clause-finished_chain : goal.returns-else-is_err-clause-finished_chain
 returns-else-is_err-clause-finished_chain c =
     let e = rw (to_z-of_z c.ranges.bz_grid_type, to_z-of_z c.ranges.q0) at c.run_chain-f.ensures.value in
-    told c.run_chain-f.result (chain-finished-list _ _ (passed-tests _ _ e (search rules)) (returns-else-is_err-clause-value c))
+    chain-finished-list _ _ (passed-tests _ _ e (search rules)) (returns-else-is_err-clause-value c)

@@ -5,10 +5,24 @@ ghost use Rattle.std.specs.Prelude.{◌≡◌, ◌&&◌, ◌*◌, eqb, negsuc, l
 ghost use Rattle.zone.specs.Chain.{wiped, finished_list};
 ghost use Rattle.zone.specs.ChainFinished.{FinishedChain};
 ghost use Rattle.zone_steps.specs.StepsView.{rooms_of, lists};
-ghost use Rattle.zone.specs.ChainView.{job};
+ghost use Rattle.zone.specs.ChainView.{asked};
 
 use common::Refusal;
 use zone_steps::Input;
+
+// What a job asks for. The rotations have nine numbers each.
+#[derive(Clone, Copy)]
+pub struct Job<'a> {
+    pub a: [[i64; 3]; 3],
+    pub rotations: &'a [i64],
+    pub lattice: [[f64; 3]; 3],
+    pub ps: [i64; 3],
+    pub is_time_reversal: bool,
+    pub swappable: bool,
+    // Any number: a call refuses one that is no grid type.
+    pub bz_grid_type: i64,
+    pub q0: i64,
+}
 
 // The diagonal and the number of classes.
 #[derive(Clone, Copy)]
@@ -27,16 +41,9 @@ fn rooms_agree(classes: usize, points: usize, triplets: usize, left: usize, leng
         && lengths == classes
 }
 
-// A refusal may leave anything in the outputs. Parameters as those of `finished_list`, outputs as slices: see docs/DECISIONS.md, 'Output slices'.
+// A refusal may leave anything in the outputs, which are slices: see docs/DECISIONS.md, 'Output slices'.
 fn run_chain(
-    a: [[i64; 3]; 3],
-    rotations: &[i64],
-    lattice: [[f64; 3]; 3],
-    ps: [i64; 3],
-    is_time_reversal: bool,
-    swappable: bool,
-    bz_grid_type: i64,
-    q0: i64,
+    job: &Job,
     addresses: &mut [i64],
     map: &mut [i64],
     grg: &mut [i64],
@@ -47,10 +54,10 @@ fn run_chain(
     lengths: &mut [f64],
 ) -> Result<Finished, Refusal>
     ensures value { let r = rooms_of addresses.old map.old grg.old classes.old points.old triplets.old left.old lengths.old in
-        let j = job a rotations.now lattice ps is_time_reversal swappable bz_grid_type q0 in
+        let j = asked job.now in
         result ≡ (finished_list j r).answer }
     ensures tables { let r = rooms_of addresses.old map.old grg.old classes.old points.old triplets.old left.old lengths.old in
-        let j = job a rotations.now lattice ps is_time_reversal swappable bz_grid_type q0 in
+        let j = asked job.now in
         let l = lists classes.new points.new triplets.new left.new lengths.new in
         OnOk result (record { answer = result; addresses = addresses.new; map = map.new; grg = grg.new; lists = l } ≡ finished_list j r) }
 {
@@ -63,22 +70,22 @@ fn run_chain(
     ) {
         return Err(Refusal::WrongLength);
     }
-    let s = snf3x3::snf3x3(a)?;
+    let s = snf3x3::snf3x3(job.a)?;
     let d = s.d_diag;
     let q = s.q;
     let input = Input {
         d,
         q: integer_matrix::nested(q),
-        rotations,
-        lattice,
-        is_time_reversal,
-        swappable,
-        bz_grid_type,
-        q0,
+        rotations: job.rotations,
+        lattice: job.lattice,
+        is_time_reversal: job.is_time_reversal,
+        swappable: job.swappable,
+        bz_grid_type: job.bz_grid_type,
+        q0: job.q0,
     };
     zone_steps::list_in_basis(
         &input,
-        ps,
+        job.ps,
         addresses,
         map,
         grg,
@@ -114,17 +121,10 @@ pub fn wipe(
     zone_steps::wipe_lists(classes, points, triplets, left, lengths);
 }
 
-// Diagonalises a, takes the reciprocal rotations of a list that must be a group, transforms them, and runs images, classes and triplets. An output
+// Diagonalises the matrix, takes the reciprocal rotations of a list that must be a group, transforms them, and runs images, classes and triplets. An output
 // may be longer than needed. The last promise is demand 3, said of these slices.
 pub fn finished_list(
-    a: [[i64; 3]; 3],
-    rotations: &[i64],
-    lattice: [[f64; 3]; 3],
-    ps: [i64; 3],
-    is_time_reversal: bool,
-    swappable: bool,
-    bz_grid_type: i64,
-    q0: i64,
+    job: &Job,
     addresses: &mut [i64],
     map: &mut [i64],
     grg: &mut [i64],
@@ -135,22 +135,15 @@ pub fn finished_list(
     lengths: &mut [f64],
 ) -> Result<Finished, Refusal>
     ensures value { let r = rooms_of addresses.old map.old grg.old classes.old points.old triplets.old left.old lengths.old in
-        let j = job a rotations.now lattice ps is_time_reversal swappable bz_grid_type q0 in
+        let j = asked job.now in
         let l = lists classes.new points.new triplets.new left.new lengths.new in
         record { answer = result; addresses = addresses.new; map = map.new; grg = grg.new; lists = l } ≡ finished_list j r }
-    ensures finished_chain { let j = job a rotations.now lattice ps is_time_reversal swappable bz_grid_type q0 in
+    ensures finished_chain { let j = asked job.now in
         let l = lists classes.new points.new triplets.new left.new lengths.new in
         IfOk result (λ v. FinishedChain j v addresses.new map.new l (length classes.old)) }
 {
     let f = run_chain(
-        a,
-        rotations,
-        lattice,
-        ps,
-        is_time_reversal,
-        swappable,
-        bz_grid_type,
-        q0,
+        job,
         &mut *addresses,
         &mut *map,
         &mut *grg,

@@ -8,7 +8,7 @@ ghost use Rattle.zone_steps.specs.StepsView.{rooms_of, lists};
 ghost use Rattle.zone_list.specs.List.{run_job, text_of, room_tests, Listing, list, Whole};
 
 use common::Refusal;
-use zone::Finished;
+use zone::{Finished, Job};
 
 // Reads a job and runs the chain on it, without shift. Outputs as slices: see docs/DECISIONS.md, 'Output slices'. A fixed array for the rotations: no heap.
 pub fn run_job(
@@ -32,23 +32,18 @@ pub fn run_job(
             let a = j.a;
             let lattice = j.lattice;
             let n = 9 * j.count;
+            let asked = Job {
+                a: integer_matrix::nested(a),
+                rotations: &rotations[0..n],
+                lattice: common::nested(lattice),
+                ps: [0, 0, 0],
+                is_time_reversal: j.time_reversal,
+                swappable: j.swapping,
+                bz_grid_type: j.grid_type,
+                q0: j.q0,
+            };
             zone::finished_list(
-                integer_matrix::nested(a),
-                &rotations[0..n],
-                common::nested(lattice),
-                [0, 0, 0],
-                j.time_reversal,
-                j.swapping,
-                j.grid_type,
-                j.q0,
-                addresses,
-                map,
-                grg,
-                classes,
-                points,
-                triplets,
-                left,
-                lengths,
+                &asked, addresses, map, grg, classes, points, triplets, left, lengths,
             )
         }
         Err(r) => {

@@ -1,4 +1,3 @@
-use mir.Facts.{to_z-of_z}
 use borrow.Author.Rules.{rules}
 use Rattle.zone.proofs.ChainWhole.{passed-tests, chain-wiped}
 use Rattle.zone.proofs.Outcomes.{had}
@@ -7,15 +6,15 @@ use Rattle.zone.proofs.finished_list.Goals as goal
 
 pub returns-then-is_err-clause-value : goal.returns-then-is_err-clause-value
 returns-then-is_err-clause-value c =
-    let e = rw (to_z-of_z c.ranges.bz_grid_type, to_z-of_z c.ranges.q0) at c.run_chain-f.ensures.value in
+    let e = c.run_chain-f.ensures.value in
     chain-wiped _ _ e (search rules) (search rules) (search rules) (search rules) (search rules)
 
 pub returns-else-is_err-clause-value : goal.returns-else-is_err-clause-value
 returns-else-is_err-clause-value c =
-    let l = rw (to_z-of_z c.ranges.bz_grid_type, to_z-of_z c.ranges.q0) at c.run_chain-f.ensures.tables in
+    let l = c.run_chain-f.ensures.tables in
     had c.run_chain-f.result (search rules) l
 
 pub returns-else-is_err-clause-finished_chain : goal.returns-else-is_err-clause-finished_chain
 returns-else-is_err-clause-finished_chain c =
-    let e = rw (to_z-of_z c.ranges.bz_grid_type, to_z-of_z c.ranges.q0) at c.run_chain-f.ensures.value in
+    let e = c.run_chain-f.ensures.value in
     chain-finished-list _ _ (passed-tests _ _ e (search rules)) (returns-else-is_err-clause-value c)

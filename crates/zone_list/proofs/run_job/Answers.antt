@@ -9,8 +9,8 @@ overflow_mul-n c =
     let h = few-counted c.args.bytes.now (sym c.in-Ok.ensures.value) in
     search rules
 
-pub slice_bounds-finished_list-end : goal.slice_bounds-finished_list-end
-slice_bounds-finished_list-end c =
+pub slice_bounds-asked-end : goal.slice_bounds-asked-end
+slice_bounds-asked-end c =
     let h = few-counted c.args.bytes.now (sym c.in-Ok.ensures.value) in
     search rules
 

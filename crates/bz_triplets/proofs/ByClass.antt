@@ -23,7 +23,7 @@ use Rattle.bz_triplets.specs.declared.choices.Step.TheVariants as step
 use Rattle.bz_triplets.specs.declared.choices.Triplet.{Triplet}
 use Rattle.bz_triplets.specs.Choosing.{start, left, closed}
 use Rattle.bz_triplets.specs.BzTriplets.{State, read_each, places_of, mark_of, length_of, triplet_list, marks, lengths}
-use Rattle.bz_triplets.specs.Code.TripletsView.{found_by, choice_view, state_of, step_place, Room}
+use Rattle.bz_triplets.specs.Code.TripletsView.{found_by, choice_view, state_of, step_place, RoomFor}
 
 -- ---- the three places of a triplet, one after the other
 pub places-stored : (t : Triplet) (at : ℕ) (out : List ℤ) → at + 3 ≤ length out → {a b c : ℤ} → a ≡ step_place t.step t.choice.x.at → b ≡ step_place t.step t.choice.y.at → c ≡ step_place t.step t.choice.z.at
@@ -80,7 +80,7 @@ triplets-more : (r : List State) (s : State) → triplet_list (r ++ (s ∷ [])) 
 triplets-more [] s = append-nil (places_of s)
 triplets-more (t ∷ r) s = ap (λ l. places_of t ++ l) (triplets-more r s) ∙ sym (append_assoc (places_of t) (triplet_list r) (places_of s))
 
-pub same-room : {classes : List ℤ} {n m l n' m' l' : ℕ} → Room classes n m l → Room classes n' m' l' → (n ≡ n') × (m ≡ m') × (l ≡ l')
+pub same-room : {classes : List ℤ} {n m l n' m' l' : ℕ} → RoomFor classes n m l → RoomFor classes n' m' l' → (n ≡ n') × (m ≡ m') × (l ≡ l')
 same-room a b = (a.triplets ∙ sym b.triplets, a.left ∙ sym b.left, a.lengths ∙ sym b.lengths)
 
 -- ---- f reads the triplet of a class; those of the first q points stand in the first `at` places
@@ -91,7 +91,7 @@ pub record Filled (f : ℕ → Read State) (classes : List ℤ) (q at : ℕ) (ou
   pub places : take (at * 3) out ≡ triplet_list states
   pub marks : take at marked ≡ marks states
   pub lengths : take at measured ≡ lengths states
-  pub room : Room classes (length out) (length marked) (length measured)
+  pub room : RoomFor classes (length out) (length marked) (length measured)
 
 -- of outputs that are told by equations
 pub filled-as : {f : ℕ → Read State} {classes : List ℤ} {q at at' : ℕ} {out out' marked marked' : List ℤ} {measured measured' : List Float}
@@ -99,7 +99,7 @@ pub filled-as : {f : ℕ → Read State} {classes : List ℤ} {q at at' : ℕ} {
 filled-as ea eo em el d = rw (ea, eo, em, el) d
 
 module _ (f : ℕ → Read State) (classes : List ℤ) where
-  pub filled_none : (out marked : List ℤ) (measured : List Float) → Room classes (length out) (length marked) (length measured) → Filled f classes 0 0 out marked measured
+  pub filled_none : (out marked : List ℤ) (measured : List Float) → RoomFor classes (length out) (length marked) (length measured) → Filled f classes 0 0 out marked measured
   filled_none out marked measured h = record { states = []; read = refl; count = refl; places = refl; marks = refl; lengths = refl; room = h }
 
   module _ {q at : ℕ} {out marked : List ℤ} {measured : List Float} (d : Filled f classes q at out marked measured) where

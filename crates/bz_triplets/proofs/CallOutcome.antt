@@ -35,7 +35,7 @@ use Rattle.bzgrid.proofs.Accepted.{passes}
 use Rattle.bzsearch.specs.Lattice.{lattice_fits}
 use Rattle.bztable.specs.Reading.{Read, got, whole_addresses, address_of, list_of}
 use Rattle.bz_triplets.specs.BzTriplets.{State, Walk, walk_of, point_of, triplet_of, triplet_at, read_each, is_dense, input_tests, triplets_read, states_read, triplet_list, marks, lengths, BzTriplets, triplet_tests, bz_triplets_at_q}
-use Rattle.bz_triplets.specs.Code.TripletsView.{Room}
+use Rattle.bz_triplets.specs.Code.TripletsView.{RoomFor}
 
 -- ---- an address that was read was asked for by a number that is not negative
 pub asked-for : (addresses : List ℤ) (q0 : ℤ) {a : Vec ℤ} → got a ≡ address_of addresses q0 → T (non_neg q0)
@@ -69,7 +69,7 @@ pub record Input : Type 0 where
   pub l : ℕ
 
 pub record InputAccepted (i : Input) (k : GridType) : Type 0 where
-  pub room : Room i.classes i.n i.m i.l
+  pub room : RoomFor i.classes i.n i.m i.l
   pub grid : T (diagonal_fits i.d)
   pub known : grid_type_of i.t ≡ Ok k
 

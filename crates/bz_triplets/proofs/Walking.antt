@@ -17,7 +17,8 @@ use Rattle.bz_triplets.specs.declared.choices.Step.{Step}
 use Rattle.bz_triplets.specs.declared.choices.Step.TheVariants as step
 use Rattle.bz_triplets.specs.declared.choices.Triplet.{Triplet}
 use Rattle.bz_triplets.specs.Choosing.{nested}
-use Rattle.bz_triplets.specs.BzTriplets.{State, Walk, try_at, place_in}
+use Rattle.bz_triplets.specs.BzTriplets.{State, Walk, try_at}
+use Rattle.bztable.specs.Access.{place_in}
 use Rattle.bz_triplets.specs.Code.TripletsView.{found_by, choice_view, state_of, is_closed}
 
 -- ---- one walk

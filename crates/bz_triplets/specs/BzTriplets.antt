@@ -1,6 +1,6 @@
 -- `bz_triplets_at_q`: for each class a triplet of images of q0, q1 and q2. The image table and the class map may hold anything.
-use Rattle.std.specs.Prelude.{Bool, true, false, ◌&&◌, ◌||◌, List, [], ◌∷◌, ◌++◌, map as map_list, ℕ, zero, suc, ◌+◌}
-use Rattle.std.specs.Prelude.{◌*◌, ◌-◌, eqb, ℤ, pos, negsuc, nat_abs, ◌+ℤ◌, length, Float, Result, Ok, Err}
+use Rattle.std.specs.Prelude.{Bool, true, false, ◌&&◌, ◌||◌, List, [], ◌∷◌, ◌++◌, map as map_list, ℕ}
+use Rattle.std.specs.Prelude.{◌*◌, eqb, ℤ, pos, negsuc, nat_abs, ◌+ℤ◌, length, Float, Result, Ok, Err}
 use Rattle.std.specs.Float.{binary64}
 use Rattle.std.specs.Float.Ieee.{sub, div, of_int, lt}
 use Rattle.integer.specs.Same.{same}
@@ -17,9 +17,9 @@ use Rattle.bzgrid.specs.declared.GridType.{GridType}
 use Rattle.bzgrid.specs.declared.GridType.TheVariants.{Sparse, Dense}
 use Rattle.bzsearch.specs.Lattice.{bz_tolerance, lattice_fits}
 use Rattle.bzsearch.specs.Search.{length_squared}
-use Rattle.bzgrid.specs.Table.{listed}
 use Rattle.bzgrid.specs.BzGridAddresses.{grid_type_of}
-use Rattle.bztable.specs.Reading.{Read, got, whole_addresses, address_at, address_of, place_at, list_of}
+use Rattle.bztable.specs.Access.{image_places, first_place}
+use Rattle.bztable.specs.Reading.{Read, got, whole_addresses, address_at, address_of, list_of}
 use Rattle.triplet_grid.specs.Partner.{third}
 use Rattle.bz_triplets.specs.Choosing.{Found, start, left, closed, tried, nested}
 
@@ -66,26 +66,16 @@ try_at w (Ok (left x c)) p = try_read w (left x c) p
 try_at w (Ok (closed c)) p = got (closed c)
 try_at w (Err r) p = Err r
 
--- ---- the places of the images of point p, one of n, in their order
-abbrev pub place_in : (first others : ℕ) → ℕ → ℕ
-place_in first others zero = first
-place_in first others (suc k) = others + k
-
-abbrev pub places_read : GridType → List ℤ → ℕ → ℕ → Read (List ℕ)
-places_read Sparse map n p = place_at map (8 * n + p) then λ s. place_at map (8 * n + p + 1) then λ e. got (listed (place_in p (n + s)) (e + 1 - s))
-places_read Dense map n p = place_at map p then λ s. place_at map (p + 1) then λ e. got (listed (place_in s (s + 1)) (e - s))
-
 -- ---- the triplet of the class of q1
 unfoldable pub chosen : GridType → ℕ → List ℤ → Walk → (q0 q1 q2 : ℕ) → Read State
 unfolding try_at
 chosen t n map w q0 q1 q2 =
-    places_read t map n q0 then λ x. places_read t map n q1 then λ y. places_read t map n q2 then λ z.
+    image_places t map n q0 then λ x. image_places t map n q1 then λ y. image_places t map n q2 then λ z.
     nested (try_at w) (got start) (record { x = x; y = y; z = z })
 
 -- the address of the first image of q1
 abbrev pub first_of : (map addresses : List ℤ) → GridType → ℕ → Read (Vec ℤ)
-first_of map addresses Sparse q1 = address_at addresses q1
-first_of map addresses Dense q1 = place_at map q1 then address_at addresses
+first_of map addresses t q1 = first_place t map q1 then address_at addresses
 
 -- where a0 is an address of q0
 unfoldable pub triplet_of : GridType → Vec ℕ → List ℤ → Walk → Vec ℤ → (q0 q1 : ℕ) → Read State

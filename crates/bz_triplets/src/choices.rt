@@ -4,7 +4,8 @@ ghost use Rattle.common.specs.Array.{vector_of, items, Sized};
 ghost use Rattle.bzsearch.specs.SearchView.{float_nine};
 ghost use Rattle.bztable.specs.Reading.{got};
 ghost use Rattle.bz_triplets.specs.Choosing.{start, nested};
-ghost use Rattle.bz_triplets.specs.BzTriplets.{squared_distance, sum_of, is_zero, tried_sum, try_at, place_in};
+ghost use Rattle.bz_triplets.specs.BzTriplets.{squared_distance, sum_of, is_zero, tried_sum, try_at};
+ghost use Rattle.bztable.specs.Access.{place_in};
 ghost use Rattle.bz_triplets.specs.Code.TripletsView.{state_of, state_read, places_in, walk_by, shorter, is_closed, choice_view};
 
 use crate::places::{Choice, Place, Places};

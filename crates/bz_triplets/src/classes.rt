@@ -5,11 +5,11 @@ ghost use Rattle.common.specs.Array.{vector_of, Sized};
 ghost use Rattle.grgrid.specs.Grid.{size};
 ghost use Rattle.grgrid.specs.Own.{own_points};
 ghost use Rattle.grgrid.specs.Sides.{sides};
-ghost use Rattle.bzgrid.specs.declared.GridType.TheVariants.{Sparse, Dense};
+ghost use Rattle.bztable.specs.Access.{image_places};
 ghost use Rattle.bztable.specs.Reading.{got, vector_read};
-ghost use Rattle.bz_triplets.specs.BzTriplets.{places_read, chosen, first_of, triplet_of, read_each, places_of};
+ghost use Rattle.bz_triplets.specs.BzTriplets.{chosen, first_of, triplet_of, read_each, places_of};
 ghost use Rattle.bz_triplets.specs.BzTriplets.{mark_of, length_of, triplet_list, marks, lengths};
-ghost use Rattle.bz_triplets.specs.Code.TripletsView.{state_of, state_read, places_listed, walk_by, step_place, Room};
+ghost use Rattle.bz_triplets.specs.Code.TripletsView.{state_of, state_read, places_listed, walk_by, step_place, RoomFor};
 
 use crate::choices;
 use crate::choices::{Measure, Step, Triplet};
@@ -22,38 +22,22 @@ use grgrid::Address;
 
 // ---- the images of a point
 
-// The first image at place p, the counts of the others after the doubled mesh.
-fn sparse_places(table: &Table, p: Place) -> Result<Places, Refusal>
-    ensures { places_listed result ≡ places_read Sparse table.now.map.now (size (sides table.now.g)) p.at }
-{
-    let n = grgrid::points(table.g);
-    let s = reading::place_at(table.map, 8 * n + p.at)?;
-    let e = reading::place_at(table.map, 8 * n + p.at + 1)?;
-    Ok(Places {
-        first: p,
-        others: n + s,
-        count: (e + 1).saturating_sub(s),
-    })
-}
-
-fn dense_places(table: &Table, p: Place) -> Result<Places, Refusal>
-    ensures { places_listed result ≡ places_read Dense table.now.map.now (size (sides table.now.g)) p.at }
-{
-    let s = reading::place_at(table.map, p.at)?;
-    let e = reading::place_at(table.map, p.at + 1)?;
-    Ok(Places {
-        first: Place { at: s },
-        others: s + 1,
-        count: e.saturating_sub(s),
-    })
-}
-
 fn places_at(table: &Table, p: Place) -> Result<Places, Refusal>
-    ensures { places_listed result ≡ places_read table.now.t table.now.map.now (size (sides table.now.g)) p.at }
+    ensures { places_listed result ≡ image_places table.now.t table.now.map.now (size (sides table.now.g)) p.at }
 {
+    let r = reading::run_of(table, p.at)?;
     match table.t {
-        GridType::Sparse => sparse_places(table, p),
-        GridType::Dense => dense_places(table, p),
+        // The first image stands at its own place.
+        GridType::Sparse => Ok(Places {
+            first: p,
+            others: r.from,
+            count: (r.to + 1).saturating_sub(r.from),
+        }),
+        GridType::Dense => Ok(Places {
+            first: Place { at: r.from },
+            others: r.from + 1,
+            count: r.to.saturating_sub(r.from),
+        }),
     }
 }
 
@@ -152,7 +136,7 @@ pub fn fill_triplets(
     left: &mut [i64],
     left_length: &mut [f64],
 ) -> Result<(), Refusal>
-    requires { Room class_map.now (length out.old) (length left.old) (length left_length.old) }
+    requires { RoomFor class_map.now (length out.old) (length left.old) (length left_length.old) }
     ensures out_after { let w = walk_by m table.now.addresses.now in
         let f = triplet_of table.now.t (sides table.now.g) table.now.map.now w (vector_of a0.v) q0.at in
         giving result out.new ≡ (read_each f (own_points class_map.now (length class_map.now)) then λ l. got (triplet_list l)) }

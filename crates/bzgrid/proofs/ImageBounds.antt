@@ -15,7 +15,7 @@ use Rattle.grgrid.proofs.Lists.{◌∈◌}
 use Rattle.grgrid.proofs.Folding.{Sides, digits-within}
 use Rattle.bzgrid.specs.declared.GridType.{GridType}
 use Rattle.bzgrid.specs.declared.GridType.TheVariants.{Sparse, Dense}
-use Rattle.grgrid.specs.Build.{rows}
+use Rattle.grgrid.specs.Build.{concat}
 use Rattle.bzsearch.specs.Search.{Search, set_bz_address, images}
 use Rattle.bzgrid.specs.Table.{Image, image_of, images_at, first, others, sparse}
 use Rattle.bzgrid.specs.BzGridAddresses.{table_of}
@@ -78,18 +78,18 @@ module _ (s : Search) (q : (j k : Axis) → nat_abs (entry s.q_inv j k) ≤ 2000
       at k = rw (side-vector (λ k. pos (side (digits s.d p) k)) k) (le_trans (le_of_lt ((digits-within s.d e p h).inside k)) (small k))
 
 -- ---- how many there are: the same in either table
-pub sparse-length : (g : ℕ → List Image) (n : ℕ) → length (sparse g n) ≡ length (rows g n)
-sparse-length g n = length-append (rows (first g) n) (rows (others g) n) ∙ parts n
+pub sparse-length : (g : ℕ → List Image) (n : ℕ) → length (sparse g n) ≡ length (concat g n)
+sparse-length g n = length-append (concat (first g) n) (concat (others g) n) ∙ parts n
   where
     row : (n : ℕ) → length (first g n) + length (others g n) ≡ length (g n)
     row n = sym (length-append (first g n) (others g n)) ∙ ap length (take-append-drop 1 (g n))
 
-    parts : (n : ℕ) → length (rows (first g) n) + length (rows (others g) n) ≡ length (rows g n)
+    parts : (n : ℕ) → length (concat (first g) n) + length (concat (others g) n) ≡ length (concat g n)
     parts zero = refl
     parts (suc n) = omega (arith, length-rows (first g) n, length-rows (others g) n, length-rows g n, row n, parts n)
 
 module _ (s : Search) (n : ℕ) (h : n ≤ 65536) where
-  rows-total : length (rows (images_at s) n) ≤ 2363359232
+  rows-total : length (concat (images_at s) n) ≤ 2363359232
   rows-total = le_trans (rows_few (images_at s) 36062 n (λ i l. le_trans (le_of_eq (length-images s i)) (images-few s i))) (mul-le-mul_right 36062 h)
 
   -- below 2 ^ 40

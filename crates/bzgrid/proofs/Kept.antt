@@ -11,13 +11,13 @@ use Rattle.grgrid.specs.Grid.{address}
 use Rattle.bzsearch.specs.Search.{Search, Split, Span, split_reduced, distance, search_range, range_fits, candidates, bound, set_bz_address, kept_by, images_from, images_of, images}
 use Rattle.bzgrid.specs.Table.{image_of, images_at}
 use Rattle.bzgrid.specs.Code.Writing.{Tables, store, stored, keep, kept}
-use Rattle.bzsearch.specs.SearchView.{search_of, point_split}
+use Rattle.bzsearch.specs.SearchView.{search_view, point_split}
 use Rattle.bzsearch.specs.declared.types.BzSearch.{BzSearch}
 use Rattle.bzsearch.specs.declared.types.Point.{Point}
 
 -- ---- the walk that keeps images
 abbrev pub keeping : BzSearch → Point → Float → Tables → Vec ℤ → Tables
-keeping s p bound = keep (search_of s) p.index (vector_of p.address.v) (point_split p) bound
+keeping s p bound = keep (search_view s) p.index (vector_of p.address.v) (point_split p) bound
 
 both : {A B C : Type 0} (b : Bool) (g : A → C) (k : B → C) {x y : A} {u v : B} → g x ≡ k u → g y ≡ k v → g (cond b x y) ≡ k (cond b u v)
 both true g k p q = p

@@ -14,7 +14,7 @@ use native.Mathlib.Nat.{le_refl}
 use Rattle.common.specs.Matrix.{Vec}
 use Rattle.common.specs.Array.{vector_of, row_at}
 use Rattle.grgrid.specs.Grid.{size, index}
-use Rattle.grgrid.specs.Build.{rows}
+use Rattle.grgrid.specs.Build.{concat}
 use Rattle.bzsearch.specs.Search.{numbers_from}
 use Rattle.bzgrid.specs.Table.{Image, listed, dense_map, others, doubled, placed, empty, sparse_map, address_list}
 use Rattle.bzgrid.specs.BzGridAddresses.{padded}
@@ -95,10 +95,10 @@ module _ (d : Vec ℕ) (g : ℕ → List Image) (b : ℕ) where
   dense-map : size d + 1 ≤ b → counted (before false g) 0 (blank b) (suc (size d)) ≡ padded (dense_map g (size d)) b
   dense-map m =
       counted-after (before false g) 0 [] (blank b) refl (suc (size d)) (omega (arith, length-replicate b (negsuc 0)))
-      ∙ ap₂ ◌++◌ (ap (listed (λ i. pos (length (rows g i)))) (sym (add-one (size d)))) (drop-same b (suc (size d)) (negsuc 0) ∙ ap blank left)
+      ∙ ap₂ ◌++◌ (ap (listed (λ i. pos (length (concat g i)))) (sym (add-one (size d)))) (drop-same b (suc (size d)) (negsuc 0) ∙ ap blank left)
     where
       left : b - suc (size d) ≡ b - length (dense_map g (size d))
-      left = omega (arith, length-numbers (λ i. pos (length (rows g i))) 0 (size d + 1))
+      left = omega (arith, length-numbers (λ i. pos (length (concat g i))) 0 (size d + 1))
 
   module _ (xs : List Image) (r : List ℤ) where
     mesh-placed : placed_flat (doubled d) (address_list xs ++ r) (length xs) (replicate (size (doubled d)) (pos (size (doubled d)))) ≡ placed d 0 xs (replicate (empty d) (pos (empty d)))
@@ -108,7 +108,7 @@ module _ (d : Vec ℕ) (g : ℕ → List Image) (b : ℕ) where
         ∙ placed-flat d xs (address_list xs ++ r) r 0 (replicate (empty d) (pos (empty d))) refl
 
     abbrev counts : ℕ → List ℤ
-    counts n = listed (λ i. pos (length (rows (others g) i))) n
+    counts n = listed (λ i. pos (length (concat (others g) i))) n
 
     counts-after : empty d + (size d + 1) ≤ b → drop (size (doubled d)) (counted (before true g) (empty d) (blank b) (suc (size d))) ≡ counts (size d + 1) ++ blank (b - (empty d + (size d + 1)))
     counts-after m =
@@ -136,5 +136,5 @@ module _ (d : Vec ℕ) (g : ℕ → List Image) (b : ℕ) where
 
       whole : length (sparse_map d g) ≡ empty d + (size d + 1)
       whole =
-          length-append mesh (listed (λ i. pos (length (rows (others g) i))) (size d + 1))
-          ∙ ap₂ ◌+◌ (length-placed d (table g true (size d)) 0 (replicate (empty d) (pos (empty d))) ∙ length-replicate (empty d) (pos (empty d))) (length-numbers (λ i. pos (length (rows (others g) i))) 0 (size d + 1))
+          length-append mesh (listed (λ i. pos (length (concat (others g) i))) (size d + 1))
+          ∙ ap₂ ◌+◌ (length-placed d (table g true (size d)) 0 (replicate (empty d) (pos (empty d))) ∙ length-replicate (empty d) (pos (empty d))) (length-numbers (λ i. pos (length (concat (others g) i))) 0 (size d + 1))

@@ -12,7 +12,7 @@ use lib.IntN.{ℤ, pos}
 use lib.ListN.{length, length-append}
 use Rattle.integer.proofs.Test.{and_in, is_true, is_false, fails}
 use Rattle.std.specs.Prelude.{Some, None}
-use Rattle.grgrid.specs.Build.{rows}
+use Rattle.grgrid.specs.Build.{concat}
 use Rattle.bzgrid.specs.Table.{Image}
 use Rattle.bzgrid.specs.BzGridAddresses.{all_found}
 use Rattle.bzgrid.specs.Code.Writing.{put_at, Tables, tables, stored, restart, if_sparse, counted}
@@ -39,10 +39,10 @@ found_at g (suc n) i h all =
     (eq-or-lt_of_le (le_of_suc-le-suc h))
 
 -- and so there are at least as many
-as_many : (g : ℕ → List Image) (i : ℕ) → T (all_found g i) → i ≤ length (rows g i)
+as_many : (g : ℕ → List Image) (i : ℕ) → T (all_found g i) → i ≤ length (concat g i)
 as_many g zero all = omega arith
 as_many g (suc i) all =
-    omega (arith, length-append (rows g i) (g i), as_many g i (below g i all), one (g i) (here g i all))
+    omega (arith, length-append (concat g i) (g i), as_many g i (below g i all), one (g i) (here g i all))
   where
     one : (xs : List Image) → Found xs → 1 ≤ length xs
     one [] some = absurd some

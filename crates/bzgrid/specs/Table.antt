@@ -3,7 +3,7 @@ use Rattle.std.specs.Prelude.{List, [], ◌∷◌, ◌++◌, map, ℕ, suc, ◌+
 use Rattle.common.specs.Matrix.{Vec, map_vec}
 use Rattle.common.specs.Array.{items}
 use Rattle.grgrid.specs.Grid.{size, index}
-use Rattle.grgrid.specs.Build.{rows}
+use Rattle.grgrid.specs.Build.{concat}
 use Rattle.bzsearch.specs.Search.{Search, images, numbers_from}
 
 pub record Image : Type 0 where
@@ -19,14 +19,14 @@ images_at s p = map (image_of p) (images s p)
 
 -- ---- type 2, dense: the images of one point after those of another; the map holds the place of each point's first image, and at last their number
 abbrev pub dense : (ℕ → List Image) → ℕ → List Image
-dense g n = rows g n
+dense g n = concat g n
 
 -- g 0, .., g (n - 1)
 abbrev pub listed : {A : Type 0} → (ℕ → A) → ℕ → List A
 listed g n = numbers_from g 0 n
 
 abbrev pub dense_map : (ℕ → List Image) → ℕ → List ℤ
-dense_map g n = listed (λ i. pos (length (rows g i))) (n + 1)
+dense_map g n = listed (λ i. pos (length (concat g i))) (n + 1)
 
 -- ---- type 1, sparse: the first image of each point at its place, the others after them; the map over the doubled mesh holds the place of the last image
 -- that falls there, 8 N where none does, and after it N + 1 counts of the others
@@ -37,7 +37,7 @@ abbrev pub others : (ℕ → List Image) → ℕ → List Image
 others g i = drop 1 (g i)
 
 abbrev pub sparse : (ℕ → List Image) → ℕ → List Image
-sparse g n = rows (first g) n ++ rows (others g) n
+sparse g n = concat (first g) n ++ concat (others g) n
 
 abbrev pub doubled : Vec ℕ → Vec ℕ
 doubled d = map_vec (λ n. 2 * n) d
@@ -52,7 +52,7 @@ empty d = 8 * size d
 abbrev pub sparse_map : Vec ℕ → (ℕ → List Image) → List ℤ
 sparse_map d g =
     let n = size d in
-    placed d 0 (sparse g n) (replicate (empty d) (pos (empty d))) ++ listed (λ i. pos (length (rows (others g) i))) (n + 1)
+    placed d 0 (sparse g n) (replicate (empty d) (pos (empty d))) ++ listed (λ i. pos (length (concat (others g) i))) (n + 1)
 
 -- ---- as the outputs hold them
 abbrev pub address_list : List Image → List ℤ

@@ -9,7 +9,7 @@ ghost use Rattle.grgrid.specs.Sides.{sides};
 ghost use Rattle.bzgrid.specs.Table.{images_at, doubled};
 ghost use Rattle.bzgrid.specs.Code.Writing.{if_sparse, placed_flat, with_mesh};
 ghost use Rattle.bzgrid.specs.Code.Walked.{walk_of, images_in, blank, WrittenTo, lengths_for, judged, MeshFits};
-ghost use Rattle.bzsearch.specs.SearchView.{search_of};
+ghost use Rattle.bzsearch.specs.SearchView.{search_view};
 ghost use Rattle.bzgrid.specs.BzGridAddresses.{grid_type_of, is_sparse, all_found, within_limits, input_tests, has_room, built, bz_grid_addresses};
 
 use bzsearch::{Basis, BzSearch};
@@ -176,10 +176,10 @@ fn walk_points(
     map: &mut [i64],
     grg: &mut [i64],
 ) -> Option<usize>
-    requires { n ≡ size (search_of s).d }
-    ensures value { result ≡ walk_of sparse (images_at (search_of s)) n }
+    requires { n ≡ size (search_view s).d }
+    ensures value { result ≡ walk_of sparse (images_at (search_view s)) n }
     ensures result_bound { images_in result < 1099511627776 }
-    ensures written_to { let g = images_at (search_of s) in
+    ensures written_to { let g = images_at (search_view s) in
         let a = blank (length addresses.old) in
         let b = blank (length map.old) in
         let c = blank (length grg.old) in
@@ -198,8 +198,8 @@ fn fill_tables(
     map: &mut [i64],
     grg: &mut [i64],
 ) -> Result<Lengths, Refusal>
-    ensures value { result ≡ (built t (search_of s) (length addresses.old) (length map.old) (length grg.old)).answer }
-    ensures filled { let o = built t (search_of s) (length addresses.old) (length map.old) (length grg.old) in
+    ensures value { result ≡ (built t (search_view s) (length addresses.old) (length map.old) (length grg.old)).answer }
+    ensures filled { let o = built t (search_view s) (length addresses.old) (length map.old) (length grg.old) in
         IfOk result (λ l. record { answer = Ok l; addresses = addresses.new; map = map.new; grg = grg.new } ≡ o) }
 {
     let d = s.d_diag;
@@ -225,7 +225,7 @@ fn build(
     map: &mut [i64],
     grg: &mut [i64],
 ) -> Result<Lengths, Refusal>
-    ensures { let o = built t (search_of s) (length addresses.old) (length map.old) (length grg.old) in
+    ensures { let o = built t (search_view s) (length addresses.old) (length map.old) (length grg.old) in
         record { answer = result; addresses = addresses.new; map = map.new; grg = grg.new } ≡ o }
 {
     match fill_tables(s, t, &mut *addresses, &mut *map, &mut *grg) {

@@ -8,7 +8,7 @@ ghost use Rattle.bzgrid.specs.Table.{image_of, images_at};
 ghost use Rattle.bzgrid.specs.BzGridAddresses.{all_found};
 ghost use Rattle.bzgrid.specs.Code.Writing.{put_at, tables, store, stored, keep, kept, if_sparse, placed_flat};
 ghost use Rattle.bzgrid.specs.Code.Walked.{walk_of, images_in, WrittenTo};
-ghost use Rattle.bzsearch.specs.SearchView.{search_of, axes_view, point_split};
+ghost use Rattle.bzsearch.specs.SearchView.{search_view, axes_view, point_split};
 
 use bzsearch::{Axes, BzSearch, Candidate, Point, candidates};
 use grgrid::Grid;
@@ -90,7 +90,7 @@ impl Keeping {
         ensures next_after { let k = self.now in
             let t = tables addresses.old grg.old c.at c.next in
             tables addresses.new grg.new result.at result.next
-            ≡ keep (search_of k.bz) k.p.index (vector_of k.p.address.v) (point_split k.p) k.bound t (vector_of m.v) }
+            ≡ keep (search_view k.bz) k.p.index (vector_of k.p.address.v) (point_split k.p) k.bound t (vector_of m.v) }
         ensures at_le_next { (c.next ≤ result.next) × (result.next ≤ c.next + 1) }
     {
         if self.bz.distance(self.p.s0, m) < self.bound {
@@ -112,7 +112,7 @@ impl Keeping {
         ensures next_after { let k = self.now in
             let t = tables addresses.old grg.old c.at c.next in
             tables addresses.new grg.new result.at result.next
-            ≡ kept (search_of k.bz) k.p.index (vector_of k.p.address.v) (point_split k.p) k.bound t (chosen rest (vector_of m.v)) }
+            ≡ kept (search_view k.bz) k.p.index (vector_of k.p.address.v) (point_split k.p) k.bound t (chosen rest (vector_of m.v)) }
         ensures at_le_next { (c.next ≤ result.next) × (result.next ≤ c.next + 1) }
     {
         if rest && !candidates::is_outside(m.v) {
@@ -134,7 +134,7 @@ impl Keeping {
         ensures next_after { let k = self.now in
             let t = tables addresses.old grg.old c.at c.next in
             tables addresses.new grg.new result.at result.next
-            ≡ kept (search_of k.bz) k.p.index (vector_of k.p.address.v) (point_split k.p) k.bound t (box rest (axes_view b)) }
+            ≡ kept (search_view k.bz) k.p.index (vector_of k.p.address.v) (point_split k.p) k.bound t (box rest (axes_view b)) }
         ensures at_le_next { (c.next ≤ result.next) × (result.next ≤ c.next + 35937) }
     {
         let mut t = c;
@@ -156,9 +156,9 @@ impl Keeping {
 
 // The images of point i, in the order of the candidates. There are none where the range of the search leaves -16..16.
 fn write_point(bz: BzSearch, i: usize, addresses: &mut [i64], grg: &mut [i64], c: Cursor) -> Cursor
-    requires fact_1 { i < size (search_of bz).d }
+    requires fact_1 { i < size (search_view bz).d }
     requires fact_2 { c.next + 71874 ≤ 1099511627776 }
-    ensures next_after { tables addresses.new grg.new result.at result.next ≡ stored (tables addresses.old grg.old c.at c.next) (images_at (search_of bz) i) }
+    ensures next_after { tables addresses.new grg.new result.at result.next ≡ stored (tables addresses.old grg.old c.at c.next) (images_at (search_view bz) i) }
     ensures at_le_next { (c.next ≤ result.next) × (result.next ≤ c.next + 71874) }
 {
     let p = bz.point(i);
@@ -190,11 +190,11 @@ pub fn write_table(
     map: &mut [i64],
     grg: &mut [i64],
 ) -> Option<usize>
-    requires fact_1 { n ≡ size (search_of bz).d }
+    requires fact_1 { n ≡ size (search_view bz).d }
     requires fact_2 { base ≤ 524288 }
-    ensures value { result ≡ walk_of sparse (images_at (search_of bz)) n }
+    ensures value { result ≡ walk_of sparse (images_at (search_view bz)) n }
     ensures result_bound { images_in result < 1099511627776 }
-    ensures written_to { let g = images_at (search_of bz) in
+    ensures written_to { let g = images_at (search_view bz) in
         T (all_found g n) → WrittenTo sparse g n base addresses.old map.old grg.old addresses.new map.new grg.new }
 {
     let from = if_sparse(sparse, n);

@@ -21,7 +21,7 @@ use Rattle.integer.proofs.Test.{and_l, and_r, or_l, or_r, or-of}
 use Rattle.common.specs.Matrix.{Axis, X, Y, Z, Vec, side, vector}
 use Rattle.common.proofs.Matrix.{axes-of, side-vector}
 use Rattle.grgrid.proofs.Lists.{◌∈◌, Distinct, distinct_append}
-use Rattle.grgrid.specs.Build.{rows}
+use Rattle.grgrid.specs.Build.{concat}
 use Rattle.bzsearch.specs.Search.{Span, Numbers, number_at, nearby, clipped, fft_order, upwards, far, outside, chosen, line_at, plane_at, box_at, box, first_box, whole_box, near, candidates, range_fits, span_fits}
 use Rattle.bzsearch.proofs.Listing.{rows_in, rows-of, rows-distinct, rows_few}
 use Rattle.bzsearch.proofs.AxisNumbers.{belowℤ, InSpan, Lists, upwards-lists, fft-lists, clipped-in, clipped-of, clipped-few, upwards-few, span-size}
@@ -123,7 +123,7 @@ module _ (rest : Bool) (v : Vec Numbers) (r : Vec Span) (lists : (k : Axis) → 
     is : m ≡ vector_at i j k
     out : T rest → T (outside m)
 
-  in-line : (i j : ℕ) {m : Vec ℤ} → m ∈ rows (line i j) z.n → (k : ℕ) × (k < z.n) × (m ≡ vector_at i j k) × (T rest → T (outside m))
+  in-line : (i j : ℕ) {m : Vec ℤ} → m ∈ concat (line i j) z.n → (k : ℕ) × (k < z.n) × (m ≡ vector_at i j k) × (T rest → T (outside m))
   in-line i j {m} p =
       let k = rows-of (line i j) z.n p in
       let c = chosen_of rest (vector_at i j k.0) k.2 in

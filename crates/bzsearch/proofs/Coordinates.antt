@@ -19,7 +19,7 @@ use Rattle.float.proofs.Bounds.{rounds-bounded, bounded-up, whole-bounded, add-b
 use Rattle.float.proofs.Cast.{nint-bounded}
 use Rattle.float.specs.Rounding.{nint_of}
 use Rattle.common.specs.Matrix.{Axis, X, Y, Z, Vec, side, vector, entry, map_mat, dot}
-use Rattle.common.specs.Array.{number, along, vector_of, items, matrix_of, Sized}
+use Rattle.common.specs.Array.{axis_index, along, vector_of, items, matrix_of, Sized}
 use Rattle.common.proofs.Bounds.{matrix-sizes}
 use Rattle.common.specs.FloatMatrix.{floats}
 use Rattle.common.proofs.Matrix.{side-vector, entry-matrix}
@@ -30,7 +30,7 @@ use Rattle.grgrid.proofs.Accepted.{side-small, few-points, grid-fits}
 use Rattle.common.proofs.Sized.{sized-items}
 use Rattle.bzsearch.specs.Search.{Search, grid_coordinate, reduced, split_reduced}
 use Rattle.bzsearch.specs.declared.types.BzSearch.{BzSearch}
-use Rattle.bzsearch.specs.SearchView.{search_of}
+use Rattle.bzsearch.specs.SearchView.{search_view}
 use Rattle.bzsearch.proofs.Sizes.{row_sized}
 
 -- a quotient of at most 1: x is (u - w) of u + w ≤ d, and y is d
@@ -105,9 +105,9 @@ pub address_below : (d : Vec ℕ) → GridFits d → (p : ℕ) → p < size d �
 unfolding address
 address_below d f p h k = rw (side-vector (λ k. pos (side (digits d p) k)) k) ((digits-within d (record { positive = f.positive }) p h).inside k)
 
-module _ (b : BzSearch) (p : ℕ) (h : p < size (search_of b).d) where
+module _ (b : BzSearch) (p : ℕ) (h : p < size (search_view b).d) where
   abbrev d : Vec ℕ
-  d = (search_of b).d
+  d = (search_view b).d
 
   below : (k : Axis) → nat_abs (side (address d p) k) < side d k
   below = address_below d (grid-fits b.d_diag b.diagonal) p h
@@ -121,13 +121,13 @@ module _ (b : BzSearch) (p : ℕ) (h : p < size (search_of b).d) where
       at : (k : Axis) → nat_abs (side (address d p) k) ≤ 256
       at k = le_trans (le_of_lt (below k)) (small k)
 
-  point-nint : (j : Axis) → nat_abs (side (split_reduced (search_of b) (address d p)).nint j) ≤ 4096
+  point-nint : (j : Axis) → nat_abs (side (split_reduced (search_view b) (address d p)).nint j) ≤ 4096
   point-nint =
-      nint-sized (search_of b) (address d p)
-      (λ k. coordinate-bounded (search_of b) (address d p) k (below k) (small k) (rw (side-vector (along b.ps.v) k) (b.ps.sized.each (number k))))
+      nint-sized (search_view b) (address d p)
+      (λ k. coordinate-bounded (search_view b) (address d p) k (below k) (small k) (rw (side-vector (along b.ps.v) k) (b.ps.sized.each (axis_index k))))
       (matrix-sizes 1000 (matrix_of b.q.m) b.q.within)
 
-  pub point-nint-sized : (l : List ℤ) → length l ≡ 3 → vector_of l ≡ (split_reduced (search_of b) (address d p)).nint → Sized 4096 l
+  pub point-nint-sized : (l : List ℤ) → length l ≡ 3 → vector_of l ≡ (split_reduced (search_view b) (address d p)).nint → Sized 4096 l
   point-nint-sized l e g = row_sized l e (λ k. subst (λ (v : Vec ℤ). nat_abs (side v k) ≤ 4096) (sym g) (point-nint k))
 
   pub point-index : p < 65536

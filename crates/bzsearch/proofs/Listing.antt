@@ -19,46 +19,46 @@ use lib.Dec.{T}
 use lib.ListN.{length, get_or, length-append}
 use lib.Seq.{append_snoc}
 use Rattle.grgrid.proofs.Lists.{◌∈◌, Distinct, distinct_append, item_in, Injective}
-use Rattle.grgrid.specs.Build.{rows}
+use Rattle.grgrid.specs.Build.{concat}
 use Rattle.bzsearch.specs.Search.{kept_by, numbers_from}
 
 -- ---- rows
 module _ {A : Type 0} (g : ℕ → List A) where
-  pub rows_in : (n i : ℕ) → i < n → {a : A} → a ∈ g i → a ∈ rows g n
+  pub rows_in : (n i : ℕ) → i < n → {a : A} → a ∈ g i → a ∈ concat g n
   rows_in zero i h m = absurd (not-suc-le-zero h)
-  rows_in (suc n) i h {a} m = ⊎_elim (λ e. append_right (rows g n) (subst (λ (j : ℕ). a ∈ g j) e m)) (λ l. append_left (g n) (rows_in n i l m)) (eq-or-lt_of_le (le_of_suc-le-suc h))
+  rows_in (suc n) i h {a} m = ⊎_elim (λ e. append_right (concat g n) (subst (λ (j : ℕ). a ∈ g j) e m)) (λ l. append_left (g n) (rows_in n i l m)) (eq-or-lt_of_le (le_of_suc-le-suc h))
 
-  pub rows-of : (n : ℕ) {a : A} → a ∈ rows g n → (i : ℕ) × (i < n) × (a ∈ g i)
+  pub rows-of : (n : ℕ) {a : A} → a ∈ concat g n → (i : ℕ) × (i < n) × (a ∈ g i)
   rows-of zero m = absurd (not-nil m)
-  rows-of (suc n) {a} m = ⊎_elim (λ k. up (rows-of n k)) (λ k. (n, le_refl (suc n), k)) (append_cases (rows g n) m)
+  rows-of (suc n) {a} m = ⊎_elim (λ k. up (rows-of n k)) (λ k. (n, le_refl (suc n), k)) (append_cases (concat g n) m)
     where
       up : (i : ℕ) × (i < n) × (a ∈ g i) → (i : ℕ) × (i < suc n) × (a ∈ g i)
       up r = let h = r.1 in (r.0, omega arith, r.2)
 
-  pub length-rows : (n : ℕ) → length (rows g (suc n)) ≡ length (rows g n) + length (g n)
-  length-rows n = length-append (rows g n) (g n)
+  pub length-rows : (n : ℕ) → length (concat g (suc n)) ≡ length (concat g n) + length (g n)
+  length-rows n = length-append (concat g n) (g n)
 
-  pub rows_few : (k n : ℕ) → ((i : ℕ) → i < n → length (g i) ≤ k) → length (rows g n) ≤ n * k
+  pub rows_few : (k n : ℕ) → ((i : ℕ) → i < n → length (g i) ≤ k) → length (concat g n) ≤ n * k
   rows_few k zero h = omega arith
   rows_few k (suc n) h = omega (arith, length-rows n, rows_few k n (λ i l. h i (omega arith)), h n (le_refl (suc n)))
 
   -- row p and what stands before it
-  pub rows-part : (n p : ℕ) → p < n → (after : List A) × (rows g n ≡ rows g p ++ (g p ++ after))
+  pub rows-part : (n p : ℕ) → p < n → (after : List A) × (concat g n ≡ concat g p ++ (g p ++ after))
   rows-part zero p h = absurd (not-suc-le-zero h)
-  rows-part (suc n) p h = ⊎_elim (λ e. ([], ap (λ (i : ℕ). rows g i ++ g i) (sym e) ∙ ap (λ l. rows g p ++ l) (sym (append-nil (g p))))) (λ l. more (rows-part n p l)) (eq-or-lt_of_le (le_of_suc-le-suc h))
+  rows-part (suc n) p h = ⊎_elim (λ e. ([], ap (λ (i : ℕ). concat g i ++ g i) (sym e) ∙ ap (λ l. concat g p ++ l) (sym (append-nil (g p))))) (λ l. more (rows-part n p l)) (eq-or-lt_of_le (le_of_suc-le-suc h))
     where
-      more : (after : List A) × (rows g n ≡ rows g p ++ (g p ++ after)) → (after : List A) × (rows g (suc n) ≡ rows g p ++ (g p ++ after))
-      more r = (r.0 ++ g n, ap (λ l. l ++ g n) r.1 ∙ append_assoc (rows g p) (g p ++ r.0) (g n) ∙ ap (λ l. rows g p ++ l) (append_assoc (g p) r.0 (g n)))
+      more : (after : List A) × (concat g n ≡ concat g p ++ (g p ++ after)) → (after : List A) × (concat g (suc n) ≡ concat g p ++ (g p ++ after))
+      more r = (r.0 ++ g n, ap (λ l. l ++ g n) r.1 ∙ append_assoc (concat g p) (g p ++ r.0) (g n) ∙ ap (λ l. concat g p ++ l) (append_assoc (g p) r.0 (g n)))
 
   -- rows told apart by a key
   pub rows-distinct : {B : Type 0} (key : A → B) (f : ℕ → B) (n : ℕ) → ((i : ℕ) → i < n → (a : A) → a ∈ g i → key a ≡ f i)
-      → ((i j : ℕ) → i < n → j < n → f i ≡ f j → i ≡ j) → ((i : ℕ) → i < n → Distinct (g i)) → Distinct (rows g n)
+      → ((i j : ℕ) → i < n → j < n → f i ≡ f j → i ≡ j) → ((i : ℕ) → i < n → Distinct (g i)) → Distinct (concat g n)
   rows-distinct key f zero k inj d = tt
   rows-distinct key f (suc n) k inj d =
-      distinct_append (rows g n) (g n) (rows-distinct key f n (λ i l. k i (omega arith)) (λ i j l m. inj i j (omega arith) (omega arith)) (λ i l. d i (omega arith)))
+      distinct_append (concat g n) (g n) (rows-distinct key f n (λ i l. k i (omega arith)) (λ i j l m. inj i j (omega arith) (omega arith)) (λ i l. d i (omega arith)))
       (d n (le_refl (suc n))) apart
     where
-      apart : (z : A) → z ∈ rows g n → ¬ (z ∈ g n)
+      apart : (z : A) → z ∈ concat g n → ¬ (z ∈ g n)
       apart z p q =
           let r = rows-of n p in
           let h = r.1 in

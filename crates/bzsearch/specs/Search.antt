@@ -9,7 +9,7 @@ use Rattle.float.specs.Rounding.{nint_of, floor_of, ceil_of}
 use Rattle.float.specs.Sqrt.{sqrt_of}
 use Rattle.common.specs.Matrix.{Axis, Vec, Mat, side, vector, map_mat, all_axes, dot, apply_over, ◌▹◌, det, inverse, origin}
 use Rattle.common.specs.FloatMatrix.{floats}
-use Rattle.grgrid.specs.Build.{rows}
+use Rattle.grgrid.specs.Build.{concat}
 use Rattle.grgrid.specs.Grid.{address, double}
 use Rattle.bzsearch.specs.Lattice.{bz_tolerance, dual_lengths_of}
 
@@ -168,13 +168,13 @@ abbrev pub line_at : Bool → Numbers → ℤ → ℤ → ℕ → List (Vec ℤ)
 line_at rest z x y k = chosen rest (record { x = x; y = y; z = number_at z k })
 
 abbrev pub plane_at : Bool → Numbers → Numbers → ℤ → ℕ → List (Vec ℤ)
-plane_at rest y z x j = rows (line_at rest z x (number_at y j)) z.n
+plane_at rest y z x j = concat (line_at rest z x (number_at y j)) z.n
 
 abbrev pub box_at : Bool → Vec Numbers → ℕ → List (Vec ℤ)
-box_at rest v i = rows (plane_at rest v.y v.z (number_at v.x i)) v.y.n
+box_at rest v i = concat (plane_at rest v.y v.z (number_at v.x i)) v.y.n
 
 abbrev pub box : Bool → Vec Numbers → List (Vec ℤ)
-box rest v = rows (box_at rest v) v.x.n
+box rest v = concat (box_at rest v) v.x.n
 
 abbrev pub first_box : Vec Span → Vec Numbers
 first_box r = vector (λ k. fft_order (clipped (side r k)))

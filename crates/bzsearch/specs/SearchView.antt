@@ -2,7 +2,7 @@
 use Rattle.std.specs.Prelude.{List, [], ◌++◌, ℕ, ◌+◌, ◌*◌, ℤ, ◌*ℤ◌, get_or, Float, Option, Some, None, true, false}
 use Rattle.std.specs.Float.{nan}
 use Rattle.common.specs.Matrix.{next, Vec, Mat, vector, matrix, cross, dot, integers}
-use Rattle.common.specs.Array.{number, along, vector_of, sides_of, items, matrix_of}
+use Rattle.common.specs.Array.{axis_index, along, vector_of, sides_of, items, matrix_of}
 use Rattle.common.specs.FloatMatrix.{floats, float_vector}
 use Rattle.bzsearch.specs.declared.types.BzSearch.{BzSearch}
 use Rattle.bzsearch.specs.declared.types.Split as code-split
@@ -16,10 +16,10 @@ use Rattle.bzsearch.specs.Search.{Search, Split, Span, Numbers, box}
 
 -- nine numbers by rows
 abbrev pub float_nine : List Float → Mat Float
-float_nine l = matrix (λ j k. get_or l (number j * 3 + number k) nan)
+float_nine l = matrix (λ j k. get_or l (axis_index j * 3 + axis_index k) nan)
 
-abbrev pub search_of : BzSearch → Search
-search_of b = record {
+abbrev pub search_view : BzSearch → Search
+search_view b = record {
   d = sides_of b.d_diag;
   ps = vector_of b.ps.v;
   q = matrix_of b.q.m;
@@ -62,4 +62,4 @@ abbrev pub inverse_row : List ℤ → List ℤ → ℤ → List ℤ
 inverse_row a b det = items (vector (λ k. det *ℤ cross integers (along a (next k)) (along b (next k)) (along a (next (next k))) (along b (next (next k)))))
 
 abbrev pub row_times : List Float → ℕ → List Float → Float
-row_times l i v = dot floats (λ k. get_or l (i + number k) nan) (λ k. get_or v (number k) nan)
+row_times l i v = dot floats (λ k. get_or l (i + axis_index k) nan) (λ k. get_or v (axis_index k) nan)

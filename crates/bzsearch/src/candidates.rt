@@ -7,7 +7,7 @@ ghost use Rattle.common.specs.FloatMatrix.{float_vector};
 ghost use Rattle.bzsearch.specs.Search.{number_at, count, upwards, from_zero, below_zero, fft_order, first_box};
 ghost use Rattle.bzsearch.specs.Search.{whole_box, candidates, clipped, span_fits, within, range_fits, near, far};
 ghost use Rattle.bzsearch.specs.Search.{outside, chosen, box, lower, least_of, bound, Room};
-ghost use Rattle.bzsearch.specs.SearchView.{search_of, span_view, range_view, numbers_view, axes_view, candidates_of};
+ghost use Rattle.bzsearch.specs.SearchView.{search_view, span_view, range_view, numbers_view, axes_view, candidates_of};
 
 use crate::types::{Axes, Boxes, BzSearch, Candidate, Numbers, Range, Span};
 
@@ -178,7 +178,7 @@ pub fn is_outside(m: [i64; 3]) -> bool
 impl BzSearch {
     // Falls only by more than the tolerance.
     fn lower(self, s0: [f64; 3], m: Candidate, least: f64) -> f64
-        ensures { result ≡ lower (search_of self) (float_vector s0) least (vector_of m.v) }
+        ensures { result ≡ lower (search_view self) (float_vector s0) least (vector_of m.v) }
     {
         let x = self.distance(s0, m);
         let below = least - self.tolerance;
@@ -186,7 +186,7 @@ impl BzSearch {
     }
 
     fn least_one(self, s0: [f64; 3], m: Candidate, rest: bool, least: f64) -> f64
-        ensures { result ≡ least_of (search_of self) (float_vector s0) least (chosen rest (vector_of m.v)) }
+        ensures { result ≡ least_of (search_view self) (float_vector s0) least (chosen rest (vector_of m.v)) }
     {
         if rest && !is_outside(m.v) {
             return least;
@@ -198,7 +198,7 @@ impl BzSearch {
     // bzgrid's keep_box has the same three loops. A walk that takes a closure can only ask that it may be called in any state, and keeping may only while
     // there is room; a trait that says so is longer than the loops.
     fn least_box(self, s0: [f64; 3], b: Axes, rest: bool, from: f64) -> f64
-        ensures { result ≡ least_of (search_of self) (float_vector s0) from (box rest (axes_view b)) }
+        ensures { result ≡ least_of (search_view self) (float_vector s0) from (box rest (axes_view b)) }
     {
         let mut least = from;
         for i in 0..b.x.n {
@@ -219,7 +219,7 @@ impl BzSearch {
     // Under which the images lie: the least length of both boxes, plus the tolerance.
     #[tactic(auto, unfolding(crate::specs::Search::bound))]
     pub fn bound(self, s0: [f64; 3], b: Boxes) -> f64
-        ensures { result ≡ bound (search_of self) (float_vector s0) (candidates_of b) }
+        ensures { result ≡ bound (search_view self) (float_vector s0) (candidates_of b) }
     {
         let first = self.least_box(
             s0,

@@ -9,7 +9,7 @@ ghost use Rattle.common.specs.Limits.{diagonal_fits, matrix_within, shift_fits};
 ghost use Rattle.bzsearch.specs.Search.{new_search, grid_coordinate, split_of, split_reduced, moved, length_squared};
 ghost use Rattle.bzsearch.specs.Search.{distance, span, search_range, set_bz_address, unimodular};
 ghost use Rattle.grgrid.specs.Grid.{size, address};
-ghost use Rattle.bzsearch.specs.SearchView.{point_split, float_nine, search_of, split_view, range_view, span_view, inverse_row, row_times};
+ghost use Rattle.bzsearch.specs.SearchView.{point_split, float_nine, search_view, split_view, range_view, span_view, inverse_row, row_times};
 
 use crate::lattice;
 use crate::types::{Basis, BzSearch, Candidate, Point, Range, Span, Split};
@@ -143,7 +143,7 @@ impl BzSearch {
     pub fn new(d_diag: [i64; 3], ps: Shift, q: Basis, rec_lattice: [[f64; 3]; 3]) -> BzSearch
         requires diagonal { T (diagonal_fits d_diag) }
         requires unimodular { T (unimodular (matrix_of q.m)) }
-        ensures { search_of result ≡ new_search (sides_of d_diag) (vector_of ps.v) (matrix_of q.m) (float_matrix rec_lattice) }
+        ensures { search_view result ≡ new_search (sides_of d_diag) (vector_of ps.v) (matrix_of q.m) (float_matrix rec_lattice) }
     {
         let lattice = common::flat(rec_lattice);
         let tolerance = lattice::bz_tolerance(rec_lattice, d_diag);
@@ -161,7 +161,7 @@ impl BzSearch {
 
     // The coordinates of an address along the grid's axes.
     fn grid_coordinates(self, address: Address) -> [f64; 3]
-        ensures { result ≡ items (vector (grid_coordinate (search_of self) (vector_of address.v))) }
+        ensures { result ≡ items (vector (grid_coordinate (search_view self) (vector_of address.v))) }
     {
         let d_diag = self.d_diag;
         let a = float_matrix::row_to_d(grgrid::double_grid_address(address, self.ps).v);
@@ -176,7 +176,7 @@ impl BzSearch {
     // Split the reduced coordinates of an address into what is left, at most 1/2 in size, and a whole vector.
     #[tactic(auto, unfolding(crate::specs::Search::split_reduced, crate::specs::Search::reduced))]
     pub fn split_reduced_coordinates(self, address: Address) -> Split
-        ensures { split_view result ≡ split_reduced (search_of self) (vector_of address.v) }
+        ensures { split_view result ≡ split_reduced (search_view self) (vector_of address.v) }
     {
         split_whole(float_matrix::matvec_id(self.q.m, self.grid_coordinates(address)))
     }
@@ -184,7 +184,7 @@ impl BzSearch {
     // Squared length of `rec_lattice (s0 + m)`.
     #[tactic(auto, unfolding(crate::specs::Search::distance))]
     pub fn distance(self, s0: [f64; 3], m: Candidate) -> f64
-        ensures { result ≡ distance (search_of self) (float_vector s0) (vector_of m.v) }
+        ensures { result ≡ distance (search_view self) (float_vector s0) (vector_of m.v) }
     {
         let l = self.rec_lattice;
         length_squared(l, shift(s0, m))
@@ -193,7 +193,7 @@ impl BzSearch {
     // The Rust's range: in f64 it may miss a candidate that would be kept.
     #[tactic(auto, unfolding(crate::specs::Search::search_range, crate::specs::Search::distance))]
     pub fn search_range(self, s0: [f64; 3]) -> Range
-        ensures { range_view result ≡ search_range (search_of self) (float_vector s0) }
+        ensures { range_view result ≡ search_range (search_view self) (float_vector s0) }
     {
         let r = float::sqrt(self.distance(s0, Candidate { v: [0, 0, 0] }) + self.tolerance);
         let w = self.dual_lengths;
@@ -210,7 +210,7 @@ impl BzSearch {
         address: Bounded<256>,
         nint: Bounded<4096>,
     ) -> [i64; 3]
-        ensures { result ≡ items (set_bz_address (search_of self) (vector_of address.v) (vector_of nint.v) (vector_of m.v)) }
+        ensures { result ≡ items (set_bz_address (search_view self) (vector_of address.v) (vector_of nint.v) (vector_of m.v)) }
     {
         let d = self.d_diag;
         let delta = common::matvec_ii(self.q_inv.m, difference(m, nint).v);
@@ -222,10 +222,10 @@ impl BzSearch {
     }
 
     pub fn point(self, i: usize) -> Point
-        requires { i < size (search_of self).d }
+        requires { i < size (search_view self).d }
         ensures index_value { result.index ≡ i }
-        ensures address_value { result.address.v ≡ items (address (search_of self).d i) }
-        ensures result_value { point_split result ≡ split_reduced (search_of self) (address (search_of self).d i) }
+        ensures address_value { result.address.v ≡ items (address (search_view self).d i) }
+        ensures result_value { point_split result ≡ split_reduced (search_view self) (address (search_view self).d i) }
     {
         let g = grgrid::grid_of(self.d_diag);
         let address = grgrid::grid_address_from_index(GridPoint { p: i, g });

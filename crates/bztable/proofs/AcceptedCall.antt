@@ -3,7 +3,8 @@ use mathlib.Core.Path.{◌≡◌, refl, sym, ◌∙◌, ap, subst}
 use mathlib.Core.Bool.{true}
 use mathlib.Core.List.{List}
 use Prim.Native.Nat.{ℕ, ◌<◌, ◌≤◌}
-use lib.Dec.{T, eqb→eq}
+use native.Mathlib.Nat.{le_trans}
+use lib.Dec.{T, eqb→eq, lit≤}
 use lib.IntN.{ℤ, nat_abs}
 use lib.Ieee.{Float, le}
 use lib.ListN.{length}
@@ -25,9 +26,9 @@ use Rattle.bzgrid.specs.declared.GridType.TheVariants.{Sparse}
 use Rattle.bzsearch.specs.Search.{Search, images}
 use Rattle.bzgrid.specs.Table.{images_at, address_list, point_list}
 use Rattle.bzgrid.specs.BzGridAddresses.{search_of, table_of, map_of, all_found, lengths_of, has_room, input_tests, padded, build_tests, built, built_for, bz_grid_addresses}
-use Rattle.bzsearch.proofs.Images.{Sound, new-sound}
+use Rattle.bzsearch.proofs.Images.{Sound, new-sound, images-distinct, image-folds}
 use Rattle.bztable.specs.Images.{FoldBack, EveryImage}
-use Rattle.bztable.proofs.ImageTable.{Stands, table-stands, place-folds, place-named, address-once}
+use Rattle.bztable.proofs.ImageTable.{Stands, Folded, table-stands, stands-at, image-at, place-folds, address-once}
 use Rattle.bzgrid.proofs.Accepted.{InputAccepted, input-accepted}
 use Rattle.bzgrid.proofs.Outcome.{outcome}
 use Rattle.bztable.proofs.DoubledMesh.{Mesh, table-mesh}
@@ -101,24 +102,37 @@ module _ (d : List ℤ) (q : List (List ℤ)) (ps : List ℤ) (lattice : List (L
 
 -- ---- its tables
 module _ {d : List ℤ} {q : List (List ℤ)} {ps : List ℤ} {lattice : List (List Float)} {t : ℤ} {a b c : ℕ} {l : Lengths} (h : CallAccepted d q ps lattice t a b c l) where
-  pub call-sound : Sound (search_of d q ps lattice)
+  abbrev found_by : Search
+  found_by = search_of d q ps lattice
+
+  pub call-sound : Sound found_by
   call-sound = accepted-sound d q ps lattice h.input
 
-  pub call-stands : Stands h.kind (search_of d q ps lattice) (bz_grid_addresses d q ps lattice t a b c).addresses (bz_grid_addresses d q ps lattice t a b c).map (bz_grid_addresses d q ps lattice t a b c).grg l.grg
-  call-stands = rw (h.addresses, h.map, h.points, h.lengths) (table-stands (search_of d q ps lattice) h.kind h.some a b c)
+  pub call-folded : Folded (sides_of d) (images found_by)
+  call-folded = record { folds = λ p n. image-folds found_by p call-sound n; apart = λ p. images-distinct found_by p call-sound }
 
-  pub call-mesh : h.kind ≡ Sparse → Mesh (search_of d q ps lattice) (bz_grid_addresses d q ps lattice t a b c).addresses (bz_grid_addresses d q ps lattice t a b c).map l.grg
-  call-mesh e = rw (h.addresses, h.map, h.lengths) (rw e (table-mesh (search_of d q ps lattice) a b))
+  few : size (sides_of d) ≤ 65536
+  few = few-points d h.input.grid
 
   -- below 2 ^ 40
   pub call-total : l.grg ≤ 2363359232
-  call-total = rw h.lengths (images-total (search_of d q ps lattice) (size (sides_of d)) (few-points d h.input.grid) h.kind)
+  call-total = rw h.lengths (images-total found_by (size (sides_of d)) few h.kind)
 
-  pub call-found : (p : ℕ) → p < size (sides_of d) → 0 < length (images (search_of d q ps lattice) p)
-  call-found p k = rw (← length-images (search_of d q ps lattice) p) (found (images_at (search_of d q ps lattice)) (size (sides_of d)) h.some p k)
+  few-images : length (table_of h.kind (images_at found_by) (size (sides_of d))) ≤ 1099511627776
+  few-images = le_trans (images-total found_by (size (sides_of d)) few h.kind) (lit≤ tt)
+
+  pub call-stands : Stands h.kind (size (sides_of d)) (images found_by) (bz_grid_addresses d q ps lattice t a b c).addresses (bz_grid_addresses d q ps lattice t a b c).map (bz_grid_addresses d q ps lattice t a b c).grg l.grg
+  unfolding images_at
+  call-stands = rw (h.addresses, h.map, h.points, h.lengths) (table-stands (sides_of d) (images found_by) h.kind h.some few-images (le_trans few (lit≤ tt)) a b c)
+
+  pub call-mesh : h.kind ≡ Sparse → Mesh (sides_of d) (bz_grid_addresses d q ps lattice t a b c).addresses (bz_grid_addresses d q ps lattice t a b c).map l.grg
+  call-mesh e = rw (h.addresses, h.map, h.lengths) (rw e (table-mesh (sides_of d) (images_at found_by) (subst (λ k. length (table_of k (images_at found_by) (size (sides_of d))) ≤ 1099511627776) e few-images) few a b))
+
+  pub call-found : (p : ℕ) → p < size (sides_of d) → 0 < length (images found_by p)
+  call-found p k = rw (← length-images found_by p) (found (images_at found_by) (size (sides_of d)) h.some p k)
 
   -- the tolerance is a number and not below zero
-  pub call-tolerance : Bounded 43 (search_of d q ps lattice).tolerance × T (le zero_f (search_of d q ps lattice).tolerance)
+  pub call-tolerance : Bounded 43 found_by.tolerance × T (le zero_f found_by.tolerance)
   call-tolerance = tolerance-length (float_matrix lattice) h.input.bounded (sides_of d) (grid-fits d h.input.grid)
 
 -- ---- every image folds back to its point, and no two are equal
@@ -126,12 +140,12 @@ pub every-image : EveryImage
 every-image d q ps lattice t a b c k l known e =
     let h = call-accepted d q ps lattice t a b c l e in
     subst (λ k. FoldBack d (bz_grid_addresses d q ps lattice t a b c).addresses (bz_grid_addresses d q ps lattice t a b c).map (bz_grid_addresses d q ps lattice t a b c).grg k l.grg)
-    (same-ok (sym h.input.known ∙ known)) (fold-back (call-stands h) (call-sound h))
+    (same-ok (sym h.input.known ∙ known)) (fold-back (call-stands h) (call-folded h))
   where
-    fold-back : {kind : GridType} {addresses map points : List ℤ} {m : ℕ} → Stands kind (search_of d q ps lattice) addresses map points m → Sound (search_of d q ps lattice)
-        → FoldBack d addresses map points kind m
+    fold-back : {kind : GridType} {addresses map points : List ℤ} {m : ℕ} → Stands kind (size (sides_of d)) (images (search_of d q ps lattice)) addresses map points m
+        → Folded (sides_of d) (images (search_of d q ps lattice)) → FoldBack d addresses map points kind m
     fold-back w s = record {
-      folds = λ p n i o. (w.inside p n o, place-folds w s p n o, w.names p n o);
-      stands = λ i n. let o = w.owner i n in (subst (λ (p : ℕ). p < size (sides_of d)) (sym (w.names o.0 o.1 o.2)) o.1, place-named w i n);
+      folds = λ p n i o. let u = stands-at w p n o in (w.inside p n u, place-folds w s p n u, w.names p n u);
+      stands = λ i n. let o = w.owner i n in (o.0, w.names o.0 o.1 o.2, o.1, image-at w o.0 o.1 o.2);
       once = address-once w s;
     }

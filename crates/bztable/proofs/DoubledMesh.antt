@@ -8,7 +8,7 @@ use Prim.Native.Nat.{ℕ, zero, suc, ◌+◌, ◌*◌, ◌-◌, ◌≤◌, ◌<�
 use native.Mathlib.Nat.{le_of_lt, le_of_suc-le-suc, not-suc-le-zero, add-zero, zero-add}
 use native.Mathlib.Omega.{arith}
 use lib.Dec.{eqb}
-use lib.IntN.{ℤ, pos, negsuc, nat_abs}
+use lib.IntN.{ℤ, pos, negsuc}
 use lib.ListN.{length, get_or, set, replicate, length-set, length-replicate, get_or-replicate, get_or-append, take, drop}
 use lib.Seq.{get_or-set_same, get_or-set_other, split_at, length-take-le}
 use borrow.Author.Tests.{eqb-true, eqb-false}
@@ -20,15 +20,12 @@ use Rattle.grgrid.specs.Grid.{size, index}
 use Rattle.grgrid.proofs.Lists.{◌∈◌}
 use Rattle.grgrid.proofs.Folding.{Sides, index-lt, same_index, index_same}
 use Rattle.bzgrid.specs.declared.GridType.TheVariants.{Sparse}
-use Rattle.grgrid.specs.Build.{rows}
-use Rattle.bzsearch.specs.Search.{Search, images}
-use Rattle.bzgrid.specs.Table.{Image, image_of, images_at, sparse, doubled, placed, sparse_map, address_list, others, listed}
+use Rattle.grgrid.specs.Build.{concat}
+use Rattle.bzgrid.specs.Table.{Image, image_of, sparse, doubled, placed, sparse_map, address_list, others, listed}
 use Rattle.bzgrid.specs.BzGridAddresses.{padded}
-use Rattle.bztable.specs.Access.{number_in, image_places}
-use Rattle.bztable.specs.Reading.{triple_at}
-use Rattle.bzsearch.proofs.Images.{Sound, image-folds}
-use Rattle.bztable.proofs.TableRead.{address-reads, length-placed}
-use Rattle.bztable.proofs.ImageTable.{Stands, image-place, place-folds}
+use Rattle.bztable.specs.Reading.{got, triple_at, place_at}
+use Rattle.bztable.proofs.TableRead.{address-reads, length-placed, place-read, sparse-room}
+use Rattle.bztable.proofs.ImageTable.{Stands, Folded, image-place, place-folds}
 
 -- ---- the mesh of 2 d
 double-divides : (n : ℕ) → Divides (pos n) (pos (2 * n))
@@ -122,94 +119,103 @@ module _ (d : Vec ℕ) (k : ℕ) where
               free (suc j) h i = r.0 j (le_of_suc-le-suc h) i
 
 -- ---- images of different points never share a place of the mesh
-module _ (s : Search) (h : Sound s) where
-  pub mesh-apart : (p q : ℕ) → p < size s.d → q < size s.d → {u v : Vec ℤ} → u ∈ images s p → v ∈ images s q → index (doubled s.d) u ≡ index (doubled s.d) v → p ≡ q
-  mesh-apart p q l m {u} {v} i j e = sym (image-folds s p h l i) ∙ doubled-index s.d h.sides u v e ∙ image-folds s q h m j
+module _ (d : Vec ℕ) (g : ℕ → List (Vec ℤ)) (h : Sides d) (f : Folded d g) where
+  pub mesh-apart : (p q : ℕ) → p < size d → q < size d → {u v : Vec ℤ} → u ∈ g p → v ∈ g q → index (doubled d) u ≡ index (doubled d) v → p ≡ q
+  mesh-apart p q l m {u} {v} i j e = sym (f.folds p l i) ∙ doubled-index d h u v e ∙ f.folds q m j
 
--- ---- the table of a search
+-- ---- the table of the images of each point
 address-at : (xs : List Image) (r : List ℤ) (j : ℕ) → j < length xs → triple_at (address_list xs ++ r) j ≡ (get_or xs j none).address
 address-at xs r j h =
     ap (triple_at (address_list xs ++ r)) (sym (length-take-le j xs (le_of_lt h)))
     ∙ address-reads xs r (take j xs) (get_or xs j none) (drop (suc j) xs) (split_at xs j none h)
 
--- the map of a table of m places: the last place whose address falls there, or 8 N
-pub record Mesh (s : Search) (addresses map : List ℤ) (m : ℕ) : Type 0 where
-  pub at : (k : ℕ) → k < 8 * size s.d
-      → (Free (λ i. index (doubled s.d) (triple_at addresses i)) m k × (number_in map k ≡ 8 * size s.d))
-      ⊎ Last (λ i. index (doubled s.d) (triple_at addresses i)) m k (number_in map k)
+-- where the address at a place falls
+abbrev pub key_of : Vec ℕ → List ℤ → ℕ → ℕ
+key_of d addresses i = index (doubled d) (triple_at addresses i)
 
-module _ (s : Search) (a b : ℕ) where
+-- the map of a table of m places: the last place whose address falls there, or 8 N
+pub record Mesh (d : Vec ℕ) (addresses map : List ℤ) (m : ℕ) : Type 0 where
+  pub at : (k : ℕ) → k < 8 * size d
+      → (Free (key_of d addresses) m k × (place_at map k ≡ got (8 * size d))) ⊎ ((i : ℕ) × Last (key_of d addresses) m k i × (place_at map k ≡ got i))
+
+module _ (d : Vec ℕ) (g : ℕ → List Image) (few : length (sparse g (size d)) ≤ 1099511627776) (points : size d ≤ 65536) (a b : ℕ) where
   abbrev n : ℕ
-  n = size s.d
+  n = size d
 
   abbrev table : List Image
-  table = sparse (images_at s) n
+  table = sparse g n
 
   abbrev addresses : List ℤ
   addresses = padded (address_list table) a
 
+  abbrev rest : List ℤ
+  rest = replicate (b - length (sparse_map d g)) (negsuc 0)
+
   abbrev map : List ℤ
-  map = padded (sparse_map s.d (images_at s)) b
+  map = padded (sparse_map d g) b
 
   abbrev blank : List ℤ
   blank = replicate (8 * n) (pos (8 * n))
 
   abbrev mesh : List ℤ
-  mesh = placed s.d 0 table blank
+  mesh = placed d 0 table blank
 
-  on-mesh : (k : ℕ) → k < 8 * n → number_in map k ≡ nat_abs (get_or mesh k (pos 0))
-  on-mesh k l =
-      ap (λ l. number_in l k) (append_assoc mesh counts (replicate (b - length (sparse_map s.d (images_at s))) (negsuc 0)))
-      ∙ ap nat_abs (get_or-append mesh (counts ++ replicate (b - length (sparse_map s.d (images_at s))) (negsuc 0)) (pos 0) k
-      (omega (arith, length-placed s.d 0 table blank, length-replicate (8 * n) (pos (8 * n)))))
+  on-mesh : (k : ℕ) → k < 8 * n → {i : ℕ} → get_or mesh k (pos 0) ≡ pos i → i ≤ 1099511627776 → place_at map k ≡ got i
+  on-mesh k l e low =
+      place-read map k (omega (arith, l, sparse-room d g rest))
+      (ap (λ l. get_or l k (pos 0)) (append_assoc mesh counts rest)
+      ∙ get_or-append mesh (counts ++ rest) (pos 0) k (omega (arith, length-placed d 0 table blank, length-replicate (8 * n) (pos (8 * n)))) ∙ e) low
     where
       counts : List ℤ
-      counts = listed (λ i. pos (length (rows (others (images_at s)) i))) (n + 1)
+      counts = listed (λ i. pos (length (concat (others g) i))) (n + 1)
 
-  -- where the address at a place falls
   abbrev key : ℕ → ℕ
-  key i = index (doubled s.d) (triple_at addresses i)
+  key = key_of d addresses
 
   abbrev MeshIs : ℕ → Type 0
-  MeshIs k = (Free key (length table) k × (number_in map k ≡ 8 * n)) ⊎ Last key (length table) k (number_in map k)
+  MeshIs k = (Free key (length table) k × (place_at map k ≡ got (8 * n))) ⊎ ((i : ℕ) × Last key (length table) k i × (place_at map k ≡ got i))
 
   mesh-is : (k : ℕ) → k < 8 * n → MeshIs k
-  mesh-is k l = ⊎_elim free last (placed-is s.d k 0 table blank (omega (arith, length-replicate (8 * n) (pos (8 * n)))))
+  mesh-is k l = ⊎_elim free last (placed-is d k 0 table blank (omega (arith, length-replicate (8 * n) (pos (8 * n)))))
     where
-      same : (j : ℕ) → j < length table → key j ≡ mesh_at s.d table j
-      same j m = ap (index (doubled s.d)) (address-at table (replicate (a - length (address_list table)) (negsuc 0)) j m)
+      same : (j : ℕ) → j < length table → key j ≡ mesh_at d table j
+      same j m = ap (index (doubled d)) (address-at table (replicate (a - length (address_list table)) (negsuc 0)) j m)
 
-      free : Free (mesh_at s.d table) (length table) k × (get_or mesh k (pos 0) ≡ get_or blank k (pos 0)) → MeshIs k
-      free r = inl (λ j m e. r.0 j m (sym (same j m) ∙ e), on-mesh k l ∙ ap nat_abs (r.1 ∙ get_or-replicate (8 * n) k (pos (8 * n)) (pos 0) l))
+      free : Free (mesh_at d table) (length table) k × (get_or mesh k (pos 0) ≡ get_or blank k (pos 0)) → MeshIs k
+      free r =
+          inl (λ j m e. r.0 j m (sym (same j m) ∙ e), on-mesh k l (r.1 ∙ get_or-replicate (8 * n) k (pos (8 * n)) (pos 0) l) (omega (arith, points)))
 
-      last : (i : ℕ) × Last (mesh_at s.d table) (length table) k i × (get_or mesh k (pos 0) ≡ pos (0 + i)) → MeshIs k
+      last : (i : ℕ) × Last (mesh_at d table) (length table) k i × (get_or mesh k (pos 0) ≡ pos (0 + i)) → MeshIs k
       last r =
           let w = r.1 in
-          inr (subst (Last key (length table) k) (sym (on-mesh k l ∙ ap nat_abs r.2 ∙ zero-add r.0)) (record { inside = w.inside; has = same r.0 w.inside ∙ w.has; last = λ j m e. w.last j m (sym (same j m) ∙ e) }))
+          inr (
+            r.0,
+            record { inside = w.inside; has = same r.0 w.inside ∙ w.has; last = λ j m e. w.last j m (sym (same j m) ∙ e) },
+            on-mesh k l (r.2 ∙ ap pos (zero-add r.0)) (omega (arith, few, w.inside)),
+          )
 
-  pub table-mesh : Mesh s addresses map (length table)
+  pub table-mesh : Mesh d addresses map (length table)
   table-mesh = record { at = mesh-is }
 
 -- ---- of an image: the last of its point's places that falls where it does
-module _ {s : Search} {addresses map points : List ℤ} {m : ℕ} (h : Sound s) (w : Stands Sparse s addresses map points m) (e : Mesh s addresses map m) where
-  pub image-on-mesh : (p : ℕ) → p < size s.d → {v : Vec ℤ} → v ∈ images s p
-      → LastOf (image_places Sparse map (size s.d) p) (λ i. index (doubled s.d) (triple_at addresses i)) (index (doubled s.d) v) (number_in map (index (doubled s.d) v))
-  image-on-mesh p l {v} i = ⊎_elim (λ f. absurd (f.0 o.0 (w.inside p l o.1) (ap (index (doubled s.d)) o.2))) found (e.at k (doubled-lt s.d h.sides v))
+module _ {d : Vec ℕ} {g : ℕ → List (Vec ℤ)} {addresses map points : List ℤ} {m : ℕ} (s : Sides d) (h : Folded d g)
+    (w : Stands Sparse (size d) g addresses map points m) (e : Mesh d addresses map m) where
+  pub image-on-mesh : (p : ℕ) → p < size d → {v : Vec ℤ} → v ∈ g p
+      → (i : ℕ) × (place_at map (index (doubled d) v) ≡ got i) × LastOf (w.places p) (key_of d addresses) (index (doubled d) v) i
+  image-on-mesh p l {v} i = ⊎_elim (λ f. absurd (f.0 o.0 (w.inside p l o.1) (ap (index (doubled d)) o.2))) found (e.at k (doubled-lt d s v))
     where
       k : ℕ
-      k = index (doubled s.d) v
+      k = index (doubled d) v
 
-      key : ℕ → ℕ
-      key i = index (doubled s.d) (triple_at addresses i)
-
-      o : (i : ℕ) × (i ∈ image_places Sparse map (size s.d) p) × (triple_at addresses i ≡ v)
+      o : (i : ℕ) × (i ∈ w.places p) × (triple_at addresses i ≡ v)
       o = image-place w p l i
 
-      found : Last key m k (number_in map k) → LastOf (image_places Sparse map (size s.d) p) key k (number_in map k)
-      found r = record { among = subst (λ (q : ℕ). number_in map k ∈ image_places Sparse map (size s.d) q) owner u.2; has = r.has; last = λ j i f. r.last j (w.inside p l i) f }
+      found : (i : ℕ) × Last (key_of d addresses) m k i × (place_at map k ≡ got i) → (i : ℕ) × (place_at map k ≡ got i) × LastOf (w.places p) (key_of d addresses) k i
+      found r =
+          (r.0, r.2, record { among = subst (λ (q : ℕ). r.0 ∈ w.places q) owner u.2; has = r.1.has; last = λ j i f. r.1.last j (w.inside p l i) f })
         where
-          u : (q : ℕ) × (q < size s.d) × (number_in map k ∈ image_places Sparse map (size s.d) q)
-          u = w.owner (number_in map k) r.inside
+          u : (q : ℕ) × (q < size d) × (r.0 ∈ w.places q)
+          u = w.owner r.0 r.1.inside
 
           owner : u.0 ≡ p
-          owner = sym (place-folds w h u.0 u.1 u.2) ∙ doubled-index s.d h.sides (triple_at addresses (number_in map k)) v r.has ∙ image-folds s p h l i
+          owner = sym (place-folds w h u.0 u.1 u.2) ∙ doubled-index d s (triple_at addresses r.0) v r.1.has ∙ h.folds p l i

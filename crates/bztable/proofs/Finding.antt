@@ -2,7 +2,7 @@
 use mathlib.Core.Path.{◌≡◌, refl, sym, ◌∙◌, ap}
 use mathlib.Core.Bool.{Bool, true, false, ◌&&◌, cond}
 use mathlib.Core.List.{List, [], ◌∷◌}
-use Prim.Native.Nat.{ℕ, suc, ◌+◌, ◌*◌, ◌-◌, ◌<◌}
+use Prim.Native.Nat.{ℕ, suc, ◌+◌, ◌-◌, ◌<◌}
 use native.Mathlib.Numerals.{add-one}
 use native.Mathlib.Omega.{arith}
 use lib.IntN.{ℤ}
@@ -20,7 +20,7 @@ use Rattle.common.specs.declared.Refusal.{Refusal}
 use Rattle.bzgrid.specs.declared.GridType.TheVariants.{Sparse}
 use Rattle.common.specs.Tested.{◌then◌}
 use Rattle.bztable.specs.Reading.{Read, got, address_at, find}
-use Rattle.bztable.specs.Rotate.{among_range, among_images}
+use Rattle.bztable.specs.Rotate.{among_run, among_images}
 
 -- ---- `==` of two addresses
 same_numbers : (x y : ℤ) → int_eq x y ≡ same x y
@@ -68,10 +68,10 @@ module _ (l : List ℤ) (a : Vec ℤ) (i to : ℕ) (h : i < to) where
 -- ---- a sparse table's point p, one of n, whose first image is at its own place
 module _ (l m : List ℤ) (a : Vec ℤ) (p n : ℕ) {b : Vec ℤ} (e : got b ≡ address_at l p) where
   abbrev from_first : Vec ℤ → Read (Option ℕ)
-  from_first b = cond (same_vector b a) (got (Some p)) (among_range l m a (8 * n + p) n)
+  from_first b = cond (same_vector b a) (got (Some p)) (among_run l m a Sparse p n)
 
   pub first-here : same_vector b a ≡ true → got (Some p) ≡ among_images l m a Sparse p n
-  first-here t = ap (λ t. cond t (got (Some p)) (among_range l m a (8 * n + p) n)) (sym t) ∙ ap (λ x. x then from_first) e
+  first-here t = ap (λ t. cond t (got (Some p)) (among_run l m a Sparse p n)) (sym t) ∙ ap (λ x. x then from_first) e
 
-  pub first-on : same_vector b a ≡ false → among_range l m a (8 * n + p) n ≡ among_images l m a Sparse p n
-  first-on t = ap (λ t. cond t (got (Some p)) (among_range l m a (8 * n + p) n)) (sym t) ∙ ap (λ x. x then from_first) e
+  pub first-on : same_vector b a ≡ false → among_run l m a Sparse p n ≡ among_images l m a Sparse p n
+  first-on t = ap (λ t. cond t (got (Some p)) (among_run l m a Sparse p n)) (sym t) ∙ ap (λ x. x then from_first) e

@@ -15,7 +15,7 @@ use Rattle.common.specs.Array.{vector_of, items, row_at}
 use Rattle.common.specs.declared.Refusal.{Refusal}
 use Rattle.common.specs.Tested.{◌then◌}
 use Rattle.bztable.specs.Reading.{Read, got, triple_at, address_of}
-use Rattle.bztable.specs.Neighbours.{moved, joined, read_rows}
+use Rattle.bztable.specs.Neighbours.{moved, appended, read_rows}
 
 -- what is written from place `at` on stands behind what was before it
 taken : (out l rest : List ℤ) (at : ℕ) → at ≤ length out → take (at + length l) (take at out ++ (l ++ rest)) ≡ take at out ++ l
@@ -29,13 +29,13 @@ module _ (g : ℕ → Read (List ℤ)) where
   pub rows-refused : (i n : ℕ) → i < n → {l : List ℤ} → read_rows g i ≡ got l → {r : Refusal} → g i ≡ Err r → Err r ≡ read_rows g n
   rows-refused i zero h e f = absurd (not-suc-le-zero h)
   rows-refused i (suc n) h e f =
-      ⊎_elim (λ q. sym (ap₂ joined (ap (read_rows g) (sym q) ∙ e) (ap g (sym q) ∙ f))) (λ l. ap (λ r. joined r (g n)) (rows-refused i n l e f)) (eq-or-lt_of_le (le_of_suc-le-suc h))
+      ⊎_elim (λ q. sym (ap₂ appended (ap (read_rows g) (sym q) ∙ e) (ap g (sym q) ∙ f))) (λ l. ap (λ r. appended r (g n)) (rows-refused i n l e f)) (eq-or-lt_of_le (le_of_suc-le-suc h))
 
   -- the first i rows stand below place `at`
   module _ (i at : ℕ) (out : List ℤ) (e : read_rows g i ≡ got (take at out)) where
     pub rows-put : (l rest : List ℤ) (n : ℕ) → at ≤ length out → length l ≡ n → g i ≡ got l → read_rows g (i + 1) ≡ got (take (at + n) (take at out ++ (l ++ rest)))
     rows-put l rest n h k f =
-        ap (read_rows g) (add-one i) ∙ ap₂ joined e f ∙ ap got (sym (taken out l rest at h) ∙ ap (λ n. take (at + n) (take at out ++ (l ++ rest))) k)
+        ap (read_rows g) (add-one i) ∙ ap₂ appended e f ∙ ap got (sym (taken out l rest at h) ∙ ap (λ n. take (at + n) (take at out ++ (l ++ rest))) k)
 
     pub rows-set : (z : ℤ) → at < length out → g i ≡ got (z ∷ []) → read_rows g (i + 1) ≡ got (take (at + 1) (set out at z))
     rows-set z h f = rows-put (z ∷ []) (drop (suc at) out) 1 (le_of_lt h) refl f ∙ ap (λ l. got (take (at + 1) l)) (sym (set_split out at z h))

@@ -2,20 +2,19 @@
 use Rattle.std.specs.Prelude.{◌≡◌, List, ℕ, ◌<◌, ℤ, Float, Ok}
 use Rattle.common.specs.Array.{sides_of}
 use Rattle.grgrid.specs.Grid.{size, index}
-use Rattle.grgrid.specs.Lists.{◌∈◌}
 use Rattle.bzgrid.specs.declared.GridType.{GridType}
 use Rattle.bzgrid.specs.declared.Lengths.{Lengths}
 use Rattle.bzgrid.specs.BzGridAddresses.{grid_type_of, bz_grid_addresses}
-use Rattle.bztable.specs.Access.{number_in, image_places}
-use Rattle.bztable.specs.Reading.{triple_at}
+use Rattle.bztable.specs.Access.{ImageAt}
+use Rattle.bztable.specs.Reading.{got, triple_at, place_at}
 
 -- of m images, in the tables of either type
 pub record FoldBack (d addresses map points : List ℤ) (kind : GridType) (m : ℕ) : Type 0 where
   -- the image at a place of point p folds back to p, and the table of points names p there
-  pub folds : (p : ℕ) → p < size (sides_of d) → (i : ℕ) → i ∈ image_places kind map (size (sides_of d)) p
-      → (i < m) × (index (sides_of d) (triple_at addresses i) ≡ p) × (number_in points i ≡ p)
+  pub folds : (p : ℕ) → p < size (sides_of d) → (i : ℕ) → ImageAt kind map (size (sides_of d)) p i
+      → (i < m) × (index (sides_of d) (triple_at addresses i) ≡ p) × (place_at points i ≡ got p)
   -- every image stands at a place of the point that the table names
-  pub stands : (i : ℕ) → i < m → (number_in points i < size (sides_of d)) × (i ∈ image_places kind map (size (sides_of d)) (number_in points i))
+  pub stands : (i : ℕ) → i < m → (p : ℕ) × (place_at points i ≡ got p) × (p < size (sides_of d)) × ImageAt kind map (size (sides_of d)) p i
   pub once : (i j : ℕ) → i < m → j < m → triple_at addresses i ≡ triple_at addresses j → i ≡ j
 
 abbrev pub EveryImage : Type 0

@@ -1,15 +1,16 @@
 -- `neighboring_grid_points_many`: its tests, the walk over points and offsets, and its answer with the output, which has n places, as one outcome.
-use Rattle.std.specs.Prelude.{List, [], ◌∷◌, ◌++◌, ℕ, zero, suc, ◌+◌, ◌*◌, ◌-◌, ◌/◌, ltb, eqb, ℤ, pos, ◌+ℤ◌, length, get_or, unwrap_or, cond}
+use Rattle.std.specs.Prelude.{List, [], ◌∷◌, ◌++◌, ℕ, zero, suc, ◌*◌, ◌-◌, ◌/◌, ltb, eqb, ℤ, pos, ◌+ℤ◌, length, get_or, unwrap_or, cond}
 use Rattle.common.specs.Matrix.{Vec, side, vector}
 use Rattle.common.specs.Array.{sides_of}
 use Rattle.common.specs.Limits.{all_within, diagonal_fits}
 use Rattle.common.specs.Tested.{require, output_of, Tested, Accepted, ◌then◌}
 use Rattle.common.specs.declared.Refusal.TheVariants.{OutsideLimits, WrongLength}
-use Rattle.grgrid.specs.Grid.{index}
+use Rattle.grgrid.specs.Grid.{size, index}
 use Rattle.bzgrid.specs.declared.GridType.{GridType}
 use Rattle.bzgrid.specs.declared.GridType.TheVariants.{Sparse, Dense}
 use Rattle.bzgrid.specs.Table.{doubled, empty}
 use Rattle.bzgrid.specs.BzGridAddresses.{grid_type_of}
+use Rattle.bztable.specs.Access.{run_of}
 use Rattle.bztable.specs.Reading.{Read, got, whole_addresses, triple_at, address_of, place_at, find, tests_after, list_of}
 
 abbrev pub moved : Vec ℤ → Vec ℤ → Vec ℤ
@@ -26,19 +27,19 @@ image_among addresses b lo hi = cond (ltb 1 (hi - lo)) (find addresses b lo (hi 
 
 -- type 2
 abbrev pub dense_neighbour : Vec ℕ → (addresses map : List ℤ) → Vec ℤ → Read ℕ
-dense_neighbour d addresses map b = place_at map (index d b) then λ lo. place_at map (index d b + 1) then λ hi. image_among addresses b lo hi
+dense_neighbour d addresses map b = run_of Dense map (size d) (index d b) then λ r. image_among addresses b r.from r.to
 
 abbrev pub neighbour : Vec ℕ → (addresses map : List ℤ) → Vec ℤ → GridType → Read ℕ
 neighbour d addresses map b Sparse = sparse_neighbour d map b
 neighbour d addresses map b Dense = dense_neighbour d addresses map b
 
 -- ---- g 0, then g 1, .. , then g (n - 1)
-abbrev pub joined : Read (List ℤ) → Read (List ℤ) → Read (List ℤ)
-joined l r = l then λ xs. r then λ ys. got (xs ++ ys)
+abbrev pub appended : Read (List ℤ) → Read (List ℤ) → Read (List ℤ)
+appended l r = l then λ xs. r then λ ys. got (xs ++ ys)
 
 abbrev pub read_rows : (ℕ → Read (List ℤ)) → ℕ → Read (List ℤ)
 read_rows g zero = got []
-read_rows g (suc n) = joined (read_rows g n) (g n)
+read_rows g (suc n) = appended (read_rows g n) (g n)
 
 module _ (t : GridType) (d : Vec ℕ) (offsets addresses map : List ℤ) where
   abbrev pub neighbour_at : Vec ℤ → ℕ → Read (List ℤ)

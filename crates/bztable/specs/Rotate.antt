@@ -1,5 +1,5 @@
 -- `rotate_bz_grid_index`: the tests, the walk and the answer.
-use Rattle.std.specs.Prelude.{◌&&◌, List, ℕ, ◌+◌, ◌*◌, ◌-◌, ℤ, pos, Option, Some, None, Result, cond}
+use Rattle.std.specs.Prelude.{◌&&◌, List, ℕ, ◌-◌, ℤ, pos, Option, Some, None, Result, cond}
 use Rattle.common.specs.Matrix.{Vec, Mat, ◌▹◌, same_vector}
 use Rattle.common.specs.Array.{vector_of, sides_of, matrix_of}
 use Rattle.common.specs.Limits.{matrix_within, diagonal_fits, shift_fits}
@@ -13,6 +13,7 @@ use Rattle.bztable.specs.declared.rotate.Rotated.{Rotated}
 use Rattle.bztable.specs.declared.rotate.Rotated.TheVariants.{Image, Fallback}
 use Rattle.bzgrid.specs.BzGridAddresses.{grid_type_of}
 use Rattle.bztable.specs.Reading.{Read, got, whole_addresses, address_at, address_of, place_at, find}
+use Rattle.bztable.specs.Access.{run_of}
 
 -- double, rotate, halve toward zero
 abbrev pub turned : Mat ℤ → Vec ℤ → Vec ℤ → Vec ℤ
@@ -20,14 +21,14 @@ turned m ps a = halve (m ▹ double a ps) ps
 
 -- ---- where address a stands among the images of point p, one of n
 module _ (addresses map : List ℤ) (a : Vec ℤ) where
-  -- among those whose places, counted from `first` on, the map bounds at k and k + 1
-  abbrev pub among_range : (k first : ℕ) → Read (Option ℕ)
-  among_range k first = place_at map k then λ s. place_at map (k + 1) then λ e. find addresses a (s + first) (e - s)
+  -- among those that the map bounds
+  abbrev pub among_run : GridType → (p n : ℕ) → Read (Option ℕ)
+  among_run t p n = run_of t map n p then λ r. find addresses a r.from (r.to - r.from)
 
-  -- a sparse table has the first image at place p, and the counts of the others after the doubled mesh
+  -- a sparse table has the first image at place p; where that is the one, the map is not read
   abbrev pub among_images : GridType → (p n : ℕ) → Read (Option ℕ)
-  among_images Sparse p n = address_at addresses p then λ b. cond (same_vector b a) (got (Some p)) (among_range (8 * n + p) n)
-  among_images Dense p n = among_range p 0
+  among_images Sparse p n = address_at addresses p then λ b. cond (same_vector b a) (got (Some p)) (among_run Sparse p n)
+  among_images Dense p n = among_run Dense p n
 
 -- the image, or else what the map holds at the point: its first image (type 2), or whatever the doubled mesh has there (type 1)
 abbrev pub image_or : Read ℕ → Option ℕ → Read Rotated

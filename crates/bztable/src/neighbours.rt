@@ -53,9 +53,8 @@ fn dense_neighbour(table: &Table, b: [i64; 3]) -> Result<usize, Refusal>
     ensures below { IfOk result (λ p. p < 2199023255552) }
 {
     let p = grgrid::grid_index_from_address(b, table.g);
-    let lo = reading::place_at(table.map, p)?;
-    let hi = reading::place_at(table.map, p + 1)?;
-    image_among(table, b, lo, hi)
+    let r = reading::bounded(table.map, p, 0)?;
+    image_among(table, b, r.from, r.to)
 }
 
 fn neighbour(table: &Table, b: [i64; 3]) -> Result<usize, Refusal>

@@ -1,8 +1,10 @@
 // How image tables are read. They may hold anything, so every read is tested.
-ghost use Rattle.std.specs.Prelude.{◌≡◌, ◌-◌, ◌<◌, IfOk, IfSome};
+ghost use Rattle.std.specs.Prelude.{◌≡◌, ◌-◌, ◌≤◌, ◌<◌, IfOk, IfSome};
 ghost use Rattle.common.specs.Array.{vector_of, Sized};
 ghost use Rattle.grgrid.specs.Sides.{sides};
 ghost use Rattle.bzgrid.specs.Code.Walked.{MeshFits};
+ghost use Rattle.grgrid.specs.Grid.{size};
+ghost use Rattle.bztable.specs.Access.{bounded, run_of};
 ghost use Rattle.bztable.specs.Reading.{vector_read, whole_addresses, address_at, address_of, place_of, place_at, find};
 
 use bzgrid::GridType;
@@ -18,6 +20,13 @@ pub struct Table<'a> {
     pub addresses: &'a [i64],
     pub map: &'a [i64],
     ghost fits: { MeshFits (sides g) },
+}
+
+// Places of the table, from `from` on and below `to`.
+#[derive(Clone, Copy)]
+pub struct Run {
+    pub from: usize,
+    pub to: usize,
 }
 
 pub fn whole_addresses(list: &[i64]) -> bool
@@ -65,6 +74,33 @@ pub fn place_at(map: &[i64], i: usize) -> Result<usize, Refusal>
     ensures below { IfOk result (λ p. p < 2199023255552) }
 {
     place_of(*map.get(i).ok_or(Refusal::OutsideTable)?)
+}
+
+// The places that the map bounds at k and k + 1, counted from `first` on.
+pub fn bounded(map: &[i64], k: usize, first: usize) -> Result<Run, Refusal>
+    requires { (k < 18446744073709551615) × (first ≤ 65536) }
+    ensures value { result ≡ bounded map.now k first }
+    ensures below { IfOk result (λ r. (r.from < 2199023321088) × (r.to < 2199023321088)) }
+{
+    let s = place_at(map, k)?;
+    let e = place_at(map, k + 1)?;
+    Ok(Run {
+        from: s + first,
+        to: e + first,
+    })
+}
+
+// Those of the images of point p: of all, or in a sparse table of all but the first.
+pub fn run_of(table: &Table, p: usize) -> Result<Run, Refusal>
+    requires { p < 9223372036854775808 }
+    ensures value { result ≡ run_of table.now.t table.now.map.now (size (sides table.now.g)) p }
+    ensures below { IfOk result (λ r. (r.from < 2199023321088) × (r.to < 2199023321088)) }
+{
+    let n = grgrid::points(table.g);
+    match table.t {
+        GridType::Sparse => bounded(table.map, 8 * n + p, n),
+        GridType::Dense => bounded(table.map, p, 0),
+    }
 }
 
 // The first place from `from` on and below `to` that holds address a.

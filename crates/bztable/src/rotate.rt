@@ -4,7 +4,7 @@ ghost use Rattle.common.specs.Array.{vector_of, items, matrix_of, Sized};
 ghost use Rattle.common.specs.Limits.{matrix_within, diagonal_fits, shift_fits};
 ghost use Rattle.grgrid.specs.Grid.{size};
 ghost use Rattle.grgrid.specs.Sides.{sides};
-ghost use Rattle.bztable.specs.Rotate.{turned, among_range, among_images, image_of, rotate_tests, rotate_read, rotate_bz_grid_index};
+ghost use Rattle.bztable.specs.Rotate.{turned, among_run, among_images, image_of, rotate_tests, rotate_read, rotate_bz_grid_index};
 
 use crate::reading;
 use crate::reading::Table;
@@ -52,38 +52,41 @@ fn turned(a: Address, rotation: Rotation, ps: Shift) -> [i64; 3]
     grgrid::halve_address(common::matvec_ii(rotation.m, doubled.v), ps)
 }
 
-// Among the images whose places, counted from `first` on, the map bounds at k and k + 1.
-fn among_range(table: &Table, a: [i64; 3], k: usize, first: usize) -> Result<Option<usize>, Refusal>
-    requires { (k ≤ 4718592) × (first ≤ 524288) }
-    ensures value { result ≡ among_range table.now.addresses.now table.now.map.now (vector_of a) k first }
+// Among the images that the map bounds.
+fn among_run(table: &Table, a: [i64; 3], p: usize) -> Result<Option<usize>, Refusal>
+    requires { p < size (sides table.now.g) }
+    ensures value { let n = size (sides table.now.g) in
+        result ≡ among_run table.now.addresses.now table.now.map.now (vector_of a) table.now.t p n }
     ensures below { IfOk result (λ f. IfSome f (λ i. i < 4611686018427387904)) }
 {
-    let s = reading::place_at(table.map, k)?;
-    let e = reading::place_at(table.map, k + 1)?;
-    reading::find(table.addresses, a, s + first, e + first)
+    let r = reading::run_of(table, p)?;
+    reading::find(table.addresses, a, r.from, r.to)
 }
 
-// The first image of point p, one of n, is at its own place.
-fn among_sparse(table: &Table, a: [i64; 3], p: usize, n: usize) -> Result<Option<usize>, Refusal>
-    requires { (p < n) × (n ≤ 65536) }
-    ensures value { result ≡ among_images table.now.addresses.now table.now.map.now (vector_of a) GridType.Sparse p n }
+// The first image of point p is at its own place.
+fn among_sparse(table: &Table, a: [i64; 3], p: usize) -> Result<Option<usize>, Refusal>
+    requires sparse { table.now.t ≡ GridType.Sparse }
+    requires point { p < size (sides table.now.g) }
+    ensures value { let n = size (sides table.now.g) in
+        result ≡ among_images table.now.addresses.now table.now.map.now (vector_of a) GridType.Sparse p n }
     ensures below { IfOk result (λ f. IfSome f (λ i. i < 4611686018427387904)) }
 {
     if reading::address_at(table.addresses, p)?.v == a {
         return Ok(Some(p));
     }
-    among_range(table, a, 8 * n + p, n)
+    among_run(table, a, p)
 }
 
 // A clause bounds p: a GridPoint has a grid of its own, which would have to be the table's.
 fn among_images(table: &Table, a: [i64; 3], p: usize) -> Result<Option<usize>, Refusal>
     requires { p < size (sides table.now.g) }
-    ensures value { result ≡ among_images table.now.addresses.now table.now.map.now (vector_of a) table.now.t p (size (sides table.now.g)) }
+    ensures value { let n = size (sides table.now.g) in
+        result ≡ among_images table.now.addresses.now table.now.map.now (vector_of a) table.now.t p n }
     ensures below { IfOk result (λ f. IfSome f (λ i. i < 4611686018427387904)) }
 {
     match table.t {
-        GridType::Sparse => among_sparse(table, a, p, grgrid::points(table.g)),
-        GridType::Dense => among_range(table, a, p, 0),
+        GridType::Sparse => among_sparse(table, a, p),
+        GridType::Dense => among_run(table, a, p),
     }
 }
 

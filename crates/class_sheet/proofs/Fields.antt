@@ -11,7 +11,7 @@ use lib.ListN.{length, replicate, length-append, length-replicate}
 use lib.Seq.{take_at, drop_at}
 use borrow.Author.Tests.{ne_eqb}
 use Rattle.integer.proofs.Test.{and_l, and_r}
-use Rattle.decimal.specs.Decimal.{decimal, number}
+use Rattle.decimal.specs.Decimal.{decimal, signed_decimal}
 use Rattle.decimal.proofs.Decimal.{one-digit, last-digit, by_tens, Digits, decimal-digits, digits-few}
 use Rattle.class_sheet.specs.Sheet.{right, field_fits, line, line_fits}
 use Rattle.class_sheet.specs.ReadSheet.{value, read_field, read_line}
@@ -51,19 +51,19 @@ read-digits t d = ap read_field d.is ∙ plain d.first d.rest d.high ∙ ap (λ 
     plain : (c : ℕ) (t : List ℕ) → 48 ≤ c → read_field (c ∷ t) ≡ pos (value 0 (c ∷ t))
     plain c t h = ap₂ (tested c t) (ne_eqb c 32 (λ e. omega arith)) (ne_eqb c 45 (λ e. omega arith))
 
-read-number : (z : ℤ) → read_field (number z) ≡ z
+read-number : (z : ℤ) → read_field (signed_decimal z) ≡ z
 read-number (pos n) = read-digits (decimal n) (decimal-digits n) ∙ ap pos (decimal-value n)
 read-number (negsuc n) = ap (λ n. neg_ℤ (pos n)) (decimal-value (suc n))
 
 -- a right-adjusted field gives the number
-pub read-field : (w : ℕ) (z : ℤ) → read_field (right w (number z)) ≡ z
-read-field w z = read-blanks (w - length (number z)) (number z) ∙ read-number z
+pub read-field : (w : ℕ) (z : ℤ) → read_field (right w (signed_decimal z)) ≡ z
+read-field w z = read-blanks (w - length (signed_decimal z)) (signed_decimal z) ∙ read-number z
 
 pub length-right : (w : ℕ) (t : List ℕ) → length t ≤ w → length (right w t) ≡ w
 length-right w t h = omega (arith, length-append (replicate (w - length t) 32) t, length-replicate {A = ℕ} (w - length t) 32)
 
-length-field : (w : ℕ) (z : ℤ) → T (field_fits w z) → length (right w (number z)) ≡ w
-length-field w z t = length-right w (number z) (leb→le (length (number z)) w t)
+length-field : (w : ℕ) (z : ℤ) → T (field_fits w z) → length (right w (signed_decimal z)) ≡ w
+length-field w z t = length-right w (signed_decimal z) (leb→le (length (signed_decimal z)) w t)
 
 -- ---- a line
 pub length-line : (ws : List ℕ) (l : List ℤ) → length l ≡ length ws → T (line_fits ws l) → length (line ws l) ≡ total ws + 1
@@ -73,7 +73,7 @@ length-line (w ∷ ws) [] e t = absurd (omega arith)
 length-line (w ∷ ws) (z ∷ l) e t =
     let f = length-field w z (and_l (field_fits w z) (line_fits ws l) t) in
     let r = length-line ws l (omega arith) (and_r (field_fits w z) (line_fits ws l) t) in
-    length-append (right w (number z)) (line ws l) ∙ omega arith
+    length-append (right w (signed_decimal z)) (line ws l) ∙ omega arith
 
 pub read-line : (ws : List ℕ) (l : List ℤ) → length l ≡ length ws → T (line_fits ws l) → read_line ws (line ws l) ≡ l
 read-line [] [] e t = refl
@@ -81,5 +81,5 @@ read-line [] (z ∷ l) e t = absurd (omega arith)
 read-line (w ∷ ws) [] e t = absurd (omega arith)
 read-line (w ∷ ws) (z ∷ l) e t =
     let f = length-field w z (and_l (field_fits w z) (line_fits ws l) t) in
-    ap₂ (λ a b. read_field a ∷ read_line ws b) (take_at (right w (number z)) (line ws l) w f) (drop_at (right w (number z)) (line ws l) w f)
+    ap₂ (λ a b. read_field a ∷ read_line ws b) (take_at (right w (signed_decimal z)) (line ws l) w f) (drop_at (right w (signed_decimal z)) (line ws l) w f)
     ∙ ap₂ ◌∷◌ (read-field w z) (read-line ws l (omega arith) (and_r (field_fits w z) (line_fits ws l) t))

@@ -19,7 +19,7 @@ use Rattle.std.proofs.lemmas.Bool.Decides.{nat_tests}
 use Rattle.common.specs.declared.Refusal.TheVariants.{OutsideLimits}
 use Rattle.common.specs.Tested.{Tested, Accepted}
 use Rattle.common.proofs.Tests.{not-accepted}
-use Rattle.decimal.specs.Decimal.{decimal, number}
+use Rattle.decimal.specs.Decimal.{decimal, signed_decimal}
 use Rattle.decimal.proofs.Decimal.{one-digit, last-digit, some-digit}
 use Rattle.class_sheet.specs.Sheet.{right, field_fits, line, line_fits}
 use Rattle.class_sheet.specs.Code.SheetView.{sign, signed, fitting, total, PutRight, PutLine}
@@ -113,13 +113,13 @@ module _ {ws : List ℕ} {l out : List ℤ} {i at : ℕ} (d : Begun ws l out i a
     field-size : length field ≡ w
     field-size = mid_len at (at + w) out (omega (arith, room-next, size)) ∙ omega arith
 
-    as-number : {told : Tested} {part : List ℤ} → PutRight (number y) (length field) told part → PutRight (number z) w told part
-    as-number {told} {part} p = subst (λ n. PutRight (number z) n told part) field-size (subst (λ y. PutRight (number y) (length field) told part) q p)
+    as-number : {told : Tested} {part : List ℤ} → PutRight (signed_decimal y) (length field) told part → PutRight (signed_decimal z) w told part
+    as-number {told} {part} p = subst (λ n. PutRight (signed_decimal z) n told part) field-size (subst (λ y. PutRight (signed_decimal y) (length field) told part) q p)
 
-    pub field-put : {part : List ℤ} → length part ≡ length field → PutRight (number y) (length field) Accepted part → Begun ws l (put_mid at (at + w - at) out part) (i + 1) (at + w)
+    pub field-put : {part : List ℤ} → length part ≡ length field → PutRight (signed_decimal y) (length field) Accepted part → Begun ws l (put_mid at (at + w - at) out part) (i + 1) (at + w)
     field-put {part} k p =
         let p = as-number p in
-        let taken : take (at + w) (put_mid at (at + w - at) out part) ≡ take at out ++ map pos (right w (number z)) =
+        let taken : take (at + w) (put_mid at (at + w - at) out part) ≡ take at out ++ map pos (right w (signed_decimal z)) =
         take-put_mid at (at + w - at) out part (at + w) (omega (arith, k, field-size)) (omega (arith, room-next, size)) ∙ ap (λ t. take at out ++ t) (p.stands refl) in
         record {
           room = room-next;

@@ -13,14 +13,14 @@ use Rattle.integer.proofs.Test.{and_l, and_r, holds}
 use Rattle.common.specs.Tested.{require, output_of, Tested, Accepted}
 use Rattle.common.specs.declared.Refusal.TheVariants.{OutsideLimits, WrongLength}
 use Rattle.common.proofs.Tests.{passed}
-use Rattle.grgrid.specs.Build.{build, rows}
+use Rattle.grgrid.specs.Build.{build, concat}
 use Rattle.class_sheet.specs.Sheet.{line, line_fits, row_widths, page_widths, page_number, page_fits, lined, text, text_fits, line_count, place_count}
 use Rattle.class_sheet.specs.ReadSheet.{read_line, line_at, rows_at, read_sheet}
 use Rattle.class_sheet.specs.ClassSheet.{row, class_count, class_sheet, ReadsBack}
 use Rattle.class_sheet.proofs.Fields.{length-line, read-line}
 
 -- ---- lines of 46 places
-rows-alike : {A : Type 0} (f g : ℕ → List A) (m : ℕ) → ((i : ℕ) → i < m → f i ≡ g i) → rows f m ≡ rows g m
+rows-alike : {A : Type 0} (f g : ℕ → List A) (m : ℕ) → ((i : ℕ) → i < m → f i ≡ g i) → concat f m ≡ concat g m
 rows-alike f g zero h = refl
 rows-alike f g (suc m) h = ap₂ ◌++◌ (rows-alike f g m (λ i l. h i (omega arith))) (h m (omega arith))
 
@@ -38,7 +38,7 @@ told i t = cond (eqb (i % 41) 0) [] (read_line row_widths t ∷ [])
 -- a text of m lines that tell these rows
 record Tells (m : ℕ) (s : List ℕ) (l : List (List ℤ)) : Type 0 where
   size : length s ≡ 46 * m
-  tells : rows (rows_at s) m ≡ l
+  tells : concat (rows_at s) m ≡ l
 
 one_more : {m : ℕ} {s : List ℕ} {l : List (List ℤ)} → Tells m s l → (t : List ℕ) → length t ≡ 46 → Tells (suc m) (s ++ t) (l ++ told m t)
 one_more {m} {s} {l} d t e = record {
@@ -107,7 +107,7 @@ module _ (row : ℕ → List ℤ) (five : (r : ℕ) → length (row r) ≡ 5) wh
   read_back n t =
       let d = text-tells n t in
       let count : length (text row n) / 46 ≡ line_count n = omega (arith, d.size) in
-      ap (rows (rows_at (text row n))) count ∙ d.tells
+      ap (concat (rows_at (text row n))) count ∙ d.tells
 
 -- ---- an accepted call
 module _ (classes triplets : List ℤ) where

@@ -1,6 +1,6 @@
 -- A sheet read back: by columns, not by blanks, since full fields touch; pages are skipped by their place. It knows nothing of how a sheet is written.
 use Rattle.std.specs.Prelude.{List, [], ◌∷◌, ℕ, ◌+◌, ◌*◌, ◌-◌, ◌/◌, ◌%◌, eqb, ℤ, pos, neg_ℤ, length, take, drop, cond}
-use Rattle.grgrid.specs.Build.{rows}
+use Rattle.grgrid.specs.Build.{concat}
 
 -- decimal digits after those that make n
 abbrev pub value : ℕ → List ℕ → ℕ
@@ -26,4 +26,4 @@ abbrev pub rows_at : List ℕ → ℕ → List (List ℤ)
 rows_at t i = cond (eqb (i % 41) 0) [] (read_line (6 ∷ 6 ∷ 11 ∷ 11 ∷ 11 ∷ []) (line_at t i) ∷ [])
 
 unfoldable pub read_sheet : List ℕ → List (List ℤ)
-read_sheet t = rows (rows_at t) (length t / 46)
+read_sheet t = concat (rows_at t) (length t / 46)

@@ -1,7 +1,7 @@
 -- The sheet as the codes of its characters: numbers right in fields of fixed width, a line a class, forty classes a page.
 use Rattle.std.specs.Prelude.{Bool, true, ◌&&◌, List, [], ◌∷◌, ◌++◌, ℕ, zero, suc, ◌+◌, ◌*◌, ◌-◌, ◌/◌, ◌%◌, eqb, leb, ℤ, pos, length, replicate, cond}
-use Rattle.decimal.specs.Decimal.{decimal, number}
-use Rattle.grgrid.specs.Build.{rows}
+use Rattle.decimal.specs.Decimal.{decimal, signed_decimal}
+use Rattle.grgrid.specs.Build.{concat}
 
 -- ---- fields
 -- a text right in w places, after blanks
@@ -10,14 +10,14 @@ right w text = replicate (w - length text) 32 ++ text
 
 -- a minus sign counts
 abbrev pub field_fits : ℕ → ℤ → Bool
-field_fits w z = leb (length (number z)) w
+field_fits w z = leb (length (signed_decimal z)) w
 
 -- ---- lines
 -- numbers in fields of these widths, and a line feed
 abbrev pub line : List ℕ → List ℤ → List ℕ
 line [] l = 10 ∷ []
 line (w ∷ ws) [] = 10 ∷ []
-line (w ∷ ws) (z ∷ l) = right w (number z) ++ line ws l
+line (w ∷ ws) (z ∷ l) = right w (signed_decimal z) ++ line ws l
 
 abbrev pub line_fits : List ℕ → List ℤ → Bool
 line_fits [] l = true
@@ -47,7 +47,7 @@ unfolding decimal
 lined row r = page_line r ++ line row_widths (row r)
 
 abbrev pub text : (ℕ → List ℤ) → ℕ → List ℕ
-text row n = rows (lined row) n
+text row n = concat (lined row) n
 
 abbrev pub text_fits : (ℕ → List ℤ) → ℕ → Bool
 text_fits row zero = true

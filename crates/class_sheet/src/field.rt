@@ -1,6 +1,6 @@
 // Numbers right in fields of fixed width, and lines of them.
 ghost use Rattle.std.specs.Prelude.{◌≡◌, ◌+◌, length};
-ghost use Rattle.decimal.specs.Decimal.{number};
+ghost use Rattle.decimal.specs.Decimal.{signed_decimal};
 ghost use Rattle.class_sheet.specs.Code.SheetView.{sign, signed, total, PutRight, PutLine};
 
 use common::Refusal;
@@ -31,7 +31,7 @@ fn put_digits(negative: bool, n: u64, out: &mut [i64]) -> Result<(), Refusal>
 
 // The number, if it fits into the slice.
 fn put_number(z: i64, out: &mut [i64]) -> Result<(), Refusal>
-    ensures { PutRight (number z) (length out.old) result out.new }
+    ensures { PutRight (signed_decimal z) (length out.old) result out.new }
 {
     put_digits(z < 0, z.unsigned_abs(), out)
 }

@@ -11,7 +11,7 @@ use lib.Dec.{T}
 use lib.IntN.{ℤ, pos, nat_abs}
 use lib.ListN.{length, get_or}
 use Rattle.common.specs.Matrix.{Axis, Mat, entry, entries}
-use Rattle.common.specs.Array.{number, matrix_at, matrices_from, matrices, flat}
+use Rattle.common.specs.Array.{axis_index, matrix_at, matrices_from, matrices, flat}
 use Rattle.common.specs.Limits.{all_within}
 use Rattle.common.proofs.Matrix.{same-matrix, entry-matrix}
 use Rattle.common.proofs.Bounds.{entry-within}
@@ -36,7 +36,7 @@ read-flat (m ∷ l) r = ap (λ t. m ∷ t) (after 0 (length l) ∙ read-flat l r
 
     after : (n k : ℕ) → matrices_from (entries m (flat l ++ r)) (suc n) k ≡ matrices_from (flat l ++ r) n k
     after n zero = refl
-    after n (suc k) = ap₂ ◌∷◌ (same-matrix (λ i j. at n (number i * 3) (number j))) (after (suc n) k)
+    after n (suc k) = ap₂ ◌∷◌ (same-matrix (λ i j. at n (axis_index i * 3) (axis_index j))) (after (suc n) k)
 
 pub matrices-flat : (l : List (Mat ℤ)) → matrices (flat l) ≡ l
 matrices-flat l =
@@ -66,4 +66,4 @@ read_small b s t n zero m p = absurd (not-nil p)
 read_small b s t n (suc k) m p = ⊎_elim (λ e. subst (λ m. (i j : Axis) → nat_abs (entry m i j) ≤ b) (sym e) at) (read_small b s t (suc n) k m) (cases p)
   where
     at : (i j : Axis) → nat_abs (entry (matrix_at s n) i j) ≤ b
-    at i j = rw (entry-matrix (λ i j. get_or s (n * 9 + number i * 3 + number j) (pos 0)) i j) (entry-within b s t (n * 9 + number i * 3 + number j))
+    at i j = rw (entry-matrix (λ i j. get_or s (n * 9 + axis_index i * 3 + axis_index j) (pos 0)) i j) (entry-within b s t (n * 9 + axis_index i * 3 + axis_index j))

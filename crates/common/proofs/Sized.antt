@@ -11,7 +11,7 @@ use lib.Signed.{le_z}
 use mathlib.Core.Path.{◌≡◌}
 use Rattle.integer.proofs.Test.{and_l, and_r}
 use Rattle.common.specs.Matrix.{Axis, X, Y, Z, Vec, Mat, side, entry, integers, dot, ◌▹◌}
-use Rattle.common.specs.Array.{number, along, vector_of, items, matrix_at, Sized}
+use Rattle.common.specs.Array.{axis_index, along, vector_of, items, matrix_at, Sized}
 use Rattle.common.specs.IntegerMatrix.{dot_fits, apply_fits}
 use Rattle.common.specs.Limits.{all_within, matrix_within, half_fits, shift_fits}
 use Rattle.common.proofs.Bounds.{entry-within, matrix-sizes, sizes-within}
@@ -34,7 +34,7 @@ within-sized k l t = record { each = entry-within k l t }
 
 -- a matrix of a list
 pub rotation_within : (k : ℕ) (l : List ℤ) → T (all_within k l) → (n : ℕ) → T (matrix_within k (matrix_at l n))
-rotation_within k l t n = sizes-within k (matrix_at l n) (λ i j. rw (entry-matrix (λ i j. get_or l (n * 9 + number i * 3 + number j) (pos 0)) i j) (entry-within k l t (n * 9 + number i * 3 + number j)))
+rotation_within k l t n = sizes-within k (matrix_at l n) (λ i j. rw (entry-matrix (λ i j. get_or l (n * 9 + axis_index i * 3 + axis_index j) (pos 0)) i j) (entry-within k l t (n * 9 + axis_index i * 3 + axis_index j)))
 
 -- ---- the shift
 pub half-size : (z : ℤ) → T (half_fits z) → nat_abs z ≤ 1
@@ -56,7 +56,7 @@ shift-sized ps e t = record { each = at }
 -- ---- a matrix with entries up to x, times a column with entries up to y
 module _ (x y : ℕ) (m : Mat ℤ) {v : List ℤ} (f : T (matrix_within x m)) (g : Sized y v) where
   column : (k : Axis) → nat_abs (side (vector_of v) k) ≤ y
-  column k = rw (side-vector (along v) k) (g.each (number k))
+  column k = rw (side-vector (along v) k) (g.each (axis_index k))
 
   -- no step leaves 64 bits
   pub apply-fits : x * y ≤ 3074457345618258602 → T (apply_fits m (vector_of v))

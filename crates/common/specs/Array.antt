@@ -2,22 +2,22 @@
 use Rattle.std.specs.Prelude.{List, [], ◌∷◌, ℕ, zero, suc, ◌+◌, ◌*◌, ◌/◌, ◌≤◌, ℤ, pos, nat_abs, get_or, length}
 use Rattle.common.specs.Matrix.{Axis, X, Y, Z, Vec, Mat, vector, matrix, entries, map_vec, dot, integers}
 
-abbrev pub number : Axis → ℕ
-number X = 0
-number Y = 1
-number Z = 2
+abbrev pub axis_index : Axis → ℕ
+axis_index X = 0
+axis_index Y = 1
+axis_index Z = 2
 
 -- what an array or a nested array holds, and `none` where there is no such place
 module _ {A : Type 0} (none : A) where
   -- the number along an axis
   abbrev pub along_or : List A → Axis → A
-  along_or l k = get_or l (number k) none
+  along_or l k = get_or l (axis_index k) none
 
   abbrev pub vector_or : List A → Vec A
   vector_or l = vector (along_or l)
 
   abbrev pub matrix_or : List (List A) → Mat A
-  matrix_or m = matrix (λ j k. get_or (get_or m (number j) []) (number k) none)
+  matrix_or m = matrix (λ j k. get_or (get_or m (axis_index j) []) (axis_index k) none)
 
   -- three numbers of a list
   abbrev pub row_at_or : List A → ℕ → List A
@@ -25,7 +25,7 @@ module _ {A : Type 0} (none : A) where
 
   -- matrix n of a list
   abbrev pub matrix_at_or : List A → ℕ → Mat A
-  matrix_at_or l n = matrix (λ j k. get_or l (n * 9 + number j * 3 + number k) none)
+  matrix_at_or l n = matrix (λ j k. get_or l (n * 9 + axis_index j * 3 + axis_index k) none)
 
 abbrev pub along : List ℤ → Axis → ℤ
 along = along_or (pos 0)

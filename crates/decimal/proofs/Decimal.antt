@@ -11,7 +11,7 @@ use lib.IntN.{ℤ, pos, negsuc, nat_abs}
 use lib.Signed.{lt_z}
 use lib.ListN.{length, length-append}
 use borrow.Author.Tests.{lt-ltb, le-ltb, ltb-true, ltb-false}
-use Rattle.decimal.specs.Decimal.{digits, decimal, number}
+use Rattle.decimal.specs.Decimal.{digits, decimal, signed_decimal}
 
 -- ---- decimal digits, by the last one
 enough : (j : ℕ) (b : Bool) (k n : ℕ) → ltb n 10 ≡ b → n ≤ j → n ≤ k → digits j b n ≡ digits k b n
@@ -43,11 +43,11 @@ last-digit n h = ap (λ b. digits n b n) (le-ltb n 10 h) ∙ more n (omega arith
 
 -- ---- a number, by its sign
 module _ {n : ℕ} where
-  pub below-zero : (z : ℤ) → lt_z z (pos 0) ≡ true → n ≡ nat_abs z → number z ≡ 45 ∷ decimal n
+  pub below-zero : (z : ℤ) → lt_z z (pos 0) ≡ true → n ≡ nat_abs z → signed_decimal z ≡ 45 ∷ decimal n
   below-zero (pos m) e f = let z : ◌≡◌ {A = ℕ} 0 1 = let h = ltb-true m 0 e in omega arith in absurd (omega arith)
   below-zero (negsuc m) e f = ap (λ n. 45 ∷ decimal n) (sym f)
 
-  pub from_zero : (z : ℤ) → lt_z z (pos 0) ≡ false → n ≡ nat_abs z → number z ≡ decimal n
+  pub from_zero : (z : ℤ) → lt_z z (pos 0) ≡ false → n ≡ nat_abs z → signed_decimal z ≡ decimal n
   from_zero (pos m) e f = ap decimal (sym f)
   from_zero (negsuc m) e f = let z : ◌≡◌ {A = ℕ} 0 1 = cc in absurd (omega arith)
 

@@ -10,6 +10,6 @@ digits (suc k) false n = digits k (ltb (n / 10) 10) (n / 10) ++ ((48 + n % 10) �
 unfoldable pub decimal : ℕ → List ℕ
 decimal n = digits n (ltb n 10) n
 
-abbrev pub number : ℤ → List ℕ
-number (pos n) = decimal n
-number (negsuc n) = 45 ∷ decimal (suc n)
+abbrev pub signed_decimal : ℤ → List ℕ
+signed_decimal (pos n) = decimal n
+signed_decimal (negsuc n) = 45 ∷ decimal (suc n)

@@ -20,7 +20,7 @@ use Rattle.common.specs.IntegerMatrix.{product_fits, det_fits}
 use Rattle.common.proofs.Unimodular.{Unimodular}
 use Rattle.grgrid.specs.Grid.{index}
 use Rattle.grgrid.proofs.MatrixGroup.{MatrixGroup}
-use Rattle.recip_rotations.specs.PointGroup.{joined, get_reciprocal_point_group}
+use Rattle.recip_rotations.specs.PointGroup.{with_negatives, get_reciprocal_point_group}
 use Rattle.recip_rotations.proofs.Told.{joined-group}
 use Rattle.snf_steps.specs.Gcd.{step, euclid, extended_gcd}
 use Rattle.snf_steps.specs.Columns.{multiply, make_zero, first_column, second_column}
@@ -59,7 +59,7 @@ alone = record {
   times = λ A B j k. here (ap₂ ◌·◌ (eq_of_singleton j) (eq_of_singleton k));
 }
 
-pub conditions : MatrixGroup (joined true (matrices list))
+pub conditions : MatrixGroup (with_negatives true (matrices list))
 conditions = joined-group true alone
 
 -- ---- diagonalising
@@ -176,7 +176,7 @@ job = record {
   classifies = classifies.0;
   classifies-to = classifies.1;
   start = 1;
-  starts = here refl;
+  starts = record { places = 1 ∷ []; read = refl; stands = here refl };
   triplets = triplets;
   triplet-rooms = record { x = 6; y = 2; z = 2 };
   chooses = chooses.0.0;

@@ -13,16 +13,15 @@ use Rattle.common.specs.Array.{items, rows, matrix_of, matrices}
 use Rattle.common.specs.Limits.{diagonal_fits}
 use Rattle.common.specs.Tested.{output_of, Accepted}
 use Rattle.common.proofs.Unimodular.{Unimodular}
-use Rattle.grgrid.specs.ClassMap.{kept}
 use Rattle.grgrid.specs.Picked.{Rising}
-use Rattle.grgrid.specs.Own.{own_points}
+use Rattle.grgrid.specs.Own.{own_places, own_points}
 use Rattle.grgrid.proofs.Lists.{◌∈◌}
 use Rattle.grgrid.specs.Orbits.{Least, OneEach}
 use Rattle.grgrid.proofs.Count.{Classified}
 use Rattle.grgrid.proofs.Folding.{Sides}
 use Rattle.grgrid.proofs.Acting.{Acts}
 use Rattle.grgrid.proofs.MatrixGroup.{MatrixGroup, joined-acts}
-use Rattle.recip_rotations.specs.PointGroup.{joined, point_group}
+use Rattle.recip_rotations.specs.PointGroup.{with_negatives, point_group}
 use Rattle.snf3x3.proofs.Diagonal.{diagonalised-right}
 use Rattle.transform_rotations.specs.TransformRotations.{transform_tests}
 use Rattle.transform_rotations.proofs.ExactCall.{sides-positive, written-tests}
@@ -82,17 +81,17 @@ module _ (c : Calls) where
   lowest-rise = own-rising c.classes (length c.classes)
 
   -- ---- of a group
-  module _ (g : MatrixGroup (joined c.time_reversal (matrices c.list))) where
+  module _ (g : MatrixGroup (with_negatives c.time_reversal (matrices c.list))) where
     change : Unimodular (matrix_of (rows c.q))
     change = (diagonalised-right (matrix_of c.matrix) c.d c.p c.q c.rounds c.diagonalises).unimodular-q
 
-    operations : MatrixGroup (joined c.time_reversal (matrices c.transformed))
+    operations : MatrixGroup (with_negatives c.time_reversal (matrices c.transformed))
     operations =
-        subst (λ l. MatrixGroup (joined c.time_reversal (matrices l))) (sym c.transforms-to)
+        subst (λ l. MatrixGroup (with_negatives c.time_reversal (matrices l))) (sym c.transforms-to)
         (transformed-joined c.rotations (items c.d) (rows c.q) c.room change transform-passed c.time_reversal (given-joined c.given g))
 
     -- the class call works with just these
-    worked-with : point_group (matrices c.transformed) c.time_reversal false ≡ joined c.time_reversal (matrices c.transformed)
+    worked-with : point_group (matrices c.transformed) c.time_reversal false ≡ with_negatives c.time_reversal (matrices c.transformed)
     worked-with = told_is (matrices c.transformed) (list-distinct c.time_reversal (matrices c.transformed) operations) c.time_reversal false
 
     group : MatrixGroup (point_group (matrices c.transformed) c.time_reversal false)
@@ -109,7 +108,7 @@ module _ (c : Calls) where
             subst (λ l. (M : Mat ℤ) → M ∈ matrices l → Acts (grid c) M) (sym c.transforms-to)
             (call-acts c.rotations (items c.d) (rows c.q) c.room change transform-passed)
 
-    classified : Classified (points c) (Class c) numbers (kept numbers (points c))
+    classified : Classified (points c) (Class c) numbers (own_places (map pos numbers) (points c))
     unfolding classes_at
     classified = swapped-classes (grid c) sides group members acts c.q0 q0-inside c.swappable
 

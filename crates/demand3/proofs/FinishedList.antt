@@ -1,7 +1,7 @@
 -- Demand 3, whole: from what the five accepted calls left, and the four conditions on the list, all that is said of the finished list.
 use Rattle.common.specs.Array.{matrices}
 use Rattle.grgrid.specs.MatrixGroup.{MatrixGroup}
-use Rattle.recip_rotations.specs.PointGroup.{joined}
+use Rattle.recip_rotations.specs.PointGroup.{with_negatives}
 use Rattle.demand3.specs.FinishedList.{Calls, FinishedList, Demand3}
 use Rattle.demand3.proofs.FinishedTriplets.{finished-triplets}
 use Rattle.demand3.proofs.FinishedClasses.{every-number, one_number, lowest-number, lowest-rise, lowest-each}
@@ -15,7 +15,7 @@ demand-3 c =
       true-classes = λ g. record { same_number = one_number c g; lowest = lowest-number c g; one_each = lowest-each c g };
     }
 
-pub finished-list : (c : Calls) → MatrixGroup (joined c.time_reversal (matrices c.list)) → FinishedList c
+pub finished-list : (c : Calls) → MatrixGroup (with_negatives c.time_reversal (matrices c.list)) → FinishedList c
 finished-list c g = let d = demand-3 c in record { every = d.every; true-classes = d.true-classes g }
 
 -- where the list itself meets the conditions

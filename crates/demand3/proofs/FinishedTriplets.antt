@@ -5,7 +5,7 @@ use Prim.Native.Nat.{ℕ, ◌*◌, ◌<◌, ◌≤◌}
 use lib.Dec.{T, leb, leb→le}
 use lib.IntN.{ℤ, pos, nat_abs}
 use lib.Ieee.{lt, le}
-use lib.ListN.{length, get_or, length-map}
+use lib.ListN.{length, get_or}
 use Rattle.integer.specs.Same.{same}
 use Rattle.integer.proofs.Test.{and_r}
 use Rattle.integer.proofs.Same.{same-eq}
@@ -24,8 +24,11 @@ use Rattle.bztable.specs.Reading.{Read, got, triple_at, address_at}
 use Rattle.bztable.specs.Access.{image_places}
 use Rattle.bzgrid.proofs.Accepted.{passes-first}
 use Rattle.bzsearch.proofs.Images.{Sound}
-use Rattle.bztable.proofs.ImageTable.{Stands, place-image, image-place, place-folds}
-use Rattle.bztable.proofs.AcceptedCall.{CallAccepted, call-accepted, call-sound, call-stands, call-found, call-tolerance}
+use Rattle.bzgrid.specs.declared.GridType.{GridType}
+use Rattle.bzgrid.specs.declared.GridType.TheVariants.{Sparse, Dense}
+use Rattle.bztable.proofs.TableRead.{address-got, first-stands}
+use Rattle.bztable.proofs.ImageTable.{Stands, stands-at, image-at, some-place, place-image, image-place, place-folds}
+use Rattle.bztable.proofs.AcceptedCall.{CallAccepted, call-accepted, call-sound, call-folded, call-stands, call-found, call-tolerance}
 use Rattle.bztable.proofs.CallBounds.{call-image-size}
 use Rattle.triplet_grid.proofs.Stabilizer.{partner-index, partner-inside}
 use Rattle.bz_triplets.specs.Choosing.{start, left, closed}
@@ -33,10 +36,10 @@ use Rattle.bz_triplets.specs.BzTriplets.{State, Walk, is_zero, places_of, first_
 use Rattle.bz_triplets.proofs.Choosing.{Picks, Length, Triplet, triplet-best, float-order, at_least}
 use Rattle.bz_triplets.proofs.Choosing as choosing
 use Rattle.grgrid.proofs.Own.{own-points}
-use Rattle.demand3.specs.FinishedList.{Calls, grid, points, partner_of, lowest_points, search, trio, Choice, sum, squared_length, less_tolerance, at, Best}
-use Rattle.demand3.proofs.TableWalks.{Counts, address-got, closes_at, length_at, less_at, chosen-got, each-got}
+use Rattle.demand3.specs.FinishedList.{Calls, grid, points, partner_of, lowest_points, search, trio, Choice, sum, squared_length, less_tolerance, at, Best, Starts}
+use Rattle.demand3.proofs.TableWalks.{closes_at, length_at, less_at, chosen-got, each-got}
 use Rattle.demand3.proofs.SumLengths.{sum-size, sum-length}
-use Rattle.demand3.proofs.AcceptedTriplets.{classes-accepted, map-counts, starts-in, starts-point, first-got, TripletsAccepted, triplets-accepted}
+use Rattle.demand3.proofs.AcceptedTriplets.{classes-accepted, starts-point, first-got, TripletsAccepted, triplets-accepted}
 
 -- ---- a sum of zero
 zero-sum : (g : Vec ℤ) → T (is_zero g) → g ≡ origin
@@ -66,11 +69,11 @@ module _ (c : Calls) where
   abbrev grg-left : List ℤ
   grg-left = (bz_grid_addresses (items c.d) (rows c.q) c.shift c.lattice c.type c.rooms.x c.rooms.y c.rooms.z).grg
 
-  stands : Stands c.kind (search c) c.addresses c.map grg-left c.lengths.grg
+  pub stands : Stands c.kind (points c) (images (search c)) c.addresses c.map grg-left c.lengths.grg
   stands =
-      subst (λ l. Stands c.kind (search c) l c.map grg-left c.lengths.grg) (sym c.builds-addresses)
-      (subst (λ l. Stands c.kind (search c) addresses-left l grg-left c.lengths.grg) (sym c.builds-map)
-      (subst (λ t. Stands t (search c) addresses-left map-left grg-left c.lengths.grg) same-kind (call-stands built)))
+      subst (λ l. Stands c.kind (points c) (images (search c)) l c.map grg-left c.lengths.grg) (sym c.builds-addresses)
+      (subst (λ l. Stands c.kind (points c) (images (search c)) addresses-left l grg-left c.lengths.grg) (sym c.builds-map)
+      (subst (λ t. Stands t (points c) (images (search c)) addresses-left map-left grg-left c.lengths.grg) same-kind (call-stands built)))
 
   pub images-room : c.lengths.grg ≤ c.rooms.z
   images-room = leb→le c.lengths.grg c.rooms.z (and_r (leb c.lengths.map c.rooms.y) _ (and_r (leb c.lengths.addresses c.rooms.x) _ built.room))
@@ -79,22 +82,21 @@ module _ (c : Calls) where
   sound = call-sound built
 
   abbrev places : ℕ → List ℕ
-  places p = image_places c.kind c.map (points c) p
+  places = stands.places
 
-  counts : (p : ℕ) → p < points c → Counts c.kind c.map (points c) p
-  counts p h =
-      subst (λ t. Counts t c.map (points c) p) same-kind
-      (subst (λ l. Counts built.kind l (points c) p) (sym (c.builds-map ∙ built.map)) (map-counts built.kind (grid c) _ _ p h))
-
-  some-place : (p : ℕ) → p < points c → 0 < length (places p)
-  some-place p h = rw (← length-map (places p) (triple_at c.addresses), stands.reads p h) (call-found built p h)
+  has-place : (p : ℕ) → p < points c → 0 < length (places p)
+  has-place p h = some-place stands p h (call-found built p h)
 
   -- ---- q0
   q0-inside : c.q0 < points c
   q0-inside = (classes-accepted (pos c.q0) (items c.d) c.transformed c.time_reversal c.swappable c.class-room c.point-room c.classifies).point
 
   start-folds : index (grid c) (triple_at c.addresses c.start) ≡ c.q0
-  start-folds = place-folds stands sound c.q0 q0-inside (starts-in c.map (points c) c.q0 c.start c.kind c.starts)
+  start-folds = place-folds stands (call-folded built) c.q0 q0-inside (started c.kind stands c.starts)
+    where
+      started : (t : GridType) (w : Stands t (points c) (images (search c)) c.addresses c.map grg-left c.lengths.grg) → Starts t c.map (points c) c.q0 c.start → c.start ∈ w.places c.q0
+      started Sparse w e = subst (λ i. i ∈ w.places c.q0) (sym e) (first-stands c.map (points c) c.q0 Sparse (w.counted c.q0 q0-inside) (some-place w c.q0 q0-inside (call-found built c.q0 q0-inside)) refl)
+      started Dense w m = stands-at w c.q0 q0-inside m
 
   -- v holds the image indices of a best triplet of the class of q1
   abbrev Written : ℕ → Vec ℤ → Type 0
@@ -109,10 +111,13 @@ module _ (c : Calls) where
 
     -- image indices lie in the tables
     pub best-inside : {i : Vec ℕ} → Best c q1 i → (k : Axis) → side i k < c.lengths.grg
-    best-inside b k = stands.inside (side (trio c q1) k) (trio-inside k) (b.stands k)
+    best-inside b k = stands.inside (side (trio c q1) k) (trio-inside k) (stands-at stands (side (trio c q1) k) (trio-inside k) (b.stands k))
 
     abbrev lists : Vec (List ℕ)
     lists = map_vec places (trio c q1)
+
+    told : (k : Axis) → image_places c.kind c.map (points c) (side (trio c q1) k) ≡ got (side lists k)
+    told k = rw (side-vector (λ k. places (side (trio c q1) k)) k) (stands.counted (side (trio c q1) k) (trio-inside k))
 
     pick-in : (i : Vec ℕ) → Picks lists i → (k : Axis) → side i k ∈ places (side (trio c q1) k)
     pick-in i p k = subst (λ l. side i k ∈ l) (side-vector (λ k. places (side (trio c q1) k)) k) (p k)
@@ -146,7 +151,7 @@ module _ (c : Calls) where
     some-pick = (vector (λ k. get_or (side lists k) 0 0), picks)
       where
         one : (p : ℕ) → p < points c → get_or (places p) 0 0 ∈ places p
-        one p h = item_in 0 (places p) 0 (some-place p h)
+        one p h = item_in 0 (places p) 0 (has-place p h)
 
         picks : Picks lists (vector (λ k. get_or (side lists k) 0 0))
         picks X = one c.q0 (trio-inside X)
@@ -167,7 +172,7 @@ module _ (c : Calls) where
 
     best_of : (i : Vec ℕ) → choosing.Best (closes_at walk) (length_at walk) lt (less_at walk) lists i → Best c q1 i
     best_of i b = record {
-      stands = pick-in i b.picked;
+      stands = λ k. image-at stands (side (trio c q1) k) (trio-inside k) (pick-in i b.picked k);
       choice = pick-choice i b.picked;
       closes = λ a f e.
           let r = choice-pick a f in
@@ -188,7 +193,7 @@ module _ (c : Calls) where
     chosen-best {s} e =
         state-best s
         (subst (Triplet (closes_at walk) (length_at walk) lt (less_at walk) lists)
-        (chosen-got walk c.kind (points c) c.map (trio c q1) (counts c.q0 (trio-inside X)) (counts q1 (trio-inside Y)) (counts (partner_of c q1) (trio-inside Z)) e)
+        (chosen-got walk c.kind (points c) c.map (trio c q1) lists told e)
         (triplet-best (closes_at walk) (length_at walk) lt (less_at walk) lists (float-order walk.tolerance tolerance) pick-length))
 
     -- by the address that the call starts from
@@ -196,8 +201,8 @@ module _ (c : Calls) where
     unfolding triplet_of
     triplet-got {s} e =
         let r = passes-first (first_of c.map c.addresses c.kind q1) _ e in
-        let f = first-got c.kind c.map c.addresses (points c) q1 (some-place q1 h) r.1 in
-        let folds = ap (index (grid c)) (sym f.2) ∙ place-folds stands sound q1 h f.1 in
+        let f = first-got c.kind c.map c.addresses (points c) q1 (stands.counted q1 h) (has-place q1 h) r.1 in
+        let folds = ap (index (grid c)) (sym f.2) ∙ place-folds stands (call-folded built) q1 h f.1 in
         let third-is = partner-index (grid c) sound.sides (triple_at c.addresses c.start) r.0 start-folds folds in
         chosen-best (subst (λ q2. chosen c.kind (points c) c.map walk c.q0 q1 q2 ≡ got s) third-is r.2)
 

@@ -26,7 +26,7 @@ use Rattle.common.proofs.Unimodular.{Unimodular, inverse_left}
 use Rattle.grgrid.proofs.Lists.{◌∈◌, Distinct}
 use Rattle.grgrid.proofs.MatrixGroup.{MatrixGroup, transposes, transformed}
 use Rattle.recip_rotations.specs.Unique.{same_matrix, among}
-use Rattle.recip_rotations.specs.PointGroup.{turned, joins, joined, point_group}
+use Rattle.recip_rotations.specs.PointGroup.{transposed_if, joins, with_negatives, point_group}
 use Rattle.recip_rotations.proofs.Same.{matrix-eq, matrix-refl}
 use Rattle.recip_rotations.proofs.Told.{unique-distinct, joined-group}
 use Rattle.transform_rotations.specs.TransformRotations.{transform_tests, transform_rotations}
@@ -43,16 +43,16 @@ distinct-left [] k e = tt
 distinct-left (x ∷ l) k e = (λ m. e.0 (append_left k m), distinct-left l k e.1)
 
 -- no repeats in the list with its negatives, none in the list
-pub list-distinct : (time : Bool) (l : List (Mat ℤ)) → MatrixGroup (joined time l) → Distinct l
+pub list-distinct : (time : Bool) (l : List (Mat ℤ)) → MatrixGroup (with_negatives time l) → Distinct l
 list-distinct time l m = step (joins time l) m.distinct
   where
     step : (b : Bool) → Distinct {A = Mat ℤ} (elim b [ true ↦ l ++ map negate l | false ↦ l ]) → Distinct l
     step true e = distinct-left l (map negate l) e
     step false e = e
 
-pub told_is : (l : List (Mat ℤ)) → Distinct l → (time t : Bool) → point_group l time t ≡ joined time (turned t l)
+pub told_is : (l : List (Mat ℤ)) → Distinct l → (time t : Bool) → point_group l time t ≡ with_negatives time (transposed_if t l)
 unfolding point_group
-told_is l e time t = ap (λ k. joined time (turned t k)) (unique-distinct l e)
+told_is l e time t = ap (λ k. with_negatives time (transposed_if t k)) (unique-distinct l e)
 
 -- ---- a map of the members that keeps negatives, and takes only the inversion to the inversion
 module _ (f : Mat ℤ → Mat ℤ) where
@@ -73,7 +73,7 @@ module _ (f : Mat ℤ → Mat ℤ) where
           (λ t. tested (r.0 (sym (matrix-eq inversion (f A) t)))) (λ t. tested (r.1 (sym (matrix-eq inversion A t))))
 
   joined-map : (time : Bool) (l : List (Mat ℤ)) → ((A : Mat ℤ) → A ∈ l → f (negate A) ≡ negate (f A)) → ((A : Mat ℤ) → A ∈ l → (f A ≡ inversion) ↔ (A ≡ inversion))
-      → joined time (map f l) ≡ map f (joined time l)
+      → with_negatives time (map f l) ≡ map f (with_negatives time l)
   joined-map time l n i = ap (λ b. step_of (time && not b)) (inversion-among l i) ∙ step (joins time l)
     where
       step_of : Bool → List (Mat ℤ)
@@ -84,16 +84,16 @@ module _ (f : Mat ℤ → Mat ℤ) where
       step false = refl
 
 -- ---- the list that is transformed
-turned-joined : (t time : Bool) (l : List (Mat ℤ)) → MatrixGroup (joined time l) → MatrixGroup (joined time (turned t l))
+turned-joined : (t time : Bool) (l : List (Mat ℤ)) → MatrixGroup (with_negatives time l) → MatrixGroup (with_negatives time (transposed_if t l))
 turned-joined true time l m = subst MatrixGroup (sym (joined-map transpose time l (λ A k. refl) (λ A k. (ap transpose, ap transpose)))) (transposes m)
 turned-joined false time l m = m
 
-pub given-joined : {time : Bool} {list rotations : List ℤ} → Given time list rotations → MatrixGroup (joined time (matrices list)) → MatrixGroup (joined time (matrices rotations))
+pub given-joined : {time : Bool} {list rotations : List ℤ} → Given time list rotations → MatrixGroup (with_negatives time (matrices list)) → MatrixGroup (with_negatives time (matrices rotations))
 given-joined as-it-stands m = m
 given-joined {time} {list} (as-returned t n count e) m =
     let l = matrices list in
     let is = ap matrices (told_part list time t n count e) ∙ matrices-flat (point_group l time t) ∙ told_is l (list-distinct time l m) time t in
-    subst (λ k. MatrixGroup (joined time k)) (sym is) (joined-group time (turned-joined t time l m))
+    subst (λ k. MatrixGroup (with_negatives time k)) (sym is) (joined-group time (turned-joined t time l m))
 
 -- ---- what transforming makes of it
 fractions-inversion : {q : Mat ℤ} (D : Mat ℤ) → Unimodular q → inversion · D ≡ D · (inverse q · inversion · q)
@@ -139,7 +139,7 @@ module _ (rotations d : List ℤ) (q : List (List ℤ)) (n : ℕ) (u : Unimodula
         λ e. (whole-accepted d (matrix_of q) A input.grid input.change (fits A k) u inversion (subst (λ r. Whole r inversion) (sym e) inverts)).1,
       )
 
-  whole-joined : (time : Bool) (A : Mat ℤ) → A ∈ joined time (matrices rotations) → Whole A (made A)
+  whole-joined : (time : Bool) (A : Mat ℤ) → A ∈ with_negatives time (matrices rotations) → Whole A (made A)
   whole-joined time A = step (joins time (matrices rotations))
     where
       negative : A ∈ map negate (matrices rotations) → Whole A (made A)
@@ -152,9 +152,9 @@ module _ (rotations d : List ℤ) (q : List (List ℤ)) (n : ℕ) (u : Unimodula
       step true k = ⊎_elim (whole A) negative (append_cases (matrices rotations) k)
       step false k = whole A k
 
-  pub transformed-joined : (time : Bool) → MatrixGroup (joined time (matrices rotations)) → MatrixGroup (joined time (matrices (transform_rotations rotations d q n).out))
+  pub transformed-joined : (time : Bool) → MatrixGroup (with_negatives time (matrices rotations)) → MatrixGroup (with_negatives time (matrices (transform_rotations rotations d q n).out))
   transformed-joined time m =
-      subst (λ l. MatrixGroup (joined time l)) (sym (call-matrices rotations d q n u t))
+      subst (λ l. MatrixGroup (with_negatives time l)) (sym (call-matrices rotations d q n u t))
       (subst MatrixGroup (sym (joined-map made time (matrices rotations) to-negative to-inversion))
       (transformed m (sides-positive d input.grid) u made
       (λ A k. subst (λ D. made A · D ≡ D · (inverse (matrix_of q) · A · matrix_of q)) (grid-is d input.grid) (whole-joined time A k))))

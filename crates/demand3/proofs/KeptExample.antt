@@ -13,7 +13,7 @@ use Rattle.float.specs.Rounding.{round_of, nint_of, floor_of, ceil_of, abs_of}
 use Rattle.float.specs.Sqrt.{root, sqrt_of}
 use Rattle.grgrid.specs.Grid.{index}
 use Rattle.grgrid.specs.MatrixGroup.{MatrixGroup}
-use Rattle.recip_rotations.specs.PointGroup.{joined}
+use Rattle.recip_rotations.specs.PointGroup.{with_negatives}
 use Rattle.bzgrid.specs.declared.Lengths.{Lengths}
 use Rattle.bzgrid.specs.declared.GridType.TheVariants.{Sparse}
 use Rattle.bzsearch.specs.Lattice.{bz_tolerance, lattice_det, dual_lengths_of}
@@ -104,7 +104,7 @@ kept-job = record {
   chooses-to = chooses.1;
 }
 
-pub kept-conditions : MatrixGroup (joined false (matrices returned))
+pub kept-conditions : MatrixGroup (with_negatives false (matrices returned))
 kept-conditions = conditions
 
 pub kept-finished : FinishedList kept-job

@@ -1,81 +1,26 @@
 -- Reads of an image table that were all inside, and the walks made of them: they are the walks over what stands in the table.
-use mathlib.Core.Path.{◌≡◌, refl, sym, ◌∙◌, ap, ap₂, subst}
-use mathlib.Core.Bool.{Bool, true, false, ◌&&◌}
+use mathlib.Core.Path.{◌≡◌, refl, sym, ◌∙◌, ap, subst}
+use mathlib.Core.Bool.{Bool}
 use mathlib.Core.List.{List, [], ◌∷◌, ◌++◌, foldl}
-use Prim.Native.Nat.{ℕ, zero, suc, ◌+◌, ◌*◌, ◌-◌, ◌<◌, ◌≤◌}
+use Prim.Native.Nat.{ℕ, zero, suc, ◌+◌, ◌*◌, ◌<◌}
 use native.Mathlib.Nat.{not-suc-le-zero, le_of_suc-le-suc}
 use native.Mathlib.Omega.{arith}
-use lib.Dec.{ltb, leb}
-use lib.IntN.{ℤ, pos, negsuc, nat_abs}
+use lib.IntN.{ℤ, pos, negsuc}
 use lib.ListN.{length, get_or, length-append}
 use lib.Ieee.{Float, binary64, sub, lt}
 use Rattle.std.specs.Prelude.{Ok, Err}
-use Rattle.common.specs.Matrix.{Vec}
+use Rattle.common.specs.Matrix.{Axis, X, Y, Z, Vec, side}
 use Rattle.common.specs.Array.{vector_of}
+use Rattle.common.specs.Tested.{◌then◌}
 use Rattle.common.proofs.Tests.{same-ok, refused-not-ok}
 use Rattle.bzgrid.proofs.Accepted.{passes-first}
 use Rattle.bzgrid.specs.declared.GridType.{GridType}
-use Rattle.bzgrid.specs.declared.GridType.TheVariants.{Sparse, Dense}
-use Rattle.bztable.specs.Reading.{Read, got, inside, near, triple_at, address_at, place_of, place_at}
-use Rattle.bztable.specs.Access.{number_in, places_from, image_places}
-use Rattle.bzgrid.specs.Table.{listed}
-use Rattle.bzsearch.specs.Search.{numbers_from}
+use Rattle.bztable.specs.Reading.{Read, got, triple_at, address_at}
+use Rattle.bztable.specs.Access.{image_places}
+use Rattle.bztable.proofs.TableRead.{address-got}
 use Rattle.bz_triplets.specs.Choosing.{start, left, closed, tried, nested}
-use Rattle.bz_triplets.specs.BzTriplets.{squared_distance, sum_of, is_zero, State, Walk, tried_sum, try_read, try_at, place_in, places_read, chosen, read_each, places_of, triplet_list}
+use Rattle.bz_triplets.specs.BzTriplets.{squared_distance, sum_of, is_zero, State, Walk, tried_sum, try_read, try_at, chosen, read_each, places_of, triplet_list}
 use Rattle.bz_triplets.proofs.Choosing.{choices, nested_is}
-
--- ---- one read
-inside-got : {A : Type 0} (t : Bool) {x a : A} → inside t x ≡ got a → x ≡ a
-inside-got true e = same-ok e
-inside-got false e = absurd (refused-not-ok e)
-
-pub place-got : (map : List ℤ) (i : ℕ) {n : ℕ} → place_at map i ≡ got n → number_in map i ≡ n
-place-got map i {n} e =
-    let r = passes-first (inside (ltb i (length map)) (get_or map i (pos 0))) place_of e in
-    ap nat_abs (inside-got (ltb i (length map)) r.1) ∙ natural r.0 r.2
-  where
-    natural : (z : ℤ) → place_of z ≡ got n → nat_abs z ≡ n
-    natural (pos m) e = inside-got (leb m 1099511627776) e
-    natural (negsuc m) e = absurd (refused-not-ok e)
-
-pub address-got : (l : List ℤ) (i : ℕ) {a : Vec ℤ} → address_at l i ≡ got a → triple_at l i ≡ a
-address-got l i e = inside-got (ltb i _ && near (triple_at l i)) e
-
--- ---- the places of a point
-others-listed : (a b i j n : ℕ) → b + i ≡ j → numbers_from (place_in a b) (suc i) n ≡ numbers_from (λ k. k) j n
-others-listed a b i j zero e = refl
-others-listed a b i j (suc n) e = ap₂ ◌∷◌ e (others-listed a b (suc i) (suc j) n (omega arith))
-
-first-others : (a b n : ℕ) → listed (place_in a b) (suc n) ≡ a ∷ numbers_from (λ k. k) b n
-first-others a b n = ap (λ l. a ∷ l) (others-listed a b 0 b n (omega arith))
-
--- what a sparse map must obey: its counts do not fall
-abbrev pub Counts : GridType → List ℤ → (n p : ℕ) → Type 0
-Counts Sparse map n p = number_in map (8 * n + p) ≤ number_in map (8 * n + p + 1)
-Counts Dense map n p = Unit {0}
-
-sparse-places : (p n s e : ℕ) → s ≤ e → listed (place_in p (n + s)) (e + 1 - s) ≡ p ∷ places_from (n + s) (n + e)
-sparse-places p n s e h =
-    let f : e + 1 - s ≡ suc (n + e - (n + s)) = omega arith in
-    ap (listed (place_in p (n + s))) f ∙ first-others p (n + s) (n + e - (n + s))
-
-dense-places : (s k : ℕ) → listed (place_in s (s + 1)) k ≡ numbers_from (λ i. i) s k
-dense-places s zero = refl
-dense-places s (suc k) = ap (λ l. s ∷ l) (others-listed s (s + 1) 0 (suc s) k (omega arith))
-
-pub places-got : (t : GridType) (map : List ℤ) (n p : ℕ) → Counts t map n p → {l : List ℕ} → places_read t map n p ≡ got l → image_places t map n p ≡ l
-places-got Sparse map n p h e =
-    let r = passes-first (place_at map (8 * n + p)) _ e in
-    let s = passes-first (place_at map (8 * n + p + 1)) _ r.2 in
-    let a = place-got map (8 * n + p) r.1 in
-    let b = place-got map (8 * n + p + 1) s.1 in
-    sym (sparse-places p n (number_in map (8 * n + p)) (number_in map (8 * n + p + 1)) h) ∙ (λ t. listed (place_in p (n + a t)) (b t + 1 - a t)) ∙ same-ok s.2
-places-got Dense map n p h e =
-    let r = passes-first (place_at map p) _ e in
-    let s = passes-first (place_at map (p + 1)) _ r.2 in
-    let a = place-got map p r.1 in
-    let b = place-got map (p + 1) s.1 in
-    sym (dense-places (number_in map p) (number_in map (p + 1) - number_in map p)) ∙ (λ t. listed (place_in (a t) (a t + 1)) (b t - a t)) ∙ same-ok s.2
 
 -- ---- the walk over the choices
 module _ (w : Walk) where
@@ -128,18 +73,15 @@ module _ (w : Walk) where
       let r = walk-got (got start) (choices l) (sym (nested_is l (try_at w) (got start)) ∙ e) in
       nested_is l step start ∙ ap (λ s. foldl step s (choices l)) (same-ok r.1) ∙ r.2
 
-  -- the triplet of a class, where the map is one that a call leaves
-  pub chosen-got : (t : GridType) (n : ℕ) (map : List ℤ) (v : Vec ℕ) → Counts t map n v.x → Counts t map n v.y → Counts t map n v.z
-      → {s : State} → chosen t n map w v.x v.y v.z ≡ got s → nested step start (record { x = image_places t map n v.x; y = image_places t map n v.y; z = image_places t map n v.z }) ≡ s
+  -- the triplet of a class, where the map tells the places of each of its points
+  pub chosen-got : (t : GridType) (n : ℕ) (map : List ℤ) (v : Vec ℕ) (l : Vec (List ℕ)) → ((k : Axis) → image_places t map n (side v k) ≡ got (side l k))
+      → {s : State} → chosen t n map w v.x v.y v.z ≡ got s → nested step start l ≡ s
   unfolding chosen
-  chosen-got t n map v hx hy hz e =
-      let x = passes-first (places_read t map n v.x) _ e in
-      let y = passes-first (places_read t map n v.y) _ x.2 in
-      let z = passes-first (places_read t map n v.z) _ y.2 in
-      let a = places-got t map n v.x hx x.1 in
-      let b = places-got t map n v.y hy y.1 in
-      let c = places-got t map n v.z hz z.1 in
-      (λ i. nested step start (record { x = a i; y = b i; z = c i })) ∙ nested-got (record { x = x.0; y = y.0; z = z.0 }) z.2
+  chosen-got t n map v l h {s} e =
+      nested-got l
+      (subst (λ r. (r then λ z. nested (try_at w) (got start) (record { x = l.x; y = l.y; z = z })) ≡ got s) (h Z)
+      (subst (λ r. (r then λ y. image_places t map n v.z then λ z. nested (try_at w) (got start) (record { x = l.x; y = y; z = z })) ≡ got s) (h Y)
+      (subst (λ r. (r then λ x. image_places t map n v.y then λ y. image_places t map n v.z then λ z. nested (try_at w) (got start) (record { x = x; y = y; z = z })) ≡ got s) (h X) e)))
 
 -- ---- one triplet a class
 three-more : (a b c : ℤ) (l : List ℤ) (n : ℕ) → triple_at (a ∷ b ∷ c ∷ l) (suc n) ≡ triple_at l n

@@ -13,7 +13,7 @@ use Rattle.grgrid.specs.MatrixGroup.{MatrixGroup}
 use Rattle.grgrid.specs.Picked.{Rising}
 use Rattle.grgrid.specs.Own.{own_points}
 use Rattle.grgrid.specs.Orbits.{Least, OneEach}
-use Rattle.recip_rotations.specs.PointGroup.{joined, get_reciprocal_point_group}
+use Rattle.recip_rotations.specs.PointGroup.{with_negatives, get_reciprocal_point_group}
 use Rattle.snf3x3.specs.Snf3x3.{snf3x3, diagonalised}
 use Rattle.transform_rotations.specs.TransformRotations.{transform_rotations}
 use Rattle.bzgrid.specs.declared.GridType.{GridType}
@@ -22,7 +22,7 @@ use Rattle.bzgrid.specs.declared.Lengths.{Lengths}
 use Rattle.bzsearch.specs.Lattice.{bz_tolerance}
 use Rattle.bzsearch.specs.Search.{Search, images}
 use Rattle.bzgrid.specs.BzGridAddresses.{grid_type_of, search_of, bz_grid_addresses}
-use Rattle.bztable.specs.Access.{image_places}
+use Rattle.bztable.specs.Access.{ImageAt}
 use Rattle.bztable.specs.Reading.{triple_at}
 use Rattle.triplet_grid.specs.Partner.{partner}
 use Rattle.triplet_grid.specs.IrTriplets.{ir_triplets_at_q}
@@ -39,7 +39,7 @@ pub data Given (time_reversal : Bool) (list : List ℤ) : List ℤ → Type 0 wh
 -- the triplet call gets q0 as a grid point for type 1, and as any image index of q0 for type 2
 abbrev pub Starts : GridType → List ℤ → (n q0 start : ℕ) → Type 0
 Starts Sparse map n q0 start = start ≡ q0
-Starts Dense map n q0 start = start ∈ image_places Dense map n q0
+Starts Dense map n q0 start = ImageAt Dense map n q0 start
 
 -- what comes from outside, what each call left, and that each accepted. The lengths of lent slices are free.
 pub record Calls : Type 0 where
@@ -146,7 +146,7 @@ module _ (c : Calls) where
 
   -- a triplet of image indices for the class of q1
   pub record Best (q1 : ℕ) (i : Vec ℕ) : Type 0 where
-    pub stands : (k : Axis) → side i k ∈ image_places c.kind c.map points (side (trio q1) k)
+    pub stands : (k : Axis) → ImageAt c.kind c.map points (side (trio q1) k) (side i k)
     pub choice : Choice q1 (at i)
     -- it sums to zero if any choice does
     pub closes : (a : Vec (Vec ℤ)) → Choice q1 a → sum a ≡ origin → sum (at i) ≡ origin
@@ -180,4 +180,4 @@ module _ (c : Calls) where
 -- joined, where time reversal joins them; a list that meets them itself meets them so (proofs/JoinedList).
 pub record Demand3 (c : Calls) : Type 0 where
   pub every : EveryList c
-  pub true-classes : MatrixGroup (joined c.time_reversal (matrices c.list)) → TrueClasses c
+  pub true-classes : MatrixGroup (with_negatives c.time_reversal (matrices c.list)) → TrueClasses c

@@ -1,5 +1,5 @@
 -- The count of points that keep their own number is the number of classes, however one point of each class is chosen.
-use mathlib.Core.Path.{◌≡◌, refl, sym, ◌∙◌}
+use mathlib.Core.Path.{◌≡◌, refl, sym, ◌∙◌, ap}
 use mathlib.Core.Logic.{◌↔◌}
 use mathlib.Core.Bool.{Bool, true, false}
 use mathlib.Core.List.Memᴰ.{cast}
@@ -10,9 +10,11 @@ use Prim.Native.Nat.{ℕ, zero, suc, ◌+◌, ◌<◌}
 use native.Mathlib.Nat.{le_antisymm}
 use native.Mathlib.Omega.{arith}
 use lib.Dec.{eqb, eqb→eq, eqb_refl}
-use lib.ListN.{length, get_or, length-map}
+use lib.IntN.{pos}
+use lib.ListN.{length, get_or, length-map, get_or-map}
 use Rattle.grgrid.specs.Picked.{picked}
-use Rattle.grgrid.specs.ClassMap.{pass, kept, number}
+use Rattle.grgrid.specs.ClassMap.{pass, number}
+use Rattle.grgrid.specs.Own.{is_place, own_places}
 use Rattle.grgrid.specs.Orbits.{OneEach, Least}
 use Rattle.grgrid.proofs.Lists.{◌∈◌, ◌⊆◌, Distinct, distinct-map, shorter}
 use Rattle.grgrid.proofs.Picked.{mark, in-picked, picked-distinct, picked-length}
@@ -33,11 +35,13 @@ own-distinct f n = picked-distinct (λ p. eqb (f p) p) n
 abbrev at : List ℕ → ℕ → ℕ
 at numbers p = get_or numbers p 0
 
-pub kept-own : (numbers : List ℕ) (n : ℕ) → kept numbers n ≡ length (own (at numbers) n)
-kept-own numbers zero = refl
-kept-own numbers (suc n) = go (eqb (at numbers n) n) (kept-own numbers n) ∙ sym (picked-length (λ p. eqb (at numbers p) p) n)
+pub own-count : (numbers : List ℕ) (n : ℕ) → own_places (map pos numbers) n ≡ length (own (at numbers) n)
+own-count numbers zero = refl
+own-count numbers (suc n) =
+    ap (λ z. elim (is_place z n) as (λ _. ℕ) [ true ↦ suc (own_places (map pos numbers) n) | false ↦ own_places (map pos numbers) n ]) (get_or-map pos numbers n 0)
+    ∙ go (eqb (at numbers n) n) (own-count numbers n) ∙ sym (picked-length (λ p. eqb (at numbers p) p) n)
   where
-    go : (b : Bool) → kept numbers n ≡ length (own (at numbers) n) → elim b [ true ↦ suc (kept numbers n) | false ↦ kept numbers n ] ≡ length (own (at numbers) n) + mark b
+    go : (b : Bool) → own_places (map pos numbers) n ≡ length (own (at numbers) n) → elim b [ true ↦ suc (own_places (map pos numbers) n) | false ↦ own_places (map pos numbers) n ] ≡ length (own (at numbers) n) + mark b
     go true e = omega arith
     go false e = omega arith
 
@@ -75,14 +79,14 @@ pub record Classified (N : ℕ) (E : ℕ → ℕ → Type 0) (numbers : List ℕ
   pub counted : (l : List ℕ) → OneEach N E l → length l ≡ count
 
 pub classified : {N : ℕ} {E : ℕ → ℕ → Type 0} → Equiv N E → (numbers : List ℕ) → length numbers ≡ N
-    → ((p : ℕ) → p < N → Least (E p) (get_or numbers p 0)) → Classified N E numbers (kept numbers N)
+    → ((p : ℕ) → p < N → Least (E p) (get_or numbers p 0)) → Classified N E numbers (own_places (map pos numbers) N)
 classified {N} e numbers full least = record {
   full = full;
   one_number = one_number e (at numbers) least;
   lowest = least;
   chosen = (own (at numbers) N, own-each e (at numbers) least);
-  counted = λ l o. as_many e (at numbers) least l o ∙ sym (kept-own numbers N);
+  counted = λ l o. as_many e (at numbers) least l o ∙ sym (own-count numbers N);
 }
 
-pub pass-classified : {N : ℕ} {E : ℕ → ℕ → Type 0} → Equiv N E → (gs : List (ℕ → ℕ)) → Steps N gs E → Classified N E (pass gs N) (kept (pass gs N) N)
+pub pass-classified : {N : ℕ} {E : ℕ → ℕ → Type 0} → Equiv N E → (gs : List (ℕ → ℕ)) → Steps N gs E → Classified N E (pass gs N) (own_places (map pos (pass gs N)) N)
 pass-classified {N} e gs s = classified e (pass gs N) (length-build (number gs) N) (pass-least e gs s)

@@ -1,12 +1,11 @@
--- The number of a point by where it is carried first; a class map as a slice holds it; and the entries that equal their own place are the points that keep theirs.
+-- A turn of the pass; a class map as a slice holds it; and the count of the entries that equal their own place.
 use mathlib.Core.Path.{◌≡◌, refl, sym, ◌∙◌, ap, ap₂}
 use mathlib.Core.Bool.{Bool, true, false}
-use mathlib.Core.List.{List, [], ◌∷◌, map, map-map, map-id}
+use mathlib.Core.List.{List, map, map-map, map-id}
 use Prim.Native.Nat.{ℕ, zero, suc, ◌+◌, ◌<◌, ◌≤◌}
 use native.Mathlib.Nat.{le_refl}
 use native.Mathlib.Omega.{arith}
 use native.Mathlib.Numerals.{add-one}
-use lib.Dec.{ltb, eqb}
 use lib.IntN.{ℤ, pos, negsuc, nat_abs}
 use lib.ListN.{length, get_or, set, length-map, get_or-map}
 use lib.Signed.{mag}
@@ -18,29 +17,18 @@ use Rattle.std.specs.Prelude.{Option, None, Some}
 use Rattle.integer.proofs.Fits.{held-is}
 use Rattle.common.specs.Matrix.{Vec, Mat}
 use Rattle.grgrid.specs.Grid.{size, rotate}
-use Rattle.grgrid.specs.ClassMap.{first_lower, number, pass, kept, class_map_of, classes, Numbered}
+use Rattle.grgrid.specs.ClassMap.{first_lower, number, pass, class_map_of, classes, Numbered}
 use Rattle.grgrid.specs.Own.{is_place, own_places}
 use Rattle.grgrid.proofs.Pass.{pass-own}
 use Rattle.grgrid.proofs.Built.{length-build, written, written-more, written_read}
 
--- the number of p by where it is carried lower
-abbrev number_by : List ℕ → ℕ → Option ℕ → ℕ
-number_by done p (Some q) = get_or done q 0
-number_by done p None = p
-
-number_is : (gs : List (ℕ → ℕ)) (p : ℕ) (done : List ℕ) → number gs p done ≡ number_by done p (first_lower gs p)
-number_is [] p done = refl
-number_is (g ∷ gs) p done = go (ltb (g p) p) (number_is gs p done)
-  where
-    go : (t : Bool) → number gs p done ≡ number_by done p (first_lower gs p)
-        → elim t [ true ↦ get_or done (g p) 0 | false ↦ number gs p done ] ≡ number_by done p (elim t [ true ↦ Some (g p) | false ↦ first_lower gs p ])
-    go true rest = refl
-    go false rest = rest
-
 -- ---- a turn of the pass: place p of the output, where the points below p have their numbers
 module _ (gs : List (ℕ → ℕ)) (p : ℕ) (before out : List ℤ) (inv : out ≡ written (number gs) pos p before) (h : p < length before) where
-  store : {q : Option ℕ} → q ≡ first_lower gs p → {z : ℤ} → z ≡ pos (number_by (pass gs p) p q) → set out p z ≡ written (number gs) pos (p + 1) before
-  store e r = written-more (number gs) pos p before inv h (r ∙ ap pos (ap (number_by (pass gs p) p) e ∙ sym (number_is gs p (pass gs p))))
+  abbrev by : Option ℕ → ℕ
+  by o = elim o [ Some q ↦ get_or (pass gs p) q 0 | None ↦ p ]
+
+  store : {o : Option ℕ} → o ≡ first_lower gs p → {z : ℤ} → z ≡ pos (by o) → set out p z ≡ written (number gs) pos (p + 1) before
+  store e r = written-more (number gs) pos p before inv h (r ∙ ap (λ o. pos (by o)) e)
 
   pub lower-stored : {q : ℕ} → Some q ≡ first_lower gs p → q < p → set out p (get_or out q (pos 0)) ≡ written (number gs) pos (p + 1) before
   lower-stored {q} e l = store e (ap (λ o. get_or o q (pos 0)) inv ∙ written_read (number gs) pos p q before 0 l)
@@ -64,12 +52,6 @@ pub numbered-at : {n : ℕ} {l : List ℤ} → Numbered n l → (p : ℕ) → ge
 numbered-at {n} {l} h p = ap (λ l. get_or l p (pos 0)) h.natural ∙ get_or-map pos (map nat_abs l) p 0
 
 -- ---- the count
-pub own-kept : (numbers : List ℕ) (n : ℕ) → own_places (map pos numbers) n ≡ kept numbers n
-own-kept numbers zero = refl
-own-kept numbers (suc n) =
-    ap (λ (z : ℤ). elim (is_place z n) [ true ↦ suc (own_places (map pos numbers) n) | false ↦ own_places (map pos numbers) n ]) (get_or-map pos numbers n 0)
-    ∙ ap (λ (r : ℕ). elim (eqb (get_or numbers n 0) n) [ true ↦ suc r | false ↦ r ]) (own-kept numbers n)
-
 pub own-few : (l : List ℤ) (n : ℕ) → own_places l n ≤ n
 own-few l zero = le_refl 0
 own-few l (suc n) = go (is_place (get_or l n (pos 0)) n) (own-few l n)
@@ -80,7 +62,7 @@ own-few l (suc n) = go (is_place (get_or l n (pos 0)) n) (own-few l n)
 
 pub own-classes : (d : Vec ℕ) (ps : Vec ℤ) (ms : List (Mat ℤ)) {l : List ℤ} → l ≡ map pos (class_map_of d ps ms) → (length l ≡ size d) × (own_places l (length l) ≡ classes d ps ms)
 unfolding class_map_of classes
-own-classes d ps ms {l} e = (size_is, ap₂ own_places e size_is ∙ own-kept (class_map_of d ps ms) (size d))
+own-classes d ps ms {l} e = (size_is, ap₂ own_places e size_is)
   where
     size_is : length l ≡ size d
     size_is = ap length e ∙ length-map (class_map_of d ps ms) pos ∙ length-build (number (map (rotate d ps) ms)) (size d)

@@ -1,5 +1,5 @@
 -- The forward pass over any list of maps. Where the points that the maps carry a point to are its class, the pass gives it the least of its class.
-use mathlib.Core.Path.{◌≡◌, refl, ◌∙◌, ap}
+use mathlib.Core.Path.{◌≡◌, refl, sym, ◌∙◌, ap}
 use mathlib.Core.Logic.{⊎_elim, ◌↔◌}
 use mathlib.Core.Bool.{Bool, true, false}
 use mathlib.Core.List.Memᴰ.{cases_cons as cases}
@@ -12,8 +12,9 @@ use native.Mathlib.Nat.{le_of_eq, le_antisymm}
 use native.Mathlib.Omega.{arith}
 use lib.Dec.{ltb, ltb→lt, nltb→le}
 use lib.ListN.{get_or}
+use Rattle.std.specs.Prelude.{Option, None, Some}
 use Rattle.integer.proofs.Test.{holds, fails}
-use Rattle.grgrid.specs.ClassMap.{number, pass}
+use Rattle.grgrid.specs.ClassMap.{first_lower, number, pass}
 use Rattle.grgrid.specs.Orbits.{Least}
 use Rattle.grgrid.proofs.Lists.{◌∈◌}
 use Rattle.grgrid.proofs.Built.{build-at, build-all}
@@ -53,17 +54,29 @@ data Answer (gs : List (ℕ → ℕ)) (p : ℕ) (done : List ℕ) (x : ℕ) : Ty
   lower : (g : ℕ → ℕ) → g ∈ gs → g p < p → x ≡ get_or done (g p) 0 → Answer gs p done x
   own : ((g : ℕ → ℕ) → g ∈ gs → p ≤ g p) → x ≡ p → Answer gs p done x
 
-answer : (gs : List (ℕ → ℕ)) (p : ℕ) (done : List ℕ) → Answer gs p done (number gs p done)
-answer [] p done = own (λ g m. absurd (not-nil m)) refl
-answer (g ∷ gs) p done = first (ltb (g p) p) refl (answer gs p done)
-  where
-    later : {x : ℕ} → p ≤ g p → Answer gs p done x → Answer (g ∷ gs) p done x
-    later h (lower k m l e) = lower k (there m) l e
-    later h (own f e) = own (λ k m. ⊎_elim (λ i. rw i h) (f k) (cases m)) e
+-- where the first map that carries p lower carries it
+abbrev Carried : List (ℕ → ℕ) → ℕ → Option ℕ → Type 0
+Carried gs p (Some q) = (g : ℕ → ℕ) × (g ∈ gs) × (g p ≡ q) × (q < p)
+Carried gs p None = (g : ℕ → ℕ) → g ∈ gs → p ≤ g p
 
-    first : (b : Bool) → ltb (g p) p ≡ b → Answer gs p done (number gs p done) → Answer (g ∷ gs) p done (elim b as (λ _. ℕ) [ true ↦ get_or done (g p) 0 | false ↦ number gs p done ])
-    first true e a = lower g (here refl) (ltb→lt (g p) p (holds e)) refl
-    first false e a = later (nltb→le (g p) p (fails e)) a
+carried : (gs : List (ℕ → ℕ)) (p : ℕ) → Carried gs p (first_lower gs p)
+carried [] p = λ g m. absurd (not-nil m)
+carried (g ∷ gs) p = first (ltb (g p) p) refl (carried gs p)
+  where
+    later : (o : Option ℕ) → p ≤ g p → Carried gs p o → Carried (g ∷ gs) p o
+    later (Some q) h c = (c.0, there c.1, c.2, c.3)
+    later None h c = λ k m. ⊎_elim (λ i. rw i h) (c k) (cases m)
+
+    first : (b : Bool) → ltb (g p) p ≡ b → Carried gs p (first_lower gs p) → Carried (g ∷ gs) p (elim b [ true ↦ Some (g p) | false ↦ first_lower gs p ])
+    first true e c = (g, here refl, refl, ltb→lt (g p) p (holds e))
+    first false e c = later (first_lower gs p) (nltb→le (g p) p (fails e)) c
+
+answer : (gs : List (ℕ → ℕ)) (p : ℕ) (done : List ℕ) → Answer gs p done (number gs p done)
+answer gs p done = go (first_lower gs p) (carried gs p)
+  where
+    go : (o : Option ℕ) → Carried gs p o → Answer gs p done (elim o as (λ _. ℕ) [ Some q ↦ get_or done q 0 | None ↦ p ])
+    go (Some q) c = lower c.0 c.1 (rw c.2 c.3) (ap (λ q. get_or done q 0) (sym c.2))
+    go None c = own c refl
 
 -- of any maps: a number is at most its point and bears itself
 module _ (gs : List (ℕ → ℕ)) (N : ℕ) where

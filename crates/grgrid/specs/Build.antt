@@ -6,6 +6,6 @@ build f zero = []
 build f (suc n) = let done = build f n in done ++ (f n done ∷ [])
 
 -- g 0, then g 1, .. , then g (n - 1)
-abbrev pub rows : {A : Type 0} → (ℕ → List A) → ℕ → List A
-rows g zero = []
-rows g (suc n) = rows g n ++ g n
+abbrev pub concat : {A : Type 0} → (ℕ → List A) → ℕ → List A
+concat g zero = []
+concat g (suc n) = concat g n ++ g n

@@ -1,8 +1,9 @@
 -- The class map: point by point upwards, the first map that lands lower gives that point's number; else the point keeps its own.
-use Rattle.std.specs.Prelude.{◌≡◌, true, false, List, [], ◌∷◌, map, ℕ, zero, suc, ◌≤◌, ◌<◌, ltb, eqb, ℤ, pos, nat_abs, get_or, Option, None, Some}
+use Rattle.std.specs.Prelude.{◌≡◌, true, false, List, [], ◌∷◌, map, ℕ, ◌≤◌, ◌<◌, ltb, ℤ, pos, nat_abs, get_or, Option, None, Some}
 use Rattle.common.specs.Matrix.{Vec, Mat}
 use Rattle.grgrid.specs.Grid.{size, rotate}
 use Rattle.grgrid.specs.Build.{build}
+use Rattle.grgrid.specs.Own.{own_places}
 
 -- where the first map that carries p lower carries it
 abbrev pub first_lower : List (ℕ → ℕ) → ℕ → Option ℕ
@@ -11,25 +12,20 @@ first_lower (g ∷ gs) p = elim (ltb (g p) p) [ true ↦ Some (g p) | false ↦ 
 
 -- the number of p, where `done` holds those of the points below it
 abbrev pub number : List (ℕ → ℕ) → ℕ → List ℕ → ℕ
-number [] p done = p
-number (g ∷ gs) p done = elim (ltb (g p) p) [ true ↦ get_or done (g p) 0 | false ↦ number gs p done ]
+number gs p done = elim (first_lower gs p) [ Some q ↦ get_or done q 0 | None ↦ p ]
 
 -- the numbers of the points below n
 abbrev pub pass : List (ℕ → ℕ) → ℕ → List ℕ
 pass gs n = build (number gs) n
 
--- how many of the points below n keep their own number
-abbrev pub kept : List ℕ → ℕ → ℕ
-kept numbers zero = 0
-kept numbers (suc n) = let r = kept numbers n in elim (eqb (get_or numbers n 0) n) [ true ↦ suc r | false ↦ r ]
-
 unfoldable pub class_map_of : Vec ℕ → Vec ℤ → List (Mat ℤ) → List ℕ
 unfolding rotate
 class_map_of d ps rotations = pass (map (rotate d ps) rotations) (size d)
 
+-- how many points keep their own number
 unfoldable pub classes : Vec ℕ → Vec ℤ → List (Mat ℤ) → ℕ
 unfolding class_map_of
-classes d ps rotations = kept (class_map_of d ps rotations) (size d)
+classes d ps rotations = own_places (map pos (class_map_of d ps rotations)) (size d)
 
 -- a class map as a slice holds it: no number lies above its point, and each is that of a point with its own
 pub record Numbered (n : ℕ) (l : List ℤ) : Type 0 where

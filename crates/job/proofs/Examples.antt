@@ -9,7 +9,7 @@ use lib.ListN.{replicate, take}
 use Rattle.std.specs.Prelude.{Ok}
 use Rattle.common.specs.declared.Refusal.TheVariants.{BadHeader}
 use Rattle.job.specs.Job.{signed, float, Header, job_fits, job_of, rotations_of}
-use Rattle.decimal.specs.Decimal.{decimal, number}
+use Rattle.decimal.specs.Decimal.{decimal, signed_decimal}
 use Rattle.job.specs.Listing.{listing, refusal}
 
 -- ---- job files, by their header
@@ -141,7 +141,7 @@ text z l = record { of = z; codes = l }
 
 abbrev Written : List Text → Type 0
 Written [] = Unit {0}
-Written (t ∷ l) = (number t.of ≡ t.codes) × Written l
+Written (t ∷ l) = (signed_decimal t.of ≡ t.codes) × Written l
 
 abbrev texts : List Text
 texts =

@@ -13,7 +13,7 @@ use lib.Seq.{take-suc, append_snoc, set-append_seam}
 use borrow.Author.Tests.{lt-ltb, le-ltb, leb-true, leb-false}
 use Rattle.std.proofs.lemmas.List.{take-append-drop}
 use Rattle.std.specs.Prelude.{Option, Some, None}
-use Rattle.grgrid.specs.Build.{rows}
+use Rattle.grgrid.specs.Build.{concat}
 use Rattle.job.proofs.Lists.{drop-replicate}
 use Rattle.job.specs.Writing.{Page, page, next, put, puts, finished, printed}
 
@@ -44,8 +44,8 @@ module _ (p : Page) where
   puts_then s t e f = f ∙ ap (λ q. puts q t) e ∙ sym (puts-append p s t)
 
   -- the next row
-  pub row_more : (g : ℕ → List ℕ) (i : ℕ) {q r : Page} → q ≡ puts p (rows g i) → r ≡ puts q (g i) → r ≡ puts p (rows g (i + 1))
-  row_more g i e f = puts_then (rows g i) (g i) e f ∙ ap (λ n. puts p (rows g n)) (sym (add-one i))
+  pub row_more : (g : ℕ → List ℕ) (i : ℕ) {q r : Page} → q ≡ puts p (concat g i) → r ≡ puts q (g i) → r ≡ puts p (concat g (i + 1))
+  row_more g i e f = puts_then (concat g i) (g i) e f ∙ ap (λ n. puts p (concat g n)) (sym (add-one i))
 
   -- where there is no room, nothing more is put
   module _ {l : List ℕ} {q r : Option ℕ} (e : q ≡ None) (f : r ≡ None) where
@@ -58,14 +58,14 @@ module _ (p : Page) where
         stopped (take (suc i) s) (drop (suc i) s) (puts_then (take i s) (get_or s i 0 ∷ []) k m ∙ ap (puts p) (sym (take-suc s i 0 h)))
         ∙ ap (puts p) (take-append-drop (suc i) s)
 
-    pub rows-stopped : (g : ℕ → List ℕ) (i n : ℕ) {b : Page} → i < n → b ≡ puts p (rows g i) → page l q ≡ puts b (g i) → page l r ≡ puts p (rows g n)
+    pub rows-stopped : (g : ℕ → List ℕ) (i n : ℕ) {b : Page} → i < n → b ≡ puts p (concat g i) → page l q ≡ puts b (g i) → page l r ≡ puts p (concat g n)
     rows-stopped g i n h k m = onwards n h
       where
-        onwards : (n : ℕ) → i < n → page l r ≡ puts p (rows g n)
+        onwards : (n : ℕ) → i < n → page l r ≡ puts p (concat g n)
         onwards zero h = absurd (not-suc-le-zero h)
         onwards (suc n) h =
-            ⊎_elim (λ j. ap (page l) (f ∙ sym e) ∙ puts_then (rows g i) (g i) k m ∙ ap (λ n. puts p (rows g (suc n))) j)
-            (λ j. puts_then (rows g n) (g n) (onwards n j) (ap (page l) f ∙ sym (full l (g n)) ∙ ap (λ r. puts (page l r) (g n)) (sym f)))
+            ⊎_elim (λ j. ap (page l) (f ∙ sym e) ∙ puts_then (concat g i) (g i) k m ∙ ap (λ n. puts p (concat g (suc n))) j)
+            (λ j. puts_then (concat g n) (g n) (onwards n j) (ap (page l) f ∙ sym (full l (g n)) ∙ ap (λ r. puts (page l r) (g n)) (sym f)))
             (eq-or-lt_of_le (le_of_suc-le-suc h))
 
 -- ---- a whole text in a slice of zeros

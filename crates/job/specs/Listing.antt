@@ -2,17 +2,17 @@
 use Rattle.std.specs.Prelude.{List, [], ◌∷◌, ◌++◌, ℕ, ◌*◌, ◌/◌, ℤ, pos, length, get_or, take, drop}
 use Rattle.common.specs.declared.Refusal.{Refusal}
 use Rattle.common.specs.Refusal.{number_of}
-use Rattle.decimal.specs.Decimal.{decimal, number}
-use Rattle.grgrid.specs.Build.{rows}
+use Rattle.decimal.specs.Decimal.{decimal, signed_decimal}
+use Rattle.grgrid.specs.Build.{concat}
 
 -- number i of a list, after a blank
 abbrev pub spaced : List ℤ → ℕ → List ℕ
-spaced l i = 32 ∷ number (get_or l i (pos 0))
+spaced l i = 32 ∷ signed_decimal (get_or l i (pos 0))
 
 -- a word, the numbers, a line feed
 unfoldable pub line : List ℕ → List ℤ → List ℕ
 unfolding decimal
-line word l = word ++ (rows (spaced l) (length l) ++ (10 ∷ []))
+line word l = word ++ (concat (spaced l) (length l) ++ (10 ∷ []))
 
 -- ---- the words
 abbrev pub grid : List ℕ
@@ -39,7 +39,7 @@ triplet_line l k = line triplet (take 3 (drop (3 * k) l))
 -- the diagonal, the class of each point, the number of classes, a triplet of image indices a class (numbers beyond a multiple of three make no line)
 unfoldable pub listing : List ℤ → List ℤ → ℤ → List ℤ → List ℕ
 unfolding line
-listing d classes n triplets = line grid d ++ (line map classes ++ (line ir (n ∷ []) ++ rows (triplet_line triplets) (length triplets / 3)))
+listing d classes n triplets = line grid d ++ (line map classes ++ (line ir (n ∷ []) ++ concat (triplet_line triplets) (length triplets / 3)))
 
 unfoldable pub refusal : Refusal → List ℕ
 unfolding line

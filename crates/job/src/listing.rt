@@ -1,8 +1,8 @@
 // The text that a job prints, written into a lent slice.
 // No Display: what is written and the count are one equation, and without room nothing is.
 ghost use Rattle.std.specs.Prelude.{◌≡◌, ◌/◌, length, Some};
-ghost use Rattle.grgrid.specs.Build.{rows};
-ghost use Rattle.decimal.specs.Decimal.{decimal, number};
+ghost use Rattle.grgrid.specs.Build.{concat};
+ghost use Rattle.decimal.specs.Decimal.{decimal, signed_decimal};
 ghost use Rattle.job.specs.Listing.{spaced, line, triplet_line, listing, refusal};
 ghost use Rattle.job.specs.Writing.{printed, page, put, puts, finished};
 
@@ -41,7 +41,7 @@ fn put_decimal(u: u64, out: &mut [u8], n: usize) -> Option<usize>
 }
 
 fn put_number(z: i64, out: &mut [u8], n: usize) -> Option<usize>
-    ensures { page out.new result ≡ puts (page out.old (Some n)) (number z) }
+    ensures { page out.new result ≡ puts (page out.old (Some n)) (signed_decimal z) }
 {
     let m = if z < 0 { put(b'-', out, n)? } else { n };
     put_decimal(z.unsigned_abs(), out, m)
@@ -49,7 +49,7 @@ fn put_number(z: i64, out: &mut [u8], n: usize) -> Option<usize>
 
 // Each after a blank.
 fn put_numbers(list: &[i64], out: &mut [u8], n: usize) -> Option<usize>
-    ensures { page out.new result ≡ puts (page out.old (Some n)) (rows (spaced list.now) (length list.now)) }
+    ensures { page out.new result ≡ puts (page out.old (Some n)) (concat (spaced list.now) (length list.now)) }
 {
     let mut m = n;
     for &z in list {
@@ -69,7 +69,7 @@ fn put_line(word: &[u8], list: &[i64], out: &mut [u8], n: usize) -> Option<usize
 
 // Three numbers a line.
 fn put_triplets(list: &[i64], out: &mut [u8], n: usize) -> Option<usize>
-    ensures { page out.new result ≡ puts (page out.old (Some n)) (rows (triplet_line list.now) (length list.now / 3)) }
+    ensures { page out.new result ≡ puts (page out.old (Some n)) (concat (triplet_line list.now) (length list.now / 3)) }
 {
     let mut m = n;
     for three in list.chunks_exact(3) {

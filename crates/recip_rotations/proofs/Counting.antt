@@ -17,7 +17,7 @@ use Rattle.common.specs.Matrix.{Mat}
 use Rattle.common.specs.Array.{matrix_at, matrices_from, matrices}
 use Rattle.common.proofs.Reading.{read-flat, length_from}
 use Rattle.common.proofs.Tests.{passed}
-use Rattle.recip_rotations.specs.Unique.{among, kept, unique}
+use Rattle.recip_rotations.specs.Unique.{among, with_new, unique}
 use Rattle.recip_rotations.specs.Flat.{laid}
 use Rattle.recip_rotations.specs.Code.Steps.{few, Grouped}
 use Rattle.recip_rotations.proofs.Answered.{was-accepted, was-refused}
@@ -52,7 +52,7 @@ module _ (out : List ℤ) (f : ℕ) (s : List ℤ) (n : ℕ) (h : f ≤ 48) (g :
   before = matrices_from out 0 f
 
   abbrev then : List (Mat ℤ)
-  then = kept before (matrix_at s n)
+  then = with_new before (matrix_at s n)
 
   pub keep-there : among (matrix_at s n) before ≡ true → Grouped (few then) then out out (Ok f)
   keep-there e =
@@ -77,10 +77,10 @@ module _ (s : List ℤ) (d : List ℤ) where
 
   -- the first n, with out as they leave it, and one more
   pub counted-more : (n f : ℕ) {out after : List ℤ} {r : Result ℕ Refusal} → f ≡ length (first n) → out ≡ laid (first n) d
-      → Grouped (few (kept (matrices_from out 0 f) (matrix_at s n))) (kept (matrices_from out 0 f) (matrix_at s n)) out after r
+      → Grouped (few (with_new (matrices_from out 0 f) (matrix_at s n))) (with_new (matrices_from out 0 f) (matrix_at s n)) out after r
       → Grouped (few (first (n + 1))) (first (n + 1)) d after r
   counted-more n f {out} {after} {r} p q c =
-      let e : kept (matrices_from out 0 f) (matrix_at s n) ≡ first (n + 1) = ap (λ l. kept l (matrix_at s n)) (ap₂ (λ l k. matrices_from l 0 k) q p ∙ read-flat (first n) _) ∙ sym (unique-more s n) in
+      let e : with_new (matrices_from out 0 f) (matrix_at s n) ≡ first (n + 1) = ap (λ l. with_new l (matrix_at s n)) (ap₂ (λ l k. matrices_from l 0 k) q p ∙ read-flat (first n) _) ∙ sym (unique-more s n) in
       let c = subst (λ l. Grouped (few l) l out after r) e c in
       record {
         answer = c.answer;

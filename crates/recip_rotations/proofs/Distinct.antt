@@ -10,17 +10,17 @@ use lib.IntN.{ℤ}
 use lib.ListN.{length, length-append}
 use Rattle.common.specs.Matrix.{Mat}
 use Rattle.common.specs.Array.{matrix_at, matrices_from}
-use Rattle.recip_rotations.specs.Unique.{among, kept, unique}
+use Rattle.recip_rotations.specs.Unique.{among, with_new, unique}
 use Rattle.recip_rotations.proofs.Blocks.{from_more}
 
 module _ (l : List (Mat ℤ)) (m : Mat ℤ) where
-  pub kept_there : among m l ≡ true → l ≡ kept l m
+  pub kept_there : among m l ≡ true → l ≡ with_new l m
   kept_there e = sym (ap (λ t. elim t [ true ↦ l | false ↦ l ++ (m ∷ []) ]) e)
 
-  pub kept_new : among m l ≡ false → l ++ (m ∷ []) ≡ kept l m
+  pub kept_new : among m l ≡ false → l ++ (m ∷ []) ≡ with_new l m
   kept_new e = sym (ap (λ t. elim t [ true ↦ l | false ↦ l ++ (m ∷ []) ]) e)
 
-  kept-longer : length l ≤ length (kept l m)
+  kept-longer : length l ≤ length (with_new l m)
   kept-longer = go (among m l)
     where
       go : (t : Bool) → length l ≤ length {A = Mat ℤ} (elim t [ true ↦ l | false ↦ l ++ (m ∷ []) ])
@@ -28,8 +28,8 @@ module _ (l : List (Mat ℤ)) (m : Mat ℤ) where
       go false = omega (arith, length-append l (m ∷ []))
 
 module _ (l : List ℤ) where
-  pub unique-more : (n : ℕ) → unique (matrices_from l 0 (n + 1)) ≡ kept (unique (matrices_from l 0 n)) (matrix_at l n)
-  unique-more n = ap unique (from_more l n) ∙ foldl-append kept [] (matrices_from l 0 n) (matrix_at l n ∷ [])
+  pub unique-more : (n : ℕ) → unique (matrices_from l 0 (n + 1)) ≡ with_new (unique (matrices_from l 0 n)) (matrix_at l n)
+  unique-more n = ap unique (from_more l n) ∙ foldl-append with_new [] (matrices_from l 0 n) (matrix_at l n ∷ [])
 
   pub unique-longer : (n k : ℕ) → n ≤ k → length (unique (matrices_from l 0 n)) ≤ length (unique (matrices_from l 0 k))
   unique-longer n k h = rw (back n k h) (go (k - n))

@@ -16,7 +16,7 @@ use Rattle.common.specs.Tested.{require, Tested, Accepted}
 use Rattle.common.specs.declared.Refusal.TheVariants.{TooManyForInversion}
 use Rattle.common.proofs.Reading.{length_from}
 use Rattle.recip_rotations.specs.Flat.{laid}
-use Rattle.recip_rotations.specs.PointGroup.{joins, joined, join_tests}
+use Rattle.recip_rotations.specs.PointGroup.{joins, with_negatives, join_tests}
 use Rattle.recip_rotations.specs.Code.Steps.{Grouped}
 use Rattle.recip_rotations.proofs.Blocks.{laid-self, laid-negatives}
 use Rattle.recip_rotations.proofs.Outcomes.{accepted, refused}
@@ -32,17 +32,17 @@ module _ (out : List ℤ) (f : ℕ) (t : Bool) (h : f * 9 ≤ length out) where
   abbrev told : Bool → List (Mat ℤ)
   told j = elim j [ true ↦ list ++ map negate list | false ↦ list ]
 
-  pub join-none : joins t list ≡ false → Grouped (join_tests t list) (joined t list) out out (Ok f)
+  pub join-none : joins t list ≡ false → Grouped (join_tests t list) (with_negatives t list) out out (Ok f)
   join-none e =
       accepted (ap (λ j. tests j (leb (length list) 24)) e)
       (sym (length_from out 0 f) ∙ ap (λ j. length (told j)) (sym e))
       (laid-self out f h ∙ ap (λ j. laid (told j) out) (sym e))
 
   module _ (e : joins t list ≡ true) where
-    pub join-full : {after : List ℤ} → 24 < f → Grouped (join_tests t list) (joined t list) out after (Err TooManyForInversion)
+    pub join-full : {after : List ℤ} → 24 < f → Grouped (join_tests t list) (with_negatives t list) out after (Err TooManyForInversion)
     join-full k = refused (ap₂ tests e (lt-leb (length list) 24 (omega (arith, length_from out 0 f))))
 
-    pub join-all : {after : List ℤ} → f ≤ 24 → after ≡ paste out (f * 9) (map neg_ℤ out) (f * 9) → Grouped (join_tests t list) (joined t list) out after (Ok (f * 2))
+    pub join-all : {after : List ℤ} → f ≤ 24 → after ≡ paste out (f * 9) (map neg_ℤ out) (f * 9) → Grouped (join_tests t list) (with_negatives t list) out after (Ok (f * 2))
     join-all k p =
         let twice : f * 2 ≡ length (list ++ map negate list) = omega (arith, length-append list (map negate list), length-map list negate, length_from out 0 f) in
         accepted (ap₂ tests e (le-leb (length list) 24 (omega (arith, length_from out 0 f))))

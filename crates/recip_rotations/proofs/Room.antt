@@ -15,10 +15,10 @@ use Rattle.common.specs.Tested.{after, Tested, Accepted, giving}
 use Rattle.common.specs.declared.Refusal.TheVariants.{TooManyRotations, TooManyForInversion}
 use Rattle.common.proofs.Tests.{passed, both-accepted}
 use Rattle.recip_rotations.specs.Unique.{unique}
-use Rattle.recip_rotations.specs.PointGroup.{turned, joins, joined, join_tests, room_tests, input_tests, group_tests, point_group, get_reciprocal_point_group, count_of}
+use Rattle.recip_rotations.specs.PointGroup.{transposed_if, joins, with_negatives, join_tests, room_tests, input_tests, group_tests, point_group, get_reciprocal_point_group, count_of}
 use Rattle.recip_rotations.proofs.Grouping.{turned-length}
 
-joined-room : (time : Bool) (l : List (Mat ℤ)) → length l ≤ 48 → join_tests time l ≡ Accepted → length (joined time l) ≤ 48
+joined-room : (time : Bool) (l : List (Mat ℤ)) → length l ≤ 48 → join_tests time l ≡ Accepted → length (with_negatives time l) ≤ 48
 joined-room time l h e = step (joins time l) (passed (not (joins time l) || leb (length l) 24) TooManyForInversion Accepted e).0
   where
     step : (j : Bool) → (not j || leb (length l) 24) ≡ true → length {A = Mat ℤ} (elim j [ true ↦ l ++ map negate l | false ↦ l ]) ≤ 48
@@ -28,8 +28,8 @@ joined-room time l h e = step (joins time l) (passed (not (joins time l) || leb 
 pub room : (l : List (Mat ℤ)) (time t : Bool) → room_tests l time t ≡ Accepted → length (point_group l time t) ≤ 48
 unfolding room_tests point_group
 room l time t e =
-    let p = passed (leb (length (unique l)) 48) TooManyRotations (join_tests time (turned t (unique l))) e in
-    joined-room time (turned t (unique l)) (omega (arith, turned-length t (unique l), leb-true (length (unique l)) 48 p.0)) p.1
+    let p = passed (leb (length (unique l)) 48) TooManyRotations (join_tests time (transposed_if t (unique l))) e in
+    joined-room time (transposed_if t (unique l)) (omega (arith, turned-length t (unique l), leb-true (length (unique l)) 48 p.0)) p.1
 
 -- whatever is tested before the room
 pub count-few : (l : List (Mat ℤ)) (time t : Bool) (front : Tested) → count_of (giving (after front (room_tests l time t)) (length (point_group l time t))) ≤ 48

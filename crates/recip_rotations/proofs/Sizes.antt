@@ -22,21 +22,21 @@ use Rattle.common.specs.Limits.{within, all_within}
 use Rattle.common.proofs.Matrix.{entry-matrix}
 use Rattle.common.proofs.Reading.{read_small}
 use Rattle.grgrid.proofs.Lists.{◌∈◌}
-use Rattle.recip_rotations.specs.Unique.{among, kept, unique}
+use Rattle.recip_rotations.specs.Unique.{among, with_new, unique}
 use Rattle.recip_rotations.specs.Flat.{laid}
-use Rattle.recip_rotations.specs.PointGroup.{turned, joins, joined, point_group}
+use Rattle.recip_rotations.specs.PointGroup.{transposed_if, joins, with_negatives, point_group}
 
 -- ---- the members of `unique`
-kept_of : (l : List (Mat ℤ)) (x : Mat ℤ) {m : Mat ℤ} → m ∈ kept l x → (m ∈ l) ⊎ (m ≡ x)
+kept_of : (l : List (Mat ℤ)) (x : Mat ℤ) {m : Mat ℤ} → m ∈ with_new l x → (m ∈ l) ⊎ (m ≡ x)
 kept_of l x {m} k = go (among x l) k
   where
     go : (t : Bool) → m ∈ (elim t [ true ↦ l | false ↦ l ++ (x ∷ []) ]) → (m ∈ l) ⊎ (m ≡ x)
     go true k = inl k
     go false k = ⊎_elim inl (λ j. inr (⊎_elim (λ e. e) (λ n. absurd (not-nil n)) (cases j))) (append_cases l k)
 
-fold-of : (b l : List (Mat ℤ)) {m : Mat ℤ} → m ∈ foldl kept b l → (m ∈ b) ⊎ (m ∈ l)
+fold-of : (b l : List (Mat ℤ)) {m : Mat ℤ} → m ∈ foldl with_new b l → (m ∈ b) ⊎ (m ∈ l)
 fold-of b [] k = inl k
-fold-of b (x ∷ l) k = ⊎_elim (λ j. ⊎_elim inl (λ e. inr (here e)) (kept_of b x j)) (λ j. inr (there j)) (fold-of (kept b x) l k)
+fold-of b (x ∷ l) k = ⊎_elim (λ j. ⊎_elim inl (λ e. inr (here e)) (kept_of b x j)) (λ j. inr (there j)) (fold-of (with_new b x) l k)
 
 pub unique-of : (l : List (Mat ℤ)) {m : Mat ℤ} → m ∈ unique l → m ∈ l
 unique-of l k = ⊎_elim (λ n. absurd (not-nil n)) (λ j. j) (fold-of [] l k)
@@ -49,11 +49,11 @@ module _ (b : ℕ) where
   abbrev AllSmall : List (Mat ℤ) → Type 0
   AllSmall l = (m : Mat ℤ) → m ∈ l → Small m
 
-  small-turned : (t : Bool) (l : List (Mat ℤ)) → AllSmall l → AllSmall (turned t l)
+  small-turned : (t : Bool) (l : List (Mat ℤ)) → AllSmall l → AllSmall (transposed_if t l)
   small-turned true l h m i = let r = of_map transpose l i in subst Small r.2 (λ j k. rw (entry-matrix (λ j k. entry r.0 k j) j k) (h r.0 r.1 k j))
   small-turned false l h m i = h m i
 
-  small-joined : (time : Bool) (l : List (Mat ℤ)) → AllSmall l → AllSmall (joined time l)
+  small-joined : (time : Bool) (l : List (Mat ℤ)) → AllSmall l → AllSmall (with_negatives time l)
   small-joined time l h = step (joins time l)
     where
       step : (j : Bool) → AllSmall (elim j [ true ↦ l ++ map negate l | false ↦ l ])
@@ -102,12 +102,12 @@ sized-laid l h n =
     blank (suc n) (suc i) = blank n i
 
 module _ (s : List ℤ) (w : T (all_within 100000 s)) (t : Bool) where
-  turned-small : Limited (turned t (unique (matrices s)))
+  turned-small : Limited (transposed_if t (unique (matrices s)))
   turned-small = small-turned 100000 t (unique (matrices s)) (λ m i. read_small 100000 s w 0 (length s / 9) m (unique-of (matrices s) i))
 
-  pub sized-group : (n : ℕ) → Sized 100000 (laid (turned t (unique (matrices s))) (replicate n (negsuc 0)))
-  sized-group = sized-laid (turned t (unique (matrices s))) turned-small
+  pub sized-group : (n : ℕ) → Sized 100000 (laid (transposed_if t (unique (matrices s))) (replicate n (negsuc 0)))
+  sized-group = sized-laid (transposed_if t (unique (matrices s))) turned-small
 
   pub within-told : (time : Bool) (n : ℕ) → T (all_within 100000 (laid (point_group (matrices s) time t) (replicate n (negsuc 0))))
   unfolding point_group
-  within-told time n = let l = turned t (unique (matrices s)) in sized-within 100000 (laid (joined time l) (replicate n (negsuc 0))) (sized-laid (joined time l) (small-joined 100000 time l turned-small) n)
+  within-told time n = let l = transposed_if t (unique (matrices s)) in sized-within 100000 (laid (with_negatives time l) (replicate n (negsuc 0))) (sized-laid (with_negatives time l) (small-joined 100000 time l turned-small) n)

@@ -15,8 +15,8 @@ use Rattle.integer.proofs.Test.{is_false, and_r}
 use Rattle.common.specs.Matrix.{Mat, negate, inversion}
 use Rattle.grgrid.proofs.Lists.{◌∈◌, Distinct}
 use Rattle.grgrid.proofs.MatrixGroup.{MatrixGroup, transposes, joined as negatives-joined}
-use Rattle.recip_rotations.specs.Unique.{same_matrix, among, kept, unique}
-use Rattle.recip_rotations.specs.PointGroup.{turned, joins, joined, point_group}
+use Rattle.recip_rotations.specs.Unique.{same_matrix, among, with_new, unique}
+use Rattle.recip_rotations.specs.PointGroup.{transposed_if, joins, with_negatives, point_group}
 use Rattle.recip_rotations.proofs.Same.{matrix-eq, matrix-refl}
 use Rattle.recip_rotations.proofs.Distinct.{kept_new}
 
@@ -43,21 +43,21 @@ apart : (b : List (Mat ℤ)) (x : Mat ℤ) (l : List (Mat ℤ)) → Distinct (b 
 apart [] x l d k = not-nil k
 apart (y ∷ b) x l d k = ⊎_elim (λ e. d.0 (append_right b (here (sym e)))) (apart b x l d.1) (cases k)
 
-fold-distinct : (b l : List (Mat ℤ)) → Distinct (b ++ l) → foldl kept b l ≡ b ++ l
+fold-distinct : (b l : List (Mat ℤ)) → Distinct (b ++ l) → foldl with_new b l ≡ b ++ l
 fold-distinct b [] d = sym (append-nil b)
 fold-distinct b (x ∷ l) d =
     let new : among x b ≡ false = is_false (among x b) (not_T (among x b) (λ t. apart b x l d (among_in x b t))) in
-    ap (λ k. foldl kept k l) (sym (kept_new b x new)) ∙ fold-distinct (b ++ (x ∷ [])) l (rw append_snoc d) ∙ append_snoc b x l
+    ap (λ k. foldl with_new k l) (sym (kept_new b x new)) ∙ fold-distinct (b ++ (x ∷ [])) l (rw append_snoc d) ∙ append_snoc b x l
 
 pub unique-distinct : (l : List (Mat ℤ)) → Distinct l → unique l ≡ l
 unique-distinct l d = fold-distinct [] l d
 
 -- ---- groups
-turned-group : (t : Bool) {l : List (Mat ℤ)} → MatrixGroup l → MatrixGroup (turned t l)
+turned-group : (t : Bool) {l : List (Mat ℤ)} → MatrixGroup l → MatrixGroup (transposed_if t l)
 turned-group true m = transposes m
 turned-group false m = m
 
-pub joined-group : (time : Bool) {l : List (Mat ℤ)} → MatrixGroup l → MatrixGroup (joined time l)
+pub joined-group : (time : Bool) {l : List (Mat ℤ)} → MatrixGroup l → MatrixGroup (with_negatives time l)
 joined-group time {l} m = step (joins time l) (λ t k. T_not (among inversion l) (and_r time (not (among inversion l)) t) (in-among inversion l k))
   where
     step : (j : Bool) → (T j → ¬ (inversion ∈ l)) → MatrixGroup (elim j [ true ↦ l ++ map negate l | false ↦ l ])

@@ -9,26 +9,26 @@ use Rattle.common.specs.declared.Refusal.TheVariants.{OutsideLimits, TooManyRota
 use Rattle.recip_rotations.specs.Unique.{among, unique}
 use Rattle.recip_rotations.specs.Flat.{laid}
 
-abbrev pub turned : Bool → List (Mat ℤ) → List (Mat ℤ)
-turned transposed l = elim transposed [ true ↦ map transpose l | false ↦ l ]
+abbrev pub transposed_if : Bool → List (Mat ℤ) → List (Mat ℤ)
+transposed_if transposed l = elim transposed [ true ↦ map transpose l | false ↦ l ]
 
 -- whether time reversal joins the negatives to l
 abbrev pub joins : Bool → List (Mat ℤ) → Bool
 joins time_reversal l = time_reversal && not (among inversion l)
 
-abbrev pub joined : Bool → List (Mat ℤ) → List (Mat ℤ)
-joined time_reversal l = elim (joins time_reversal l) [ true ↦ l ++ map negate l | false ↦ l ]
+abbrev pub with_negatives : Bool → List (Mat ℤ) → List (Mat ℤ)
+with_negatives time_reversal l = elim (joins time_reversal l) [ true ↦ l ++ map negate l | false ↦ l ]
 
 -- ---- the list that is told, and the tests
 unfoldable pub point_group : List (Mat ℤ) → Bool → Bool → List (Mat ℤ)
-point_group l time_reversal transposed = joined time_reversal (turned transposed (unique l))
+point_group l time_reversal transposed = with_negatives time_reversal (transposed_if transposed (unique l))
 
 -- the negatives take half of the room for 48
 abbrev pub join_tests : Bool → List (Mat ℤ) → Tested
 join_tests time_reversal l = require (not (joins time_reversal l) || leb (length l) 24) TooManyForInversion Accepted
 
 unfoldable pub room_tests : List (Mat ℤ) → Bool → Bool → Tested
-room_tests l time_reversal transposed = require (leb (length (unique l)) 48) TooManyRotations (join_tests time_reversal (turned transposed (unique l)))
+room_tests l time_reversal transposed = require (leb (length (unique l)) 48) TooManyRotations (join_tests time_reversal (transposed_if transposed (unique l)))
 
 -- of the input: the list's length, the n places for the group, the limits
 unfoldable pub input_tests : List ℤ → ℕ → Tested

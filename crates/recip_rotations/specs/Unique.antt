@@ -12,8 +12,8 @@ among m [] = false
 among m (n ∷ l) = elim (same_matrix m n) [ true ↦ true | false ↦ among m l ]
 
 -- m at the end, unless it is there already
-abbrev pub kept : List (Mat ℤ) → Mat ℤ → List (Mat ℤ)
-kept l m = elim (among m l) [ true ↦ l | false ↦ l ++ (m ∷ []) ]
+abbrev pub with_new : List (Mat ℤ) → Mat ℤ → List (Mat ℤ)
+with_new l m = elim (among m l) [ true ↦ l | false ↦ l ++ (m ∷ []) ]
 
 abbrev pub unique : List (Mat ℤ) → List (Mat ℤ)
-unique l = foldl kept [] l
+unique l = foldl with_new [] l

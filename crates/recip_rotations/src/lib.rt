@@ -5,9 +5,9 @@ ghost use Rattle.std.specs.Prelude.{◌≡◌, true, map, ◌+◌, ◌*◌, ◌�
 ghost use Rattle.std.proofs.Math.Seq.{paste};
 ghost use Rattle.common.specs.Array.{matrix_at, matrices_from, matrices, Sized};
 ghost use Rattle.common.specs.Limits.{all_within};
-ghost use Rattle.recip_rotations.specs.Unique.{same_matrix, among, kept, unique};
+ghost use Rattle.recip_rotations.specs.Unique.{same_matrix, among, with_new, unique};
 ghost use Rattle.recip_rotations.specs.Flat.{laid};
-ghost use Rattle.recip_rotations.specs.PointGroup.{turned, joined, join_tests, room_tests, input_tests, group_tests, point_group, get_reciprocal_point_group};
+ghost use Rattle.recip_rotations.specs.PointGroup.{transposed_if, with_negatives, join_tests, room_tests, input_tests, group_tests, point_group, get_reciprocal_point_group};
 ghost use Rattle.recip_rotations.specs.Code.Steps.{same_row, transposed_at, few, Grouped};
 
 use common::Refusal;
@@ -56,7 +56,7 @@ fn transpose_at(list: &mut [i64], at: usize)
 // At most 48: the output has 48 times nine places.
 fn keep(rotations: &[i64], n: usize, out: &mut [i64; 432], found: usize) -> Result<usize, Refusal>
     requires { (n * 9 + 9 ≤ length rotations.now) × (found ≤ 48) }
-    ensures { let list = kept (matrices_from out.old 0 found) (matrix_at rotations.now n) in
+    ensures { let list = with_new (matrices_from out.old 0 found) (matrix_at rotations.now n) in
         Grouped (few list) list out.old out.new result }
 {
     if contains(rotations, n, out, found) {
@@ -87,7 +87,7 @@ fn collect(rotations: &[i64], out: &mut [i64; 432]) -> Result<usize, Refusal>
 // The first `count` matrices, transposed where asked for.
 fn turn(out: &mut [i64; 432], count: usize, is_transpose: bool)
     requires { count ≤ 48 }
-    ensures { out.new ≡ laid (turned is_transpose (matrices_from out.old 0 count)) out.old }
+    ensures { out.new ≡ laid (transposed_if is_transpose (matrices_from out.old 0 count)) out.old }
 {
     if is_transpose {
         // By index: of what `chunks_exact_mut` lends, a proof knows only the length afterwards.
@@ -115,7 +115,7 @@ fn join(out: &mut [i64; 432], count: usize, is_time_reversal: bool) -> Result<us
     requires room { count ≤ 48 }
     requires sized { Sized 100000 out.old }
     ensures { let list = matrices_from out.old 0 count in
-        Grouped (join_tests is_time_reversal list) (joined is_time_reversal list) out.old out.new result }
+        Grouped (join_tests is_time_reversal list) (with_negatives is_time_reversal list) out.old out.new result }
 {
     if !is_time_reversal {
         return Ok(count);

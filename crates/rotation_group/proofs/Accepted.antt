@@ -10,7 +10,7 @@ use Rattle.common.specs.Tested.{require, after, Accepted}
 use Rattle.common.specs.declared.Refusal.TheVariants.{NotGroup}
 use Rattle.common.proofs.Tests.{passed, both-accepted}
 use Rattle.grgrid.proofs.MatrixGroup.{MatrixGroup}
-use Rattle.recip_rotations.specs.PointGroup.{joined, input_tests, room_tests, group_tests}
+use Rattle.recip_rotations.specs.PointGroup.{with_negatives, input_tests, room_tests, group_tests}
 use Rattle.recip_rotations.proofs.Told.{joined-group}
 use Rattle.rotation_group.specs.Group.{is_group}
 use Rattle.rotation_group.specs.ReciprocalGroup.{given_tests, reciprocal_tests}
@@ -37,7 +37,7 @@ module _ (rotations : List ℤ) (time : Bool) (n : ℕ) where
     accepted-group = group_of (matrices rotations) (holds (given-accepted rotations n given).1)
 
     -- what demand 3 asks of the list
-    pub accepted-joined : MatrixGroup (joined time (matrices rotations))
+    pub accepted-joined : MatrixGroup (with_negatives time (matrices rotations))
     accepted-joined = joined-group time accepted-group
 
     pub accepted-call : group_tests rotations time true n ≡ Accepted

@@ -19,7 +19,7 @@ use Rattle.common.specs.declared.Refusal.TheVariants.{OutsideLimits, TooManyRota
 use Rattle.common.proofs.Tests.{not-accepted, same-refusal}
 use Rattle.grgrid.proofs.MatrixGroup.{MatrixGroup}
 use Rattle.recip_rotations.specs.Unique.{unique}
-use Rattle.recip_rotations.specs.PointGroup.{turned, joins, join_tests, input_tests, room_tests}
+use Rattle.recip_rotations.specs.PointGroup.{transposed_if, joins, join_tests, input_tests, room_tests}
 use Rattle.rotation_group.specs.Group.{is_group}
 use Rattle.rotation_group.specs.ReciprocalGroup.{given_tests, reciprocal_tests}
 use Rattle.rotation_group.proofs.IsGroup.{group_of, of-group}
@@ -53,7 +53,7 @@ module _ (l : List ℤ) (time : Bool) (n : ℕ) where
   room-never : room_tests (matrices l) time true ≡ Err NotGroup → ⊥
   unfolding room_tests
   room-never =
-      let u = turned true (unique (matrices l)) in
+      let u = transposed_if true (unique (matrices l)) in
       never-by (leb (length (unique (matrices l))) 48) TooManyRotations (join_tests time u) (λ z. omega arith)
       (never-by (not (joins time u) || leb (length u) 24) TooManyForInversion Accepted (λ z. omega arith) accepts)
 

@@ -9,7 +9,7 @@ use lib.ListN.{length, take, replicate}
 use Rattle.std.specs.List.{All}
 use Rattle.std.proofs.lemmas.List.Elements.{All-nil, All-cons, All-replicate, All-append, All-same}
 use Rattle.common.specs.Array.{sides_of}
-use Rattle.decimal.specs.Decimal.{decimal, number}
+use Rattle.decimal.specs.Decimal.{decimal, signed_decimal}
 use Rattle.decimal.proofs.Decimal.{one-digit, last-digit, by_tens}
 use Rattle.grgrid.specs.Grid.{size}
 use Rattle.class_sheet.specs.Sheet.{right, line, row_widths, page_widths, page_number, page_line, lined, text}
@@ -31,7 +31,7 @@ decimal-bytes =
     by_tens (λ n. Bytes (decimal n)) (λ n h. All-same Byte (decimal n) ((48 + n) ∷ []) (one-digit n h) (single (48 + n) (omega arith)))
     (λ n h b. All-same Byte (decimal n) (decimal (n / 10) ++ ((48 + n % 10) ∷ [])) (last-digit n h) (All-append Byte (decimal (n / 10)) ((48 + n % 10) ∷ []) b (single (48 + n % 10) (omega arith))))
 
-number-bytes : (z : ℤ) → Bytes (number z)
+number-bytes : (z : ℤ) → Bytes (signed_decimal z)
 number-bytes (pos n) = decimal-bytes n
 number-bytes (negsuc n) = All-cons Byte 45 (decimal (suc n)) (omega arith) (decimal-bytes (suc n))
 
@@ -39,7 +39,7 @@ line-bytes : (ws : List ℕ) (l : List ℤ) → Bytes (line ws l)
 line-bytes [] l = single 10 (omega arith)
 line-bytes (w ∷ ws) [] = single 10 (omega arith)
 line-bytes (w ∷ ws) (z ∷ l) =
-    let n = number z in
+    let n = signed_decimal z in
     All-append Byte (right w n) (line ws l) (All-append Byte (replicate (w - length n) 32) n (All-replicate Byte (w - length n) 32 (omega arith)) (number-bytes z)) (line-bytes ws l)
 
 module _ (row : ℕ → List ℤ) where

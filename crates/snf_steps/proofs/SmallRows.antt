@@ -10,7 +10,7 @@ use Rattle.std.specs.Prelude.{Some}
 use Rattle.integer.proofs.Test.{and_l, and_r, and_in, is_true}
 use Rattle.integer.proofs.Fits.{held}
 use Rattle.common.specs.Matrix.{Axis, X, Y, Z, Mat, entry, vector, ◌·◌}
-use Rattle.common.specs.Array.{number, along, items, matrix_of, Sized, SizedRows}
+use Rattle.common.specs.Array.{axis_index, along, items, matrix_of, Sized, SizedRows}
 use Rattle.common.specs.IntegerMatrix.{product_fits}
 use Rattle.common.proofs.Bounds.{entry-within, matrix-sizes}
 use Rattle.common.proofs.Matrix.{axes-of, entry-matrix}
@@ -27,7 +27,7 @@ held_small e f t = rw (e, f) t
 size : {v z : ℤ} → v ≡ z → T (small z) → nat_abs v ≤ 0x3fffffff
 size {v} {z} e t = rw e (leb→le (nat_abs z) 0x3fffffff t)
 
-pub rows-small : (m : List (List ℤ)) → T (small_matrix (matrix_of m)) → (j : Axis) → T (small_row (along (get_or m (number j) [])))
+pub rows-small : (m : List (List ℤ)) → T (small_matrix (matrix_of m)) → (j : Axis) → T (small_row (along (get_or m (axis_index j) [])))
 rows-small m t X = axes-of (λ j. small_row (entry (matrix_of m) j)) t X
 rows-small m t Y = axes-of (λ j. small_row (entry (matrix_of m) j)) t Y
 rows-small m t Z = axes-of (λ j. small_row (entry (matrix_of m) j)) t Z
@@ -79,7 +79,7 @@ module _ (i j : ℕ) (c : Combination) (t : T (small_combination c)) where
 
   combining-sizes : (a b : Axis) → nat_abs (entry (combination_matrix i j c) a b) ≤ 0x3fffffff
   combining-sizes a b =
-      rw (entry-matrix (λ a b. get_or (get_or (combining i j c.s c.t c.v c.u) (number a) []) (number b) (pos 0)) a b) ((combining-sized.each (number a)).each (number b))
+      rw (entry-matrix (λ a b. get_or (get_or (combining i j c.s c.t c.v c.u) (axis_index a) []) (axis_index b) (pos 0)) a b) ((combining-sized.each (axis_index a)).each (axis_index b))
 
   small-fits : (m : Mat ℤ) → T (small_matrix m) → T (product_fits (combination_matrix i j c) m)
   small-fits m u = sized-product (combination_matrix i j c) m 0x3fffffff 0x3fffffff combining-sizes (matrix-sizes 0x3fffffff m u) (lit≤ tt)

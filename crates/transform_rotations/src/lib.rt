@@ -9,7 +9,7 @@ ghost use Rattle.common.specs.Tested.{require, Accepted};
 ghost use Rattle.common.specs.declared.Refusal.TheVariants.{SymmetryBroken};
 ghost use Rattle.float.specs.Rounding.{nint_of};
 ghost use Rattle.common.specs.Matrix.{all_axes, cross, entries, map_vec};
-ghost use Rattle.common.specs.Array.{number, along, vector_of, items, matrix_of, rows, matrices, flat, Sized};
+ghost use Rattle.common.specs.Array.{axis_index, along, vector_of, items, matrix_of, rows, matrices, flat, Sized};
 ghost use Rattle.common.specs.Every.{every};
 ghost use Rattle.common.specs.FloatMatrix.{floats, row_d, float_vector, float_matrix};
 ghost use Rattle.common.specs.Limits.{all_within, matrix_within, whole_matrices, diagonal_fits};
@@ -142,7 +142,7 @@ fn near(n: i64, x: f64) -> bool
 }
 
 fn row_near(n: [i64; 3], a: [f64; 3]) -> bool
-    ensures { result ≡ all_axes (λ k. near (along n k) (get_or a (number k) nan)) }
+    ensures { result ≡ all_axes (λ k. near (along n k) (get_or a (axis_index k) nan)) }
 {
     near(n[0], a[0]) && near(n[1], a[1]) && near(n[2], a[2])
 }

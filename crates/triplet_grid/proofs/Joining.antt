@@ -2,7 +2,8 @@
 use mathlib.Core.Path.{◌≡◌, sym, subst}
 use mathlib.Core.Logic.{inl, inr, ⊎_elim, ◌↔◌}
 use mathlib.Core.Bool.{Bool, true, false}
-use mathlib.Core.List.{List}
+use mathlib.Core.List.{List, map}
+use lib.IntN.{pos}
 use Prim.Native.Nat.{ℕ, ◌≤◌, ◌<◌}
 use native.Mathlib.Nat.{le_trans, le_of_lt}
 use lib.Dec.{ltb, ltb→lt, nltb→le}
@@ -10,7 +11,7 @@ use lib.ListN.{get_or}
 use Rattle.integer.proofs.Test.{pick-cases}
 use Rattle.common.specs.Matrix.{Vec}
 use Rattle.grgrid.specs.Grid.{size}
-use Rattle.grgrid.specs.ClassMap.{kept}
+use Rattle.grgrid.specs.Own.{own_places}
 use Rattle.grgrid.proofs.Built.{length-build, build-at}
 use Rattle.grgrid.specs.Orbits.{Least}
 use Rattle.grgrid.proofs.Pass.{Equiv}
@@ -95,7 +96,7 @@ module _ {N : ℕ} {E : ℕ → ℕ → Type 0} {π : ℕ → ℕ} (e : Equiv N 
 -- ---- the classes of the triplets, from those of the points
 pub triplet-classes : (swappable : Bool) (d : Vec ℕ) (q0 : ℕ) {E : ℕ → ℕ → Type 0} → Equiv (size d) E → Partner (size d) E (partner d q0) → {classes : List ℕ} {count : ℕ}
     → Classified (size d) E classes count
-    → Classified (size d) (Joined swappable E (partner d q0)) (map_triplets_of swappable d q0 classes) (kept (map_triplets_of swappable d q0 classes) (size d))
+    → Classified (size d) (Joined swappable E (partner d q0)) (map_triplets_of swappable d q0 classes) (own_places (map pos (map_triplets_of swappable d q0 classes)) (size d))
 unfolding map_triplets_of
 triplet-classes swappable d q0 {E} e k {classes} c =
     classified (joined-equiv e k swappable) (map_triplets_of swappable d q0 classes) (length-build number (size d))

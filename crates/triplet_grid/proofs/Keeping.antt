@@ -10,7 +10,7 @@ use lib.ListN.{length, get_or, take, drop, length-append}
 use lib.Seq.{paste, take_at, get_or-append-add, get_or-drop}
 use borrow.Author.Tests.{eq-eqb, ne_eqb}
 use Rattle.common.specs.Matrix.{Vec, Mat, entries, ◌▹◌}
-use Rattle.common.specs.Array.{number, vector_of, items, rows, matrix_of, matrix_at, matrices_from, matrices, flat}
+use Rattle.common.specs.Array.{axis_index, vector_of, items, rows, matrix_of, matrix_at, matrices_from, matrices, flat}
 use Rattle.common.specs.Limits.{all_within}
 use Rattle.common.proofs.Matrix.{same-matrix}
 use Rattle.common.proofs.Reading.{length-flat, read-flat, matrices-flat, length_from, read_small}
@@ -25,7 +25,7 @@ use Rattle.triplet_grid.specs.Partner.{keeping, stabilizer}
 module _ (before : List ℤ) (l : List (Mat ℤ)) where
   -- what comes after is as it was
   laid-after : (n : ℕ) → length l ≤ n → matrix_at (laid l before) n ≡ matrix_at before n
-  laid-after n h = same-matrix (λ j k. at (length l * 9) (n * 9 + number j * 3 + number k) (omega arith) (length-flat l))
+  laid-after n h = same-matrix (λ j k. at (length l * 9) (n * 9 + axis_index j * 3 + axis_index k) (omega arith) (length-flat l))
     where
       at : (i j : ℕ) → i ≤ j → length (flat l) ≡ i → get_or (flat l ++ drop i before) j (pos 0) ≡ get_or before j (pos 0)
       at i j h e =

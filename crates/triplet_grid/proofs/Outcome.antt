@@ -18,7 +18,7 @@ use Rattle.common.specs.declared.Refusal.{Refusal}
 use Rattle.common.specs.declared.Refusal.TheVariants.{OutsideLimits, WrongLength}
 use Rattle.common.proofs.Tests.{passed}
 use Rattle.grgrid.specs.Grid.{size}
-use Rattle.grgrid.specs.ClassMap.{kept}
+use Rattle.grgrid.specs.Own.{own_places}
 use Rattle.grgrid.proofs.Accepted.{point-inside}
 pub use Rattle.grgrid.proofs.Refusing.{refused, onward}
 use Rattle.recip_rotations.specs.PointGroup.{room_tests}
@@ -79,7 +79,7 @@ module _ (q0 : ℤ) (d rotations : List ℤ) (time : Bool) (n m : ℕ) where
     all = map_triplets_of swappable (sides_of d) (nat_abs q0) here
 
     abbrev count : ℤ
-    count = pos (kept all (size (sides_of d)))
+    count = pos (own_places (map pos all) (size (sides_of d)))
 
     abbrev outcome : Tested → IrTriplets
     outcome t = record { answer = giving t count; map_triplets = output_of t n (map pos all); map_q = output_of t m (map pos here) }

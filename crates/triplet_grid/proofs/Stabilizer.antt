@@ -8,14 +8,15 @@ use mathlib.Core.List.Memᴰ.{append_right}
 use mathlib.Core.List.{List, [], ◌++◌, map}
 use Prim.Native.Nat.{ℕ, ◌<◌}
 use lib.Dec.{T, eqb, eqb→eq, eqb_refl}
-use lib.IntN.{ℤ, neg_ℤ, ◌-ℤ◌}
+use lib.IntN.{ℤ, pos, neg_ℤ, ◌-ℤ◌}
 use lib.ListN.{get_or}
 use Rattle.integer.proofs.Polynomial.{Expr, sub, neg}
 use Rattle.integer.proofs.Congruence.{congruent-add, congruent-neg}
 use Rattle.common.specs.Matrix.{Vec, Mat, side, vector, ◌·◌, identity, negate, ◌▹◌, entries}
 use Rattle.common.proofs.Matrix.{sides, column, solve_vec, 𝔸, apply_e}
 use Rattle.grgrid.specs.Grid.{size, index, address, carry}
-use Rattle.grgrid.specs.ClassMap.{classes, kept}
+use Rattle.grgrid.specs.ClassMap.{classes}
+use Rattle.grgrid.specs.Own.{own_places}
 use Rattle.grgrid.proofs.Lists.{◌∈◌}
 use Rattle.grgrid.proofs.Picked.{in-passing, of-passing}
 use Rattle.grgrid.proofs.Pass.{Equiv}
@@ -26,7 +27,7 @@ use Rattle.grgrid.proofs.Acting.{Acts, acts-agree, carry-action}
 use Rattle.grgrid.proofs.MatrixGroup.{MatrixGroup, grouped, joined-acts}
 use Rattle.grgrid.proofs.Classes.{plain-classes}
 use Rattle.grgrid.proofs.Count.{Classified}
-use Rattle.recip_rotations.specs.PointGroup.{joins, point_group, joined}
+use Rattle.recip_rotations.specs.PointGroup.{joins, point_group, with_negatives}
 use Rattle.recip_rotations.proofs.Told.{unique-distinct, told-group}
 use Rattle.triplet_grid.specs.Partner.{stabilizer, third, partner}
 use Rattle.triplet_grid.specs.Classes.{Operation, Carries, Joined, Meets}
@@ -112,7 +113,7 @@ module _ (d : Vec ℕ) (s : Sides d) {L : List (Mat ℤ)} (m : MatrixGroup L) {P
     moves = λ p q k o. record { by = o.by; is-in = o.is-in; lands = partner-carry d s q0 h o.by (w o.by o.is-in.0) o.is-in.1 p ∙ ap (partner d q0) o.lands };
   }
 
-  pub point-classes : Classified (size d) (Carries d P q0) (map_q_of d q0 L) (kept (map_q_of d q0 L) (size d))
+  pub point-classes : Classified (size d) (Carries d P q0) (map_q_of d q0 L) (own_places (map pos (map_q_of d q0 L)) (size d))
   unfolding map_q_of carry classes
   point-classes = plain-classes d s keepers (λ M k. w M k.0) (stabilizer d q0 L) members
     where
@@ -120,11 +121,11 @@ module _ (d : Vec ℕ) (s : Sides d) {L : List (Mat ℤ)} (m : MatrixGroup L) {P
       members M = let r = in-stabilizer d q0 L in (λ k. ((i M).0 (r.0 k).0, (r.0 k).1), λ k. r.1 ((i M).1 k.0, k.1))
 
   pub swapped-classes : (swappable : Bool) → let numbers = map_triplets_of swappable d q0 (map_q_of d q0 L) in
-      Classified (size d) (Joined swappable (Carries d P q0) (partner d q0)) numbers (kept numbers (size d))
+      Classified (size d) (Joined swappable (Carries d P q0) (partner d q0)) numbers (own_places (map pos numbers) (size d))
   swapped-classes swappable = triplet-classes swappable d q0 carries-equiv carries-partner point-classes
 
 -- ---- the class call
-pub joined-operations : (time_reversal : Bool) (l : List (Mat ℤ)) (M : Mat ℤ) → (M ∈ joined time_reversal l) ↔ Operation time_reversal l M
+pub joined-operations : (time_reversal : Bool) (l : List (Mat ℤ)) (M : Mat ℤ) → (M ∈ with_negatives time_reversal l) ↔ Operation time_reversal l M
 joined-operations time_reversal l M = step (joins time_reversal l)
   where
     step : (b : Bool) → (M ∈ elim b [ true ↦ l ++ map negate l | false ↦ l ]) ↔ ((M ∈ l) ⊎ (T b × (M ∈ map negate l)))
@@ -147,7 +148,7 @@ module _ (time_reversal : Bool) {l : List (Mat ℤ)} (m : MatrixGroup l) where
     abbrev carried : ℕ → ℕ → Type 0
     carried = Carries d (Operation time_reversal l) q0
 
-    pub call-classes : Classified (size d) (Joined swappable carried (partner d q0)) numbers (kept numbers (size d))
+    pub call-classes : Classified (size d) (Joined swappable carried (partner d q0)) numbers (own_places (map pos numbers) (size d))
     unfolding classes_at
     call-classes = swapped-classes d s (told-group l m time_reversal false) operations acts q0 h swappable
 

@@ -14,10 +14,10 @@ use Rattle.std.specs.Int.{int_min}
 use Rattle.common.specs.Matrix.{Vec, Mat, origin}
 use Rattle.common.specs.Array.{vector_of, items}
 use Rattle.grgrid.specs.Grid.{size, index, address}
-use Rattle.grgrid.specs.ClassMap.{Numbered, kept}
+use Rattle.grgrid.specs.ClassMap.{Numbered}
 use Rattle.grgrid.specs.Own.{own_places}
 use Rattle.grgrid.proofs.Built.{length-build, build-at, build-list, written, written-more, written_read}
-use Rattle.grgrid.proofs.Numbers.{own-kept, numbers_of as numbers_of_lem, numbered}
+use Rattle.grgrid.proofs.Numbers.{numbers_of as numbers_of_lem, numbered}
 use Rattle.recip_rotations.specs.PointGroup.{point_group}
 use Rattle.triplet_grid.specs.Partner.{stabilizer, third, partner}
 use Rattle.triplet_grid.specs.IrTriplets.{lower_of, swapped_number, numbers_of, map_triplets_of, classes_at}
@@ -89,5 +89,5 @@ module _ (swappable : Bool) (d : Vec ℕ) (q0 : ℕ) (classes : List ℕ) {out :
   unfolding map_triplets_of
   length-triplets = ap length e ∙ length-map (map_triplets_of swappable d q0 classes) pos ∙ length-build (λ q1 done. numbers_of swappable d q0 classes q1) (size d)
 
-  pub kept-triplets : own_places out (length out) ≡ kept (map_triplets_of swappable d q0 classes) (size d)
-  kept-triplets = ap₂ own_places e length-triplets ∙ own-kept (map_triplets_of swappable d q0 classes) (size d)
+  pub kept-triplets : own_places out (length out) ≡ own_places (map pos (map_triplets_of swappable d q0 classes)) (size d)
+  kept-triplets = ap₂ own_places e length-triplets

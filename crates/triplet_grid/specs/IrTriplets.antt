@@ -8,7 +8,8 @@ use Rattle.common.specs.Tested.{require, giving, output_of, after, Tested, Accep
 use Rattle.common.specs.declared.Refusal.TheVariants.{OutsideLimits, WrongLength}
 use Rattle.grgrid.specs.Grid.{size}
 use Rattle.grgrid.specs.Build.{build}
-use Rattle.grgrid.specs.ClassMap.{class_map_of, kept}
+use Rattle.grgrid.specs.ClassMap.{class_map_of}
+use Rattle.grgrid.specs.Own.{own_places}
 use Rattle.recip_rotations.specs.PointGroup.{point_group, room_tests}
 use Rattle.triplet_grid.specs.Partner.{stabilizer, partner}
 
@@ -68,7 +69,7 @@ module _ (q0 : ℤ) (d rotations : List ℤ) (time_reversal swappable : Bool) (n
   unfoldable pub ir_triplets_at_q : IrTriplets
   unfolding triplet_tests classes_at map_triplets_of
   ir_triplets_at_q = record {
-    answer = giving tests (pos (kept triplets (size (sides_of d))));
+    answer = giving tests (pos (own_places (map pos triplets) (size (sides_of d))));
     map_triplets = output_of tests n (map pos triplets);
     map_q = output_of tests m (map pos here);
   }

@@ -8,7 +8,8 @@ ghost use Rattle.common.specs.Array.{vector_of, matrix_of, items, matrices};
 ghost use Rattle.common.specs.Limits.{all_within, whole_matrices, rotations_fit};
 ghost use Rattle.grgrid.specs.Grid.{size, index, address};
 ghost use Rattle.grgrid.specs.Sides.{sides};
-ghost use Rattle.grgrid.specs.ClassMap.{kept, Numbered};
+ghost use Rattle.grgrid.specs.ClassMap.{Numbered};
+ghost use Rattle.grgrid.specs.Own.{own_places};
 ghost use Rattle.recip_rotations.specs.Flat.{laid};
 ghost use Rattle.recip_rotations.specs.PointGroup.{room_tests};
 ghost use Rattle.triplet_grid.specs.Partner.{stabilizer, third};
@@ -165,7 +166,7 @@ fn number_triplets(swappable: bool, classes: &Classes<'_>, map_triplets: &mut [i
     ensures map_triplets_after { let triplets = map_triplets_of swappable (sides classes.now.q0.g) classes.now.q0.p (map nat_abs classes.now.map_q.now) in
         map_triplets.new ≡ map pos triplets }
     ensures value { let d = sides classes.now.q0.g in
-        result ≡ pos (kept (map_triplets_of swappable d classes.now.q0.p (map nat_abs classes.now.map_q.now)) (size d)) }
+        result ≡ pos (own_places (map pos (map_triplets_of swappable d classes.now.q0.p (map nat_abs classes.now.map_q.now))) (size d)) }
 {
     if swappable {
         ir_triplets_at_q_perm_q1q2(classes, &mut *map_triplets);

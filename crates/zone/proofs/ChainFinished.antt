@@ -2,10 +2,10 @@
 use mathlib.Core.Path.{◌≡◌, refl, sym, ◌∙◌, ap, subst}
 use mathlib.Core.Bool.{true}
 use mathlib.Core.List.{List}
-use Prim.Native.Nat.{ℕ, ◌+◌, ◌*◌, ◌-◌, ◌<◌}
+use Prim.Native.Nat.{ℕ, ◌*◌, ◌<◌}
 use lib.Dec.{T, leb}
 use lib.IntN.{ℤ, pos, negsuc, nat_abs}
-use lib.ListN.{length, take, length-map}
+use lib.ListN.{length, take}
 use lib.Signed.{non_neg}
 use Rattle.std.specs.Prelude.{Result, Ok, Err, IfOk}
 use Rattle.common.specs.declared.Refusal.{Refusal}
@@ -24,22 +24,25 @@ use Rattle.bzgrid.specs.declared.GridType.{GridType}
 use Rattle.bzgrid.specs.declared.GridType.TheVariants.{Sparse, Dense}
 use Rattle.bzgrid.specs.declared.Lengths.{Lengths}
 use Rattle.bzgrid.specs.BzGridAddresses.{grid_type_of, bz_grid_addresses}
-use Rattle.bztable.specs.Reading.{triple_at, address_of}
-use Rattle.bztable.specs.Access.{number_in, image_places}
+use Rattle.bztable.specs.Reading.{got, address_of}
+use Rattle.bztable.specs.Access.{image_places}
+use Rattle.bztable.proofs.TableRead.{place-got, dense-first}
+use Rattle.bztable.proofs.ImageTable.{some-place}
 use Rattle.bztable.proofs.AcceptedCall.{CallAccepted, call-accepted, call-stands, call-found}
 use Rattle.triplet_grid.specs.IrTriplets.{ir_triplets_at_q}
 use Rattle.bz_triplets.specs.BzTriplets.{bz_triplets_at_q, triplets_read}
 use Rattle.bz_triplets.proofs.CallOutcome.{asked-for}
 use Rattle.demand3.specs.FinishedList.{Given, as-returned, Starts, Calls}
-use Rattle.zone_steps.specs.Steps.{Rooms, Grid, Lists, group, transformed, rotation_tests, start_of, points_of, classified, class_map_of, count, start, chosen, list_tests, lists_of, images, listed}
+use Rattle.zone_steps.specs.Steps.{Rooms, Setting, Lists, group, transformed, rotation_tests, start_of, points_of, classified, class_map_of, count, start, chosen, list_tests, lists_of, images, listed}
 use Rattle.zone.specs.Chain.{Job, rooms_agree, sides_in, change_in, diagonal, outcome_of, grid_of, chain_finished, chain_tests, finished_list}
 use Rattle.zone.specs.declared.Finished.{Finished}
 use Rattle.zone_steps.specs.StepsView.{grid}
 use Rattle.zone.specs.ChainFinished.{FinishedChain}
 use Rattle.zone.proofs.Outcomes.{leaving}
+use Rattle.grgrid.specs.Lists.{◌∈◌}
 use Rattle.grgrid.proofs.Own.{length-own}
 use Rattle.bzgrid.proofs.Accepted.{passes-first}
-use Rattle.demand3.proofs.AcceptedTriplets.{triplets-accepted, first-in}
+use Rattle.demand3.proofs.AcceptedTriplets.{triplets-accepted}
 use Rattle.recip_rotations.proofs.ToldPart.{told_part}
 use Rattle.demand3.proofs.FinishedList.{finished-list}
 use Rattle.zone_steps.proofs.ListedClasses.{class-input}
@@ -55,9 +58,11 @@ given-by (Ok v) e = (v, refl)
 given-by (Err r) e = absurd (not-accepted e)
 
 -- ---- where the triplet call starts
-starts-at : (t : GridType) (map : List ℤ) (n q0 : ℕ) → 0 < length (image_places t map n q0) → Starts t map n q0 (nat_abs (start_of (Ok t) map (pos q0)))
-starts-at Sparse map n q0 h = refl
-starts-at Dense map n q0 h = first-in (number_in map q0) (number_in map (q0 + 1) - number_in map q0) h
+starts-at : (t : GridType) (map : List ℤ) (n q0 : ℕ) {l : List ℕ} → image_places t map n q0 ≡ got l → 0 < length l → Starts t map n q0 (nat_abs (start_of (Ok t) map (pos q0)))
+starts-at Sparse map n q0 e h = refl
+starts-at Dense map n q0 {l} e h =
+    let r = dense-first map n q0 e in
+    record { places = l; read = e; stands = subst (λ i. i ∈ l) (ap nat_abs (sym (place-got map q0 r.1))) (r.2 h) }
 
 -- ---- a grid by its diagonal d and its change of basis q, with shift and rooms
 module _ (j : Job) (r : Rooms) (d : Vec ℤ) (p q : Mat ℤ) (rounds : ℕ) (diagonalises : snf3x3 (matrix_of j.matrix) ≡ diagonalised d p q rounds) where
@@ -67,7 +72,7 @@ module _ (j : Job) (r : Rooms) (d : Vec ℤ) (p q : Mat ℤ) (rounds : ℕ) (dia
   abbrev turned : List ℤ
   turned = transformed j.rotations j.time_reversal (items d) (rows q)
 
-  abbrev g : Grid
+  abbrev g : Setting
   g = grid (items d) (rows q) turned j.lattice j.time_reversal j.swappable j.type j.q0
 
   abbrev a : List ℤ
@@ -157,16 +162,13 @@ module _ (j : Job) (r : Rooms) (d : Vec ℤ) (p q : Mat ℤ) (rounds : ℕ) (dia
     abbrev kind : GridType
     kind = call.kind
 
-    some-place : 0 < length (image_places kind map-written (points_of g) (nat_abs j.q0))
-    some-place =
-        rw (← length-map (image_places kind map-written (points_of g) (nat_abs j.q0)) (triple_at addresses-written), (call-stands call).reads (nat_abs j.q0) inside)
-        (call-found call (nat_abs j.q0) inside)
-
     starts : Starts kind m (points_of g) (nat_abs j.q0) (nat_abs (start g a m))
     starts =
         subst (λ z. Starts kind m (points_of g) (nat_abs j.q0) (nat_abs (start_of (grid_type_of j.type) m z))) (sym q0-is)
         (subst (λ t. Starts kind m (points_of g) (nat_abs j.q0) (nat_abs (start_of t m (pos (nat_abs j.q0))))) (sym call.input.known)
-        (starts-at kind m (points_of g) (nat_abs j.q0) (subst (λ l. 0 < length (image_places kind l (points_of g) (nat_abs j.q0))) (sym (ap (λ o. o.map) images-are)) some-place)))
+        (starts-at kind m (points_of g) (nat_abs j.q0)
+        (subst (λ l. image_places kind l (points_of g) (nat_abs j.q0) ≡ got ((call-stands call).places (nat_abs j.q0))) (sym (ap (λ o. o.map) images-are)) ((call-stands call).counted (nat_abs j.q0) inside))
+        (some-place (call-stands call) (nat_abs j.q0) inside (call-found call (nat_abs j.q0) inside))))
 
     pub calls : Calls
     calls = record {
@@ -255,7 +257,7 @@ unfolding finished_list diagonal chain_finished grid_of
 chain-finished-list j r e {f} {x} {y} {z} {l} k =
     go (snf3x3 (matrix_of j.matrix)) refl (passed (rooms_agree r) WrongLength _ e).1 (k ∙ ap (λ t. outcome_of t (chain_finished j) r (listed (grid_of j) j.shift r)) e)
   where
-    grid_by : Answer → Grid
+    grid_by : Answer → Setting
     grid_by w = grid (sides_in (written w)) (change_in (written w)) (transformed j.rotations j.time_reversal (sides_in (written w)) (change_in (written w))) j.lattice j.time_reversal j.swappable j.type j.q0
 
     finished_by : Answer → Finished

@@ -18,7 +18,7 @@ use Rattle.bztable.specs.Reading.{triple_at}
 use Rattle.grgrid.proofs.Own.{length-own, own-points}
 use Rattle.snf3x3.specs.Snf3x3.{Answer, refused, diagonalised, snf3x3}
 use Rattle.snf3x3.specs.Written.{written}
-use Rattle.zone_steps.specs.Steps.{Rooms, Grid, Lists, transformed, rotation_tests, count, listed, lists_of}
+use Rattle.zone_steps.specs.Steps.{Rooms, Setting, Lists, transformed, rotation_tests, count, listed, lists_of}
 use Rattle.zone_steps.specs.StepsView.{grid}
 use Rattle.demand3.specs.FinishedList.{Calls, points, lowest_points}
 use Rattle.zone.specs.Chain.{Job, rooms_agree, sides_in, change_in, diagonal, outcome_of, grid_of, chain_finished, chain_tests, finished_list}
@@ -92,7 +92,7 @@ front : {n : ℕ} {l x : List ℤ} (y : List ℤ) → l ≡ x → length l ≡ n
 front {n} {l} {x} y e f = take_at x y n (ap length (sym e) ∙ f) ∙ sym e
 
 module _ (j : Job) (r : Rooms) where
-  abbrev grid_by : Answer → Grid
+  abbrev grid_by : Answer → Setting
   grid_by w =
       let d = (sides_in (written w)) in
       let q = change_in (written w) in

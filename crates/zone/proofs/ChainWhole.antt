@@ -21,7 +21,7 @@ use Rattle.snf3x3.specs.declared.Snf.{Snf}
 use Rattle.snf3x3.specs.Snf3x3.{snf3x3}
 use Rattle.snf3x3.specs.Written.{written}
 use Rattle.zone.specs.declared.Finished.{Finished}
-use Rattle.zone_steps.specs.Steps.{Rooms, Grid, Lists, Outcome, transformed, rotation_tests, class_map_of, count, lists_of, listed}
+use Rattle.zone_steps.specs.Steps.{Rooms, Setting, Lists, Outcome, transformed, rotation_tests, class_map_of, count, lists_of, listed}
 use Rattle.zone.specs.Chain.{Job, rooms_agree, sides_in, change_in, diagonal, diagonal_tests, sides, change, wiped, outcome_of, grid_of, chain_finished, chain_tests, finished_list}
 use Rattle.zone_steps.specs.StepsView.{grid, Agreed}
 use Rattle.zone.proofs.Outcomes.{no-refusal, leaving, answer-by, tests-told, left-wiped}
@@ -98,7 +98,7 @@ module _ (j : Job) (r : Rooms) where
 
     -- ---- the grid, by what stands for its change of basis, type and q0
     module _ {w : Snf} (f : s ≡ Ok w) {q : List (List ℤ)} (eq : q ≡ rows (matrix_at w.q 0)) {u p : ℤ} (eu : u ≡ j.type) (ep : p ≡ j.q0) where
-      abbrev given : (d : List ℤ) → List (List ℤ) → ℤ → ℤ → Grid
+      abbrev given : (d : List ℤ) → List (List ℤ) → ℤ → ℤ → Setting
       given d q u p = grid d q (transformed j.rotations j.time_reversal d q) j.lattice j.time_reversal j.swappable u p
 
       side-path : w.d_diag ≡ sides j.matrix

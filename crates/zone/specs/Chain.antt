@@ -10,7 +10,7 @@ use Rattle.common.specs.declared.Refusal.TheVariants.{WrongLength}
 use Rattle.snf3x3.specs.declared.Snf.{Snf}
 use Rattle.snf3x3.specs.Snf3x3.{snf3x3}
 use Rattle.snf3x3.specs.Written.{written}
-use Rattle.zone_steps.specs.Steps.{Rooms, transformed, rotation_tests, Grid, Lists, Outcome, classified, count, listed}
+use Rattle.zone_steps.specs.Steps.{Rooms, transformed, rotation_tests, Setting, Lists, Outcome, classified, count, listed}
 use Rattle.zone.specs.declared.Finished.{Finished}
 
 -- what a job asks for: the matrix A, the rotations, nine numbers each, and the rest
@@ -74,7 +74,7 @@ abbrev pub outcome_of : {A B : Type 0} → Tested → A → Rooms → Outcome B 
 outcome_of (Ok _) v r o = record { answer = Ok v; addresses = o.addresses; map = o.map; grg = o.grg; lists = o.lists }
 outcome_of (Err x) v r o = refused r x
 
-unfoldable pub grid_of : Job → Grid
+unfoldable pub grid_of : Job → Setting
 unfolding diagonal transformed
 grid_of j = record {
   d = sides j.matrix;

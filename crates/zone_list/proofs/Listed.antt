@@ -32,7 +32,7 @@ use Rattle.job.specs.Writing.{page, printed}
 use Rattle.job.proofs.Sections.{sections}
 use Rattle.job.proofs.Outcome.{read-job, told-rotations}
 use Rattle.zone.specs.declared.Finished.{Finished}
-use Rattle.zone_steps.specs.Steps.{Rooms, Grid, Lists, Outcome, rotation_tests, points_of, classified, class_map_of, count, listed}
+use Rattle.zone_steps.specs.Steps.{Rooms, Setting, Lists, Outcome, rotation_tests, points_of, classified, class_map_of, count, listed}
 use Rattle.zone.specs.Chain.{Job, rooms_agree, diagonal_tests, sides, change, grid_of, wiped, outcome_of, chain_finished, chain_tests, finished_list}
 use Rattle.zone.specs.ChainView.{job}
 use Rattle.zone_steps.proofs.ListedGrid.{rotations-fit}
@@ -106,7 +106,7 @@ unfolding text_of
 same_text f classes triplets {u} eu ec = λ i. listing f.d (ec i) (eu i) (take ((whole (nat_abs u * 3) ∙ ap (λ u. nat_abs u * 3) eu) i) triplets)
 
 -- ---- an accepted chain: the grid is within the limits, and its points and triplets are in the outputs
-length-classes : (g : Grid) → length (class_map_of g) ≡ points_of g
+length-classes : (g : Setting) → length (class_map_of g) ≡ points_of g
 unfolding classified
 length-classes g = go (triplet_tests g.q0 g.d g.rotations g.time_reversal (points_of g) (points_of g))
   where
@@ -117,7 +117,7 @@ length-classes g = go (triplet_tests g.q0 g.d g.rotations g.time_reversal (point
     go (Ok _) = length-triplets g.swappable (sides_of g.d) (nat_abs g.q0) here refl
     go (Err r) = length-replicate (points_of g) (negsuc 0)
 
-few-classes : (g : Grid) → count g ≤ points_of g
+few-classes : (g : Setting) → count g ≤ points_of g
 few-classes g = subst (λ k. own_places (class_map_of g) (length (class_map_of g)) ≤ k) (length-classes g) (own-few (class_map_of g) (length (class_map_of g)))
 
 module _ (j : Job) (r : Rooms) where

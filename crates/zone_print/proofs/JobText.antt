@@ -21,7 +21,7 @@ use Rattle.common.proofs.Bounds.{side-size}
 use Rattle.common.proofs.Tests.{same-ok, same-refusal, refused-not-ok}
 use Rattle.grgrid.specs.Grid.{size}
 use Rattle.grgrid.proofs.Accepted.{side-0, side-1, side-2}
-use Rattle.decimal.specs.Decimal.{decimal, number}
+use Rattle.decimal.specs.Decimal.{decimal, signed_decimal}
 use Rattle.job.specs.Listing.{refusal}
 use Rattle.job.specs.Writing.{page, printed}
 use Rattle.decimal.proofs.Decimal.{digits-few}
@@ -36,16 +36,16 @@ use Rattle.zone_list.proofs.Listed.{accepted-tests, whole-chain}
 
 -- ---- short numbers
 -- numbers below 10, 100, 1000, .. have at most 1, 2, 3, .. digits
-below-short : (k m : ℕ) → m ≤ 10 ^ suc k → (l : List ℤ) → Below m l → (i : ℕ) → i < length l → length (number (get_or l i (pos 0))) ≤ suc k
+below-short : (k m : ℕ) → m ≤ 10 ^ suc k → (l : List ℤ) → Below m l → (i : ℕ) → i < length l → length (signed_decimal (get_or l i (pos 0))) ≤ suc k
 below-short k m h l b i j =
     let r = b i j in
-    subst (λ z. length (number z) ≤ suc k) (sym r.1) ((digits-few k r.0).1 (le_trans r.2 h))
+    subst (λ z. length (signed_decimal z) ≤ suc k) (sym r.1) ((digits-few k r.0).1 (le_trans r.2 h))
 
-side-short : (z : ℤ) → T (side_fits z) → length (number z) ≤ 3
+side-short : (z : ℤ) → T (side_fits z) → length (signed_decimal z) ≤ 3
 side-short (pos n) t = let h = side-size (pos n) t in let b : n < 1000 = omega arith in (digits-few 2 n).1 b
 side-short (negsuc n) t = absurd t
 
-sides-short : (d : List ℤ) → T (diagonal_fits d) → length d ≡ 3 → (i : ℕ) → i < length d → length (number (get_or d i (pos 0))) ≤ 3
+sides-short : (d : List ℤ) → T (diagonal_fits d) → length d ≡ 3 → (i : ℕ) → i < length d → length (signed_decimal (get_or d i (pos 0))) ≤ 3
 sides-short d t e zero h = side-short (get_or d 0 (pos 0)) (side-0 d t)
 sides-short d t e (suc zero) h = side-short (get_or d 1 (pos 0)) (side-1 d t)
 sides-short d t e (suc (suc zero)) h = side-short (get_or d 2 (pos 0)) (side-2 d t)
@@ -65,8 +65,8 @@ module _ (f : Finished) (l : Lists) (w : Whole f 256 768) (n : Numbers f.d (nat_
   count-is : nat_abs f.num_ir ≡ w.k
   count-is = ap nat_abs w.counted
 
-  count-short : length (number f.num_ir) ≤ 3
-  count-short = subst (λ z. length (number z) ≤ 3) (sym w.counted) ((digits-few 2 w.k).1 few)
+  count-short : length (signed_decimal f.num_ir) ≤ 3
+  count-short = subst (λ z. length (signed_decimal z) ≤ 3) (sym w.counted) ((digits-few 2 w.k).1 few)
     where
       few : w.k < 1000
       few = let a = w.few in let b = w.classes-in in omega arith

@@ -22,7 +22,7 @@ use Rattle.transform_rotations.specs.TransformRotations.{transform_tests, transf
 use Rattle.bzgrid.specs.BzGridAddresses.{grid_type_of}
 use Rattle.triplet_grid.specs.IrTriplets.{ir_triplets_at_q}
 use Rattle.bz_triplets.specs.BzTriplets.{bz_triplets_at_q}
-use Rattle.zone_steps.specs.Steps.{Grid, group, transformed, rotation_tests, start_of, points_of, classified, class_map_of, count, chosen}
+use Rattle.zone_steps.specs.Steps.{Setting, group, transformed, rotation_tests, start_of, points_of, classified, class_map_of, count, chosen}
 use Rattle.zone_steps.specs.StepsView.{numbered, in_front}
 use Rattle.recip_rotations.proofs.ToldPart.{told-count, told_part}
 
@@ -91,7 +91,7 @@ module _ (list : List ℤ) (time : Bool) {a : Result ℕ Refusal} {g : List ℤ}
   unfolding rotation_tests
   turned-refused f d q = sym (ap (λ t. after t (transform_tests (group list time) d q (length (group list time)))) (tests-refused list time 432 (sym f ∙ ap (λ o. o.answer) e)))
 
-module _ (g : Grid) where
+module _ (g : Setting) where
   -- ---- classes, in the front of two outputs
   module _ {n : ℕ} (en : n ≡ points_of g) (classes points : List ℤ) (room : (n ≤ length classes) × (n ≤ length points)) where
     pub classes-numbered : {i : ℤ} {r : Result ℤ Refusal} {x y : List ℤ} {v : Tested} → i ≡ g.q0

@@ -16,7 +16,7 @@ use Rattle.grgrid.proofs.Numbers.{own-few}
 use Rattle.bzgrid.proofs.Runs.{drop-same}
 use Rattle.triplet_grid.specs.IrTriplets.{triplet_tests}
 use Rattle.triplet_grid.proofs.Outcome.{InputAccepted, input-accepted}
-use Rattle.zone_steps.specs.Steps.{Grid, points_of, classified, class_map_of, count, chosen, list_tests, lists_of}
+use Rattle.zone_steps.specs.Steps.{Setting, points_of, classified, class_map_of, count, chosen, list_tests, lists_of}
 use Rattle.zone_steps.specs.StepsView.{lists, in_front}
 
 -- a list in the front of an output of m places that held v
@@ -33,7 +33,7 @@ module _ {A : Type 0} (v : A) (list : List A) (n m : ℕ) {before now : List A} 
   pub front-padded : now ≡ list ++ replicate (m - length list) v
   front-padded = written ∙ ap (λ r. list ++ r) (rest ∙ ap (λ k. replicate (m - k) v) (sym front-full))
 
-module _ (g : Grid) where
+module _ (g : Setting) where
   -- what accepted classes say of the grid
   pub class-input : without_value (classified g).answer ≡ Accepted → InputAccepted g.q0 g.d g.rotations (points_of g) (points_of g)
   unfolding classified triplet_tests

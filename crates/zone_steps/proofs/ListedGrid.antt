@@ -20,9 +20,9 @@ use Rattle.transform_rotations.proofs.Accepted.{input-accepted}
 use Rattle.transform_rotations.proofs.ExactCall.{tests-input}
 use Rattle.bzgrid.specs.declared.Lengths.{Lengths}
 use Rattle.bzgrid.specs.BzGridAddresses.{bz_grid_addresses}
-use Rattle.zone_steps.specs.Steps.{Rooms, Grid, Lists, group, rotation_tests, points_of, list_tests, lists_of, images, listed}
+use Rattle.zone_steps.specs.Steps.{Rooms, Setting, Lists, group, rotation_tests, points_of, list_tests, lists_of, images, listed}
 
-module _ (g : Grid) (shift : List ℤ) (r : Rooms) where
+module _ (g : Setting) (shift : List ℤ) (r : Rooms) where
   abbrev rest : Tested
   rest = let i = images g shift r in after (without_value i.answer) (list_tests g i.addresses i.map)
 

@@ -47,7 +47,7 @@ module _ (rotations : List ℤ) (time_reversal : Bool) (d : List ℤ) (q : List 
       (transform_tests (group rotations time_reversal) d q (length (group rotations time_reversal)))
 
 -- ---- images, classes and triplets of a grid, whose rotations are in its basis
-pub record Grid : Type 0 where
+pub record Setting : Type 0 where
   pub d : List ℤ
   pub q : List (List ℤ)
   pub rotations : List ℤ
@@ -83,7 +83,7 @@ start_of (Err r) map q0 = q0
 abbrev pub padded_lengths : List Float → ℕ → List Float
 padded_lengths l n = l ++ replicate (n - length l) (of_int binary64 (negsuc 0))
 
-module _ (g : Grid) where
+module _ (g : Setting) where
   -- N
   abbrev pub points_of : ℕ
   points_of = size (sides_of g.d)

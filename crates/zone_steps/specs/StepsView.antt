@@ -5,10 +5,10 @@ use Rattle.common.specs.Tested.{Tested, without_value}
 use Rattle.triplet_grid.specs.IrTriplets.{IrTriplets}
 use Rattle.bz_triplets.specs.BzTriplets.{BzTriplets}
 use Rattle.zone_steps.specs.declared.grid.Input.{Input}
-use Rattle.zone_steps.specs.Steps.{Rooms, Grid, Lists, transformed}
+use Rattle.zone_steps.specs.Steps.{Rooms, Setting, Lists, transformed}
 
 -- ---- records from the parts that the code holds
-abbrev pub grid : (d : List ℤ) (q : List (List ℤ)) (rotations : List ℤ) (lattice : List (List Float)) (time_reversal swappable : Bool) (type q0 : ℤ) → Grid
+abbrev pub grid : (d : List ℤ) (q : List (List ℤ)) (rotations : List ℤ) (lattice : List (List Float)) (time_reversal swappable : Bool) (type q0 : ℤ) → Setting
 grid d q rotations lattice time_reversal swappable type q0 = record {
   d = d;
   q = q;
@@ -20,11 +20,11 @@ grid d q rotations lattice time_reversal swappable type q0 = record {
   q0 = q0;
 }
 
-abbrev pub input_grid : Input → Grid
+abbrev pub input_grid : Input → Setting
 input_grid g = grid g.d g.q g.rotations.now g.lattice g.is_time_reversal g.swappable g.bz_grid_type g.q0
 
 -- with its rotations in its basis
-abbrev pub turned_grid : Input → Grid
+abbrev pub turned_grid : Input → Setting
 turned_grid g =
     grid g.d g.q (transformed g.rotations.now g.is_time_reversal g.d g.q) g.lattice g.is_time_reversal g.swappable g.bz_grid_type g.q0
 

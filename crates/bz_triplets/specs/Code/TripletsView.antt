@@ -9,6 +9,7 @@ use Rattle.grgrid.specs.Own.{own_places}
 use Rattle.bzsearch.specs.SearchView.{float_nine}
 use Rattle.bzgrid.specs.Table.{listed}
 use Rattle.common.specs.Tested.{◌then◌}
+use Rattle.bztable.specs.Access.{place_in}
 use Rattle.bztable.specs.Reading.{Read, got}
 use Rattle.bz_triplets.specs.declared.choices.Step.{Step}
 use Rattle.bz_triplets.specs.declared.choices.Step.TheVariants as step
@@ -17,7 +18,7 @@ use Rattle.bz_triplets.specs.declared.choices.Triplet.{Triplet}
 use Rattle.bz_triplets.specs.declared.places.Places.{Places}
 use Rattle.bz_triplets.specs.declared.choices.Measure.{Measure}
 use Rattle.bz_triplets.specs.Choosing.{start, left, closed}
-use Rattle.bz_triplets.specs.BzTriplets.{State, Walk, place_in}
+use Rattle.bz_triplets.specs.BzTriplets.{State, Walk}
 
 -- a row of lattice · Q over the diagonal numbers
 abbrev pub row_over : List Float → List Float → List Float
@@ -64,7 +65,7 @@ step_place (step.Left x) p = pos p
 step_place step.Closed p = pos p
 
 -- the outputs have room for the triplets of a class map
-pub record Room (classes : List ℤ) (n m l : ℕ) : Type 0 where
+pub record RoomFor (classes : List ℤ) (n m l : ℕ) : Type 0 where
   pub triplets : n ≡ own_places classes (length classes) * 3
   pub left : m ≡ own_places classes (length classes)
   pub lengths : l ≡ own_places classes (length classes)

@@ -4,7 +4,7 @@ use Rattle.std.specs.Option.{ok_or}
 use Rattle.common.specs.declared.Refusal.{Refusal}
 use Rattle.common.specs.declared.Refusal.TheVariants.{SearchFailed}
 use Rattle.grgrid.specs.Grid.{size}
-use Rattle.bzsearch.specs.SearchView.{search_of}
+use Rattle.bzsearch.specs.SearchView.{search_view}
 use Rattle.bzgrid.specs.Table.{doubled}
 use Rattle.bzgrid.specs.Code.Walked.{lengths_for, judged}
 use Rattle.bzgrid.proofs.Outcome.{mesh-fits, failed, answered, filled}
@@ -23,7 +23,7 @@ returns-in_err-m-clause-value c =
     let e : c.from_residual.result ≡ Err c.in_err-m.field-0.0 = search rules in
     let n : c.walk_points.result ≡ None = c.in_err-m.ensures.ok_part in
     e ∙ ap Err (same-refusal (c.in_err-m.ensures.value ∙ ap (λ o. ok_or o SearchFailed) n))
-    ∙ failed a.t (search_of a.s) (length a.addresses.now) (length a.map.now) (length a.grg.now) c.is_sparse-sparse.ensures (c.points.ensures ∙ ap size c.grid_of-g.ensures) (sym n ∙ c.walk_points.ensures.value)
+    ∙ failed a.t (search_view a.s) (length a.addresses.now) (length a.map.now) (length a.grg.now) c.is_sparse-sparse.ensures (c.points.ensures ∙ ap size c.grid_of-g.ensures) (sym n ∙ c.walk_points.ensures.value)
 
 -- the lengths of the outputs are as they were
 told : (c : After-finish) → let a = c.args in c.finish.result ≡ judged (lengths_for c.is_sparse-sparse.result c.points.result c.in_ok-m.m) (length a.addresses.now) (length a.map.now) (length a.grg.now)
@@ -38,10 +38,10 @@ pub returns-clause-value : goal.returns-clause-value
 returns-clause-value c =
     let a = c.args in
     told (goal.at.returns-clause-value c).After-finish
-    ∙ answered a.t (search_of a.s) (length a.addresses.now) (length a.map.now) (length a.grg.now) c.is_sparse-sparse.ensures (c.points.ensures ∙ ap size c.grid_of-g.ensures) (sym c.in_ok-m.ensures.ok_part ∙ c.walk_points.ensures.value)
+    ∙ answered a.t (search_view a.s) (length a.addresses.now) (length a.map.now) (length a.grg.now) c.is_sparse-sparse.ensures (c.points.ensures ∙ ap size c.grid_of-g.ensures) (sym c.in_ok-m.ensures.ok_part ∙ c.walk_points.ensures.value)
 
 pub returns-clause-filled : goal.returns-clause-filled
 returns-clause-filled c =
     let a = c.args in
-    filled a.t (search_of a.s) (length a.addresses.now) (length a.map.now) (length a.grg.now) c.is_sparse-sparse.ensures (c.points.ensures ∙ ap size c.grid_of-g.ensures) (sym c.in_ok-m.ensures.ok_part ∙ c.walk_points.ensures.value)
+    filled a.t (search_view a.s) (length a.addresses.now) (length a.map.now) (length a.grg.now) c.is_sparse-sparse.ensures (c.points.ensures ∙ ap size c.grid_of-g.ensures) (sym c.in_ok-m.ensures.ok_part ∙ c.walk_points.ensures.value)
     c.finish.new.map c.walk_points.ensures.written_to (ap doubled c.grid_of-g.ensures) c.finish.result (told (goal.at.returns-clause-filled c).After-finish) c.finish.ensures.map_after

@@ -6,7 +6,7 @@ use Rattle.common.specs.Matrix.{Vec}
 use Rattle.grgrid.specs.Grid.{size}
 use Rattle.grgrid.specs.Sides.{GridFits}
 use Rattle.bzgrid.specs.declared.Lengths.{Lengths}
-use Rattle.grgrid.specs.Build.{rows}
+use Rattle.grgrid.specs.Build.{concat}
 use Rattle.bzgrid.specs.Table.{Image, others, doubled}
 use Rattle.bzgrid.specs.BzGridAddresses.{all_found, has_room}
 use Rattle.bzgrid.specs.Code.Writing.{Tables, tables, if_sparse, written, counted}
@@ -17,7 +17,7 @@ later sparse g i = cond sparse (others g i) (g i)
 
 -- how many there are of the points below i
 abbrev pub before : Bool → (ℕ → List Image) → ℕ → ℕ
-before sparse g i = length (rows (later sparse g) i)
+before sparse g i = length (concat (later sparse g) i)
 
 -- how many images there are, or that a point has none
 abbrev pub walk_of : Bool → (ℕ → List Image) → ℕ → Option ℕ

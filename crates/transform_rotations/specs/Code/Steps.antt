@@ -4,7 +4,7 @@ use Rattle.std.specs.Float.{nan, binary64}
 use Rattle.std.specs.Float.Ieee.{sub, mul, div, of_int, lt}
 use Rattle.float.specs.Rounding.{abs_of, tolerance}
 use Rattle.common.specs.Matrix.{next, Vec, Mat, side, vector, entry, matrix, map_mat, all_axes, cross, product_over, adjugate_over}
-use Rattle.common.specs.Array.{number, items}
+use Rattle.common.specs.Array.{axis_index, items}
 use Rattle.common.specs.FloatMatrix.{floats}
 use Rattle.transform_rotations.specs.Transform.{to_d}
 
@@ -12,15 +12,15 @@ use Rattle.transform_rotations.specs.Transform.{to_d}
 abbrev pub inverse_row : List Float → List Float → Float → List Float
 inverse_row p q det =
     items (vector (λ k. div binary64
-    (cross floats (get_or p (number (next k)) nan) (get_or q (number (next k)) nan)
-    (get_or p (number (next (next k))) nan) (get_or q (number (next (next k))) nan)) det))
+    (cross floats (get_or p (axis_index (next k)) nan) (get_or q (axis_index (next k)) nan)
+    (get_or p (axis_index (next (next k))) nan) (get_or q (axis_index (next (next k))) nan)) det))
 
 abbrev pub inverse_over : Mat Float → Float → Mat Float
 inverse_over m det = map_mat (λ x. div binary64 x det) (adjugate_over floats m)
 
 -- a row times its own number of D, then divided by each
 abbrev pub scaled_row : List Float → Float → List Float → List Float
-scaled_row p dj d = items (vector (λ k. div binary64 (mul binary64 (get_or p (number k) nan) dj) (get_or d (number k) nan)))
+scaled_row p dj d = items (vector (λ k. div binary64 (mul binary64 (get_or p (axis_index k) nan) dj) (get_or d (axis_index k) nan)))
 
 unfoldable pub transform_over : Mat Float → Mat Float → Vec Float → Mat Float → Mat Float
 transform_over inverse q d r =

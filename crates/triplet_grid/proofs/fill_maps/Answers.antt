@@ -11,7 +11,7 @@ use Rattle.integer.proofs.Fits.{held-is}
 use Rattle.common.specs.Array.{sides_of, matrices}
 use Rattle.grgrid.specs.Grid.{size}
 use Rattle.grgrid.specs.Sides.{sides}
-use Rattle.grgrid.specs.ClassMap.{kept}
+use Rattle.grgrid.specs.Own.{own_places}
 use Rattle.grgrid.proofs.Numbers.{numbers_of}
 use Rattle.grgrid.proofs.Sizes.{grid-few}
 use Rattle.triplet_grid.specs.IrTriplets.{input_tests, classes_at, map_triplets_of}
@@ -85,6 +85,6 @@ returns c =
     let l = numbers_of (classes_at (nat_abs s.q0) (sides_of s.d) ms s.is_time_reversal) k in
     let t = c.number_triplets in
     let o = told s.q0 s.d s.rotations.now s.is_time_reversal n m s.swappable e
-    (held-is _ t.type_inv ∙ t.ensures.value ∙ (λ i. pos (kept (map_triplets_of s.swappable (d i) (q i) (l i)) (size (d i)))))
+    (held-is _ t.type_inv ∙ t.ensures.value ∙ (λ i. pos (own_places (map pos (map_triplets_of s.swappable (d i) (q i) (l i))) (size (d i)))))
     (t.ensures.map_triplets_after ∙ (λ i. map pos (map_triplets_of s.swappable (d i) (q i) (l i)))) k in
     record { value = ap (λ o. o.answer) o; maps = o }

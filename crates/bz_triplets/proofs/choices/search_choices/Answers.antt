@@ -6,7 +6,8 @@ use Rattle.bztable.specs.Reading.{Read, got}
 use Rattle.bz_triplets.specs.declared.choices.Measure.{Measure}
 use Rattle.bz_triplets.specs.declared.places.Places.{Places}
 use Rattle.bz_triplets.specs.Choosing.{start}
-use Rattle.bz_triplets.specs.BzTriplets.{State, try_at, place_in}
+use Rattle.bz_triplets.specs.BzTriplets.{State, try_at}
+use Rattle.bztable.specs.Access.{place_in}
 use Rattle.bz_triplets.specs.Code.TripletsView.{state_of, places_in, walk_by}
 use Rattle.bz_triplets.proofs.Walking.{ended, inner, middle, outer, inner-stays, middle-stays, outer-stays, none-first, none-second, none-third, closed-stays, refusal-stays, reached-end, reached-next}
 use Rattle.bz_triplets.proofs.choices.search_choices.Goals as goal

@@ -2,7 +2,8 @@ use mathlib.Core.List.{foldl}
 use Rattle.bztable.specs.Reading.{got}
 use Rattle.bzgrid.specs.Table.{listed}
 use Rattle.bz_triplets.specs.Choosing.{start}
-use Rattle.bz_triplets.specs.BzTriplets.{try_at, place_in}
+use Rattle.bz_triplets.specs.BzTriplets.{try_at}
+use Rattle.bztable.specs.Access.{place_in}
 use Rattle.bz_triplets.specs.Code.TripletsView.{state_of, places_in, walk_by}
 use Rattle.bz_triplets.proofs.Walking.{inner, middle, outer, Reached}
 use Rattle.bz_triplets.proofs.choices.search_choices.Given as goal

@@ -3,7 +3,7 @@ use mathlib.Core.List.{foldl, append-nil}
 use Rattle.std.specs.Prelude.{true, false}
 use Rattle.common.specs.Array.{vector_of}
 use Rattle.bzsearch.specs.Search.{box, range_fits}
-use Rattle.bzsearch.specs.SearchView.{search_of, range_view, axes_view, rest_of}
+use Rattle.bzsearch.specs.SearchView.{search_view, range_view, axes_view, rest_of}
 use Rattle.bzsearch.proofs.Rows.{joined}
 use Rattle.bzgrid.specs.Code.Writing.{Tables, tables, stored}
 use Rattle.bzgrid.specs.Table.{images_at}
@@ -15,7 +15,7 @@ pub returns-then-not-range_fits-clause-next_after : goal.returns-then-not-range_
 returns-then-not-range_fits-clause-next_after c =
     let a = c.args in
     let p = c.point-p.ensures in
-    none_kept (search_of a.bz) a.i (ap vector_of p.address_value) p.result_value c.search_range-r.ensures (sym c.range_fits.ensures ∙ c.if-not-range_fits.true)
+    none_kept (search_view a.bz) a.i (ap vector_of p.address_value) p.result_value c.search_range-r.ensures (sym c.range_fits.ensures ∙ c.if-not-range_fits.true)
     (tables a.addresses.now a.grg.now a.c.at a.c.next)
 
 -- what the walk over all candidates leaves
@@ -23,13 +23,13 @@ all : (c : After-bound) {u : Tables}
     → let a = c.args in
     let b = c.boxes_of-b.result in
     let t = tables a.addresses.now a.grg.now a.c.at a.c.next in
-    u ≡ foldl (keeping a.bz c.point-p.result c.bound.result) t (box false (axes_view b.first) ++ rest_of b.rest) → u ≡ stored t (images_at (search_of a.bz) a.i)
+    u ≡ foldl (keeping a.bz c.point-p.result c.bound.result) t (box false (axes_view b.first) ++ rest_of b.rest) → u ≡ stored t (images_at (search_view a.bz) a.i)
 all c e =
     let a = c.args in
     let p = c.point-p.ensures in
     let t = tables a.addresses.now a.grg.now a.c.at a.c.next in
     let fits : range_fits (range_view c.search_range-r.result) ≡ true = sym c.range_fits.ensures ∙ c.if-not-range_fits.false in
-    e ∙ all-kept (search_of a.bz) a.i (ap vector_of p.address_value) p.result_value c.search_range-r.ensures fits c.boxes_of-b.ensures.value c.bound.ensures p.index_value t
+    e ∙ all-kept (search_view a.bz) a.i (ap vector_of p.address_value) p.result_value c.search_range-r.ensures fits c.boxes_of-b.ensures.value c.bound.ensures p.index_value t
 
 pub returns-in-None-clause-next_after : goal.returns-in-None-clause-next_after
 returns-in-None-clause-next_after c =

@@ -4,7 +4,7 @@ use Rattle.std.specs.Prelude.{Float}
 use Rattle.std.specs.Float.{binary64}
 use Rattle.std.specs.Float.Ieee.{mul, div, of_int}
 use Rattle.common.specs.Matrix.{Axis, X, Y, Z}
-use Rattle.common.specs.Array.{number}
+use Rattle.common.specs.Array.{axis_index}
 use Rattle.common.specs.FloatMatrix.{float_vector}
 use Rattle.bzsearch.specs.Lattice.{squares_from0, larger, tolerance_factor, bz_tolerance}
 use Rattle.bzsearch.proofs.Sizes.{side-held, held-sized}
@@ -13,7 +13,7 @@ use Rattle.bzsearch.proofs.lattice.bz_tolerance.Goals as goal
 
 -- a column, which is a row of the transpose, over a diagonal number
 abbrev over : List (List Float) → Axis → ℤ → Float
-over t k z = let v = float_vector (get_or t (number k) []) in div binary64 (squares_from0 v.x v.y v.z) (of_int binary64 (pos (nat_abs z * nat_abs z)))
+over t k z = let v = float_vector (get_or t (axis_index k) []) in div binary64 (squares_from0 v.x v.y v.z) (of_int binary64 (pos (nat_abs z * nat_abs z)))
 
 pub returns : goal.returns
 unfolding bz_tolerance

@@ -1,6 +1,6 @@
 use Rattle.std.proofs.Common.{ℤ, ◌≡◌, List, [], ◌∷◌, get_or, sym, subst, ap, ◌∙◌}
 use Rattle.integer.proofs.Fits.{held-is}
-use Rattle.common.specs.Array.{number, matrix_of, rows, Sized}
+use Rattle.common.specs.Array.{axis_index, matrix_of, rows, Sized}
 use Rattle.common.specs.Limits.{matrix_within}
 use Rattle.common.specs.Matrix.{Axis, X, Y, Z, Mat, transpose, inverse}
 use Rattle.std.specs.Prelude.{T}
@@ -10,10 +10,10 @@ use Rattle.bzsearch.proofs.search.inverse_unimodular.Goals as goal
 use Rattle.bzsearch.proofs.search.inverse_unimodular.Goals.{After-inverse_row-3}
 
 -- a column of the matrix
-column : {t : List (List ℤ)} (m : Mat ℤ) → t ≡ rows (transpose m) → T (matrix_within 1000 m) → (k : Axis) → Sized 1000 (get_or t (number k) [])
+column : {t : List (List ℤ)} (m : Mat ℤ) → t ≡ rows (transpose m) → T (matrix_within 1000 m) → (k : Axis) → Sized 1000 (get_or t (axis_index k) [])
 column m e s k = rw e (at k)
   where
-    at : (k : Axis) → Sized 1000 (get_or (rows (transpose m)) (number k) [])
+    at : (k : Axis) → Sized 1000 (get_or (rows (transpose m)) (axis_index k) [])
     at X = column-sized m s X
     at Y = column-sized m s Y
     at Z = column-sized m s Z

@@ -5,7 +5,7 @@ use lib.ListN.{length}
 use mir.Facts.{to_z-of_z}
 use borrow.Author.Rules.{rules}
 use Rattle.std.specs.Prelude.{Some, None}
-use Rattle.grgrid.specs.Build.{rows}
+use Rattle.grgrid.specs.Build.{concat}
 use Rattle.job.specs.Listing.{line, grid, map, ir, triplet_line, listing}
 use Rattle.job.specs.Writing.{page}
 use Rattle.job.proofs.Put.{puts_then, stopped}
@@ -15,7 +15,7 @@ pub returns-in_err-n : goal.returns-in_err-n
 unfolding listing
 returns-in_err-n c =
     let a = c.args in
-    let triplets = rows (triplet_line a.triplets.now) (length a.triplets.now / 3) in
+    let triplets = concat (triplet_line a.triplets.now) (length a.triplets.now / 3) in
     let e : c.put_line.result ≡ None = search rules in
     let f : c.from_residual.result ≡ None = search rules in
     stopped (page a.out.now (Some a.n)) e f (line grid a.d) (line map a.map.now ++ (line ir (a.classes ∷ []) ++ triplets)) c.put_line.ensures
@@ -24,7 +24,7 @@ pub returns-in_err-n-2 : goal.returns-in_err-n-2
 unfolding listing
 returns-in_err-n-2 c =
     let a = c.args in
-    let triplets = rows (triplet_line a.triplets.now) (length a.triplets.now / 3) in
+    let triplets = concat (triplet_line a.triplets.now) (length a.triplets.now / 3) in
     let classes = line ir (a.classes ∷ []) in
     let e : c.put_line-2.result ≡ None = search rules in
     let f : c.from_residual-in_err-n-2.result ≡ None = search rules in
@@ -35,7 +35,7 @@ pub returns-in_err-n-3 : goal.returns-in_err-n-3
 unfolding listing
 returns-in_err-n-3 c =
     let a = c.args in
-    let triplets = rows (triplet_line a.triplets.now) (length a.triplets.now / 3) in
+    let triplets = concat (triplet_line a.triplets.now) (length a.triplets.now / 3) in
     let classes = line ir (a.classes ∷ []) in
     let e : c.put_line-3.result ≡ None = search rules in
     let f : c.from_residual-in_err-n-3.result ≡ None = search rules in
@@ -47,7 +47,7 @@ pub returns : goal.returns
 unfolding listing
 returns c =
     let a = c.args in
-    let triplets = rows (triplet_line a.triplets.now) (length a.triplets.now / 3) in
+    let triplets = concat (triplet_line a.triplets.now) (length a.triplets.now / 3) in
     let classes = line ir (a.classes ∷ []) in
     puts_then (page a.out.now (Some a.n)) (line grid a.d) (line map a.map.now ++ (classes ++ triplets)) (ap (page c.put_line.new.out) (sym c.in_ok-n.was) ∙ c.put_line.ensures)
     (puts_then (page c.put_line.new.out (Some c.in_ok-n.n)) (line map a.map.now) (classes ++ triplets) (ap (page c.put_line-2.new.out) (sym c.in_ok-n-2.was) ∙ c.put_line-2.ensures)

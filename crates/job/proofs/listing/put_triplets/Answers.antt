@@ -7,7 +7,7 @@ use borrow.Author.Rules.{rules}
 use Rattle.std.specs.Prelude.{Some, None}
 use Rattle.job.specs.Listing.{line, triplet, triplet_line}
 use Rattle.job.specs.Writing.{page, puts}
-use Rattle.grgrid.specs.Build.{rows}
+use Rattle.grgrid.specs.Build.{concat}
 use Rattle.job.proofs.Lists.{three-is, more-is, three-in}
 use Rattle.job.proofs.Put.{row_more, rows-stopped}
 use Rattle.job.proofs.listing.put_triplets.Goals as goal
@@ -43,5 +43,5 @@ loop-three-preserved c =
       (let h = three-in a.list.now c.in-Some.three.now _ k rest s.1.0 size l.invariant.4 in omega (arith, long)),
       row_more (page a.out.now (Some a.n)) (triplet_line a.list.now) k l.invariant.5
           (ap (page c.put_line.new.out) (sym c.in_ok-m.was) ∙ c.put_line.ensures ∙ ap (λ t. puts (page l.out (Some l.m)) (line triplet t)) (three-is a.list.now c.in-Some.three.now _ k rest s.1.0 size))
-          ∙ ap (λ k. puts (page a.out.now (Some a.n)) (rows (triplet_line a.list.now) k)) long,
+          ∙ ap (λ k. puts (page a.out.now (Some a.n)) (concat (triplet_line a.list.now) k)) long,
     )

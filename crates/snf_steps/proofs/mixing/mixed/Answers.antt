@@ -2,7 +2,7 @@ use Rattle.std.proofs.Common.{◌≡◌, ◌&&◌, List, [], ◌∷◌, ℕ, ℤ
 use Rattle.integer.proofs.Test.{and_l, and_r}
 use Rattle.integer.proofs.Fits.{held}
 use Rattle.common.specs.Matrix.{Axis, X, Y, Z, ◌·◌}
-use Rattle.common.specs.Array.{number, along, matrix_of}
+use Rattle.common.specs.Array.{axis_index, along, matrix_of}
 use Rattle.snf_steps.specs.declared.columns.Combination.{Combination}
 use Rattle.snf_steps.specs.Columns.{small, small_row, small_matrix, small_combination, combination_matrix}
 use Rattle.snf_steps.proofs.RowOperations.{combine-01, combine-02, combine-12}
@@ -12,10 +12,10 @@ use Rattle.snf_steps.proofs.mixing.mixed.Goals as goal
 -- of rows p and q
 module _ (k : Combination) (m : List (List ℤ)) (p q : Axis) (t : T (small_combination k)) (u : T (small_matrix (matrix_of m))) where
   abbrev x : List ℤ
-  x = get_or m (number p) []
+  x = get_or m (axis_index p) []
 
   abbrev y : List ℤ
-  y = get_or m (number q) []
+  y = get_or m (axis_index q) []
 
   first_small : held k.s ≡ k.s → held k.t ≡ k.t → T (small (held k.s) && small (held k.t)) × T (small_row (along x)) × T (small_row (along y))
   first_small es et = (held_small es et (and_l (small k.s && small k.t) (small k.v && small k.u) t), rows-small m u p, rows-small m u q)

@@ -1,6 +1,6 @@
 use Rattle.std.proofs.Common.{ℤ, ap, ◌∙◌, arith}
 use Rattle.integer.proofs.Fits.{held, held-is}
-use Rattle.grgrid.specs.Build.{rows}
+use Rattle.grgrid.specs.Build.{concat}
 use Rattle.bzsearch.specs.Search.{chosen, box_at, plane_at, line_at}
 use Rattle.bzsearch.specs.SearchView.{numbers_view, axes_view}
 use Rattle.common.proofs.Sized.{sized-items}
@@ -36,7 +36,7 @@ loop-j-preserved c =
       high = omega (arith, a.b.z.room.few);
       kept = turn f (plane_at a.rest (numbers_view a.b.y) z (held c.at-x.result)) m.j (tables l.addresses l.grg l.t.at l.t.next) m.invariant.kept
           (finished f (line_at a.rest z (held c.at-x.result) (held c.at-y.result)) c.loop-k.k (tables m.addresses m.grg m.t.at m.t.next) c.loop-k.invariant.kept c.loop-k.auto.k-end c.loop-k-test.false)
-          (ap (λ (y : ℤ). rows (line_at a.rest z (held c.at-x.result) y) z.n) (held-is c.at-y.result c.at-y.type_inv ∙ c.at-y.ensures.value));
+          (ap (λ (y : ℤ). concat (line_at a.rest z (held c.at-x.result) y) z.n) (held-is c.at-y.result c.at-y.type_inv ∙ c.at-y.ensures.value));
     }
 
 pub loop-i-preserved : goal.loop-i-preserved
@@ -51,5 +51,5 @@ loop-i-preserved c =
       high = omega (arith, a.b.y.room.few);
       kept = turn f (box_at a.rest (axes_view a.b)) l.i (tables a.addresses.now a.grg.now a.c.at a.c.next) l.invariant.kept
           (finished f (plane_at a.rest y z (held c.at-x.result)) c.loop-j.j (tables l.addresses l.grg l.t.at l.t.next) c.loop-j.invariant.kept c.loop-j.auto.j-end c.loop-j-test.false)
-          (ap (λ (x : ℤ). rows (plane_at a.rest y z x) y.n) (held-is c.at-x.result c.at-x.type_inv ∙ c.at-x.ensures.value));
+          (ap (λ (x : ℤ). concat (plane_at a.rest y z x) y.n) (held-is c.at-x.result c.at-x.type_inv ∙ c.at-x.ensures.value));
     }

@@ -2,16 +2,16 @@ use Rattle.std.proofs.Common.{◌≡◌, length, ap, ◌∙◌, rules}
 use Rattle.common.specs.Array.{vector_of, items}
 use Rattle.grgrid.specs.Grid.{address}
 use Rattle.bzsearch.specs.Search.{Split, split_reduced}
-use Rattle.bzsearch.specs.SearchView.{search_of, split_view}
+use Rattle.bzsearch.specs.SearchView.{search_view, split_view}
 use Rattle.bzsearch.proofs.Coordinates.{point-address, point-nint-sized, point-index}
 use Rattle.bzsearch.proofs.types.BzSearch.point.Goals as goal
 use Rattle.bzsearch.proofs.types.BzSearch.point.Goals.{After-split_reduced_coordinates-s}
 
-is : (c : After-split_reduced_coordinates-s) → c.grid_address_from_index-address.result.v ≡ items (address (search_of c.args.self).d c.args.i)
+is : (c : After-split_reduced_coordinates-s) → c.grid_address_from_index-address.result.v ≡ items (address (search_view c.args.self).d c.args.i)
 is c = c.grid_address_from_index-address.ensures ∙ ap (λ d. items (address d c.args.i)) c.grid_of-g.ensures
 
-split : (c : After-split_reduced_coordinates-s) → split_view c.split_reduced_coordinates-s.result ≡ split_reduced (search_of c.args.self) (address (search_of c.args.self).d c.args.i)
-split c = c.split_reduced_coordinates-s.ensures ∙ ap (λ l. split_reduced (search_of c.args.self) (vector_of l)) (is c)
+split : (c : After-split_reduced_coordinates-s) → split_view c.split_reduced_coordinates-s.result ≡ split_reduced (search_view c.args.self) (address (search_view c.args.self).d c.args.i)
+split c = c.split_reduced_coordinates-s.ensures ∙ ap (λ l. split_reduced (search_view c.args.self) (vector_of l)) (is c)
 
 pub invariant_of-result : goal.invariant_of-result
 invariant_of-result c =

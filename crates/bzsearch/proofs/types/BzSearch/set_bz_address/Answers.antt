@@ -4,7 +4,7 @@ use lib.Signed.{mag}
 use Rattle.integer.proofs.Fits.{held, held-is}
 use Rattle.common.proofs.Bounds.{entry-held, held-size}
 use Rattle.common.proofs.Sized.{apply-fits, apply-sized}
-use Rattle.common.specs.Array.{number, along, vector_of, items, matrix_of, Sized}
+use Rattle.common.specs.Array.{axis_index, along, vector_of, items, matrix_of, Sized}
 use Rattle.common.specs.Matrix.{Axis, X, Y, Z, vector, ◌▹◌}
 use Rattle.bzsearch.specs.declared.types.BzSearch.{BzSearch}
 use Rattle.bzsearch.proofs.Sizes.{held-sized, side-held, side-whole}
@@ -29,14 +29,14 @@ module _ (c : After-matvec_ii-delta) where
   sized = rw c.matvec_ii-delta.ensures (apply-sized 2000000 4112 (matrix_of s.q_inv.m) s.q_inv.within c.difference.result.sized (lit≤ tt))
 
   asks : (k : Axis) → (nat_abs (held (along c.args.address.v k)) ≤ 256) × (nat_abs (held (along c.matvec_ii-delta.result k)) ≤ 30000000000) × (nat_abs (held (along s.d_diag k)) ≤ 256)
-  asks k = (held-size c.args.address.sized (number k) tt, held-size sized (number k) tt, held-sized s.d_diag s.diagonal k)
+  asks k = (held-size c.args.address.sized (axis_index k) tt, held-size sized (axis_index k) tt, held-sized s.d_diag s.diagonal k)
 
   moved : (k : Axis) (r : ℤ) → mag r < 0x8000000000000000 → r ≡ held (along c.args.address.v k) +ℤ held (along c.matvec_ii-delta.result k) *ℤ held (along s.d_diag k)
       → held r ≡ along c.args.address.v k +ℤ along (items (vector delta)) k *ℤ pos (nat_abs (along s.d_diag k))
   moved k r ok e =
       let at = side-held s.d_diag s.diagonal k ∙ side-whole s.d_diag s.diagonal k in
-      let by = entry-held sized (number k) tt ∙ (λ i. along (is i) k) in
-      held-is r ok ∙ e ∙ (λ i. entry-held c.args.address.sized (number k) tt i +ℤ by i *ℤ at i)
+      let by = entry-held sized (axis_index k) tt ∙ (λ i. along (is i) k) in
+      held-is r ok ∙ e ∙ (λ i. entry-held c.args.address.sized (axis_index k) tt i +ℤ by i *ℤ at i)
 
 pub matvec_ii-delta-requires : goal.matvec_ii-delta-requires
 matvec_ii-delta-requires c = apply-fits 2000000 4112 (matrix_of c.args.self.q_inv.m) c.args.self.q_inv.within c.difference.result.sized (lit≤ tt)

@@ -7,7 +7,8 @@ ghost use Rattle.common.specs.Array.{matrix_at, matrices_from, matrices, Sized};
 ghost use Rattle.common.specs.Limits.{all_within};
 ghost use Rattle.recip_rotations.specs.Unique.{same_matrix, among, with_new, unique};
 ghost use Rattle.recip_rotations.specs.Flat.{laid};
-ghost use Rattle.recip_rotations.specs.PointGroup.{transposed_if, with_negatives, join_tests, room_tests, input_tests, group_tests, point_group, get_reciprocal_point_group};
+ghost use Rattle.recip_rotations.specs.PointGroup.{transposed_if, with_negatives, join_tests, room_tests};
+ghost use Rattle.recip_rotations.specs.PointGroup.{input_tests, group_tests, point_group, get_reciprocal_point_group};
 ghost use Rattle.recip_rotations.specs.Code.Steps.{same_row, transposed_at, few, Grouped};
 
 use common::Refusal;

@@ -116,10 +116,11 @@ int main(int argc, char **argv)
     /* 6: a triplet for each class; type 2 wants an image of q0, here the first */
     int64_t *triplets = places(3 * classes), *left = places(classes);
     double *left_length = (double *)places(classes);
+    int64_t *cells = places(3 * classes);
     accepted("zone_bz_triplets_at_q",
              zone_bz_triplets_at_q(type == 1 ? q0 : map[q0], addresses, addresses_length, map, map_length,
                                    map_triplets, n, d, 3, q, 9, LATTICE, 9, type, triplets, 3 * classes, left,
-                                   classes, left_length, classes));
+                                   classes, left_length, classes, cells, 3 * classes));
 
     print_line("grid", d, 3);
     print_line("map", map_triplets, n);
@@ -135,10 +136,11 @@ int main(int argc, char **argv)
         printf("  weight %" PRId64 ":", weight);
         for (int k = 0; k < 3; k++)
             print_q(addresses + 3 * triplets[3 * c + k], d, q, sum);
-        printf(", sum %.3f %.3f %.3f, squared length %.3f\n", sum[0], sum[1], sum[2], left_length[c]);
+        printf(", sum %.3f %.3f %.3f, squared length %.3f", sum[0], sum[1], sum[2], left_length[c]);
+        printf(", cell %" PRId64 " %" PRId64 " %" PRId64 "\n", cells[3 * c], cells[3 * c + 1], cells[3 * c + 2]);
         c++;
     }
     free(map), free(addresses), free(grg), free(map_triplets), free(map_q), free(triplets), free(left);
-    free(left_length);
+    free(left_length), free(cells);
     return 0;
 }

@@ -32,7 +32,8 @@ extern "C" {
     fn zone_bz_triplets_at_q(
         q0: i64, addresses: In, addresses_len: Len, map: In, map_len: Len, class_map: In, class_map_len: Len, d: In,
         d_len: Len, q: In, q_len: Len, lattice: *const f64, lattice_len: Len, bz_grid_type: i64, out: Out,
-        out_len: Len, left: Out, left_len: Len, left_length: *mut f64, left_length_len: Len) -> i64;
+        out_len: Len, left: Out, left_len: Len, left_length: *mut f64, left_length_len: Len, cells: Out,
+        cells_len: Len) -> i64;
 }
 
 fn direct_rotations() -> Vec<i64> {
@@ -116,19 +117,21 @@ fn main() {
 
     let k = classes[0] as usize;
     let (mut triplets, mut left, mut left_length) = (vec![0; 3 * k], vec![0; k], vec![0.; k]);
+    let mut cells = vec![0; 3 * k];
     let start = if grid_type == 1 { q0 } else { map[q0 as usize] };
     accepted("zone_bz_triplets_at_q", unsafe {
         zone_bz_triplets_at_q(
             start, addresses.as_ptr(), addresses.len(), map.as_ptr(), map.len(), map_triplets.as_ptr(), n,
             d.as_ptr(), 3, q.as_ptr(), 9, LATTICE.as_ptr(), 9, grid_type, triplets.as_mut_ptr(), 3 * k,
-            left.as_mut_ptr(), k, left_length.as_mut_ptr(), k)
+            left.as_mut_ptr(), k, left_length.as_mut_ptr(), k, cells.as_mut_ptr(), 3 * k)
     });
 
     print_line("grid", &d);
     print_line("map", &map_triplets);
     print_line("ir", &classes);
     let lowest = (0..n as i64).filter(|i| map_triplets[*i as usize] == *i);
-    for ((i, triplet), length) in lowest.zip(triplets.chunks(3)).zip(&left_length) {
+    let told = left_length.iter().zip(cells.chunks(3));
+    for ((i, triplet), (length, cell)) in lowest.zip(triplets.chunks(3)).zip(told) {
         let weight = map_triplets.iter().filter(|j| **j == i).count();
         print_line("triplet", triplet);
         print!("  weight {weight}:");
@@ -138,6 +141,7 @@ fn main() {
             print!(" ({:.3} {:.3} {:.3})", x[0], x[1], x[2]);
             sum = [sum[0] + x[0], sum[1] + x[1], sum[2] + x[2]];
         }
-        println!(", sum {:.3} {:.3} {:.3}, squared length {length:.3}", sum[0], sum[1], sum[2]);
+        print!(", sum {:.3} {:.3} {:.3}, squared length {length:.3}", sum[0], sum[1], sum[2]);
+        print_line(", cell", cell);
     }
 }

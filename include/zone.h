@@ -96,7 +96,7 @@
  * No output may overlap another output or an input; inputs may overlap. A pointer is aligned as its type (8 bytes for
  * int64_t and double) and has as many places as its length says; with length 0 it may be NULL. Nothing is kept after
  * a call, and there are no globals, no allocation and no input or output: any thread may make any call at any time.
- * Stack, as built: under 96 KiB for zone_list, under 16 KiB for zone_mark_candidates, under 8 KiB for every other call.
+ * Stack, as built: under 104 KiB for zone_list, under 16 KiB for zone_mark_candidates, under 8 KiB for every other call.
  * The floating-point environment is that of a C program's start: rounding to nearest, no traps, subnormal numbers kept
  * (so no -ffast-math when linking).
  *
@@ -254,6 +254,19 @@ int64_t zone_class_weights(const int64_t *rotations, size_t rotations_len, const
 /* The addresses of the points 0, 1, .. in turn. In: d[3]. Out: out[3 * N]. Refusals: 13, 3. */
 int64_t zone_all_grid_addresses(const int64_t *d, size_t d_len, int64_t *out, size_t out_len);
 
+/* The point of an address, and the cell that it lies in, for an address of any size and sign: a = d·c + r, axis by
+ * axis, with the remainders r as under THE GRID and whole quotients c, rounded down also below 0 (proved). In:
+ * address[3], d[3]. Out: told[4]: the point, c0, c1, c2. With d (2,3,5) the address (-3,7,-11) gives 27 -2 2 -3.
+ * Refusals: 13, 3. */
+int64_t zone_grid_index_from_address(const int64_t *address, size_t address_len, const int64_t *d, size_t d_len,
+                                     int64_t *told, size_t told_len);
+
+/* Where rotation[9], a matrix of the transformed list, carries a point by the rule of zone_ir_grid_map. In: d[3],
+ * ps[3]. Out: told[4]: the point and the cell, as above, of the address that its own address is carried to. Refusals:
+ * 13, 3. */
+int64_t zone_rotate_grid_index(int64_t point, const int64_t *rotation, size_t rotation_len, const int64_t *d,
+                               size_t d_len, const int64_t *ps, size_t ps_len, int64_t *told, size_t told_len);
+
 /* The image table of the grid. In: d[3], q[9], ps[3], lattice[9], the type. Out: of M images addresses (3 * M
  * places), map (ZONE_MAP_LENGTH) and grg (M); told[3]: these three lengths. Outputs may be longer and hold -1 past
  * them. M is not known beforehand: a point has at most 8 shortest addresses, and the tolerance seldom adds any, so
@@ -320,16 +333,19 @@ int64_t zone_ir_triplets_at_q(int64_t q0, const int64_t *d, size_t d_len, const 
 
 /* For each class, by rising number, a triplet of images of q0, q1 and q2, where q1 is the point of that number and q2
  * is -q0-q1. In: q0, a point for type 1, any image of it for type 2; class_map, which is map_triplets or map_q;
- * d[3], q[9], lattice[9], the type. Out: with k places of class_map that hold their own number out[3 * k], left[k]
- * and left_length[k]. left is 1 where the three addresses sum to 0. It is 0 where no choice of images does: then the
- * triplet has the shortest sum, up to the tolerance, and left_length its squared length, |lattice·G|² with
- * G = Q·D⁻¹·sum. left and the three places are -1 where one of the points has no image in the table. left_length is
- * 0 but where left is 0. The choices are tried one after the other until one sums to 0. Refusals: 13, 3, 9, 14. */
+ * d[3], q[9], lattice[9], the type. Out: with k places of class_map that hold their own number out[3 * k], left[k],
+ * left_length[k] and cells[3 * k]. left is 1 where the three addresses sum to 0. It is 0 where no choice of images
+ * does: then the triplet has the shortest sum, up to the tolerance, and left_length its squared length, |lattice·G|²
+ * with G = Q·D⁻¹·sum. left and the three places are -1 where one of the points has no image in the table. left_length
+ * is 0 but where left is 0. cells has the cell of the sum, as zone_grid_index_from_address tells it; where left is -1
+ * it is -1 -1 -1, which may also be that of a sum. On a table that call 4 left for the same d and type the sum is d
+ * times its cell, axis by axis (proved), so that G = Q·cell; on other tables a remainder may be left, which is not told.
+ * The choices are tried one after the other until one sums to 0. Refusals: 13, 3, 9, 14. */
 int64_t zone_bz_triplets_at_q(int64_t q0, const int64_t *addresses, size_t addresses_len, const int64_t *map,
                               size_t map_len, const int64_t *class_map, size_t class_map_len, const int64_t *d,
                               size_t d_len, const int64_t *q, size_t q_len, const double *lattice, size_t lattice_len,
                               int64_t bz_grid_type, int64_t *out, size_t out_len, int64_t *left, size_t left_len,
-                              double *left_length, size_t left_length_len);
+                              double *left_length, size_t left_length_len, int64_t *cells, size_t cells_len);
 
 /* The class sheet of a finished list, a text to pin beside the camera. In: class_map, as call 6 took it, and triplets,
  * its out; either may hold anything. Out: with k places of class_map that hold their own number, and so 3 * k places of

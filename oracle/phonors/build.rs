@@ -25,7 +25,38 @@ struct Version {
     edits: &'static [[&'static str; 2]],
 }
 
-const VERSIONS: [Version; 6] = [
+const VERSIONS: [Version; 8] = [
+    Version {
+        name: "grgrid_opened",
+        module: "grgrid",
+        edits: &[["fn rotate_grid_index(", "pub fn rotate_grid_index("]],
+    },
+    Version {
+        name: "grgrid_halved",
+        module: "grgrid",
+        edits: &[
+            [
+                "fn double_grid_index(address_double: Vec3I, d_diag: Vec3I, ps: Vec3I)",
+                "fn double_grid_index(address_double: Vec3I, d_diag: Vec3I, ps: Vec3I, halved: &mut Vec3I)",
+            ],
+            [
+                "    ];\n    grid_index_from_address(address, d_diag)",
+                "    ];\n    *halved = address;\n    grid_index_from_address(address, d_diag)",
+            ],
+            [
+                "fn rotate_grid_index(grid_index: i64, rotation: MatI, d_diag: Vec3I, ps: Vec3I)",
+                "pub fn rotate_grid_index(grid_index: i64, rotation: MatI, d_diag: Vec3I, ps: Vec3I, halved: &mut Vec3I)",
+            ],
+            [
+                "double_grid_index(dadrs_rot, d_diag, ps)",
+                "double_grid_index(dadrs_rot, d_diag, ps, halved)",
+            ],
+            [
+                "rotate_grid_index(gp, *rot, d_diag, ps)",
+                "rotate_grid_index(gp, *rot, d_diag, ps, &mut [0; 3])",
+            ],
+        ],
+    },
     Version {
         name: "snf3x3_counted",
         module: "snf3x3",

@@ -39,11 +39,12 @@ pub record ZoneBzTripletsAtQ : Type 0 where
   pub out : List ℤ
   pub left : List ℤ
   pub left_length : List Float
+  pub cells : List ℤ
 
--- the outputs have n, m and l places
-abbrev pub zone_bz_triplets_at_q : ℤ → (addresses map classes d q : List ℤ) → List Float → ℤ → (n m l : ℕ) → ZoneBzTripletsAtQ
-zone_bz_triplets_at_q q0 addresses map classes d q lattice t n m l =
-    let o = bz_triplets_at_q q0 addresses map classes d (rows (matrix_at q 0)) (rows (float_nine lattice)) t n m l in
+-- the outputs have n, m, l and k places
+abbrev pub zone_bz_triplets_at_q : ℤ → (addresses map classes d q : List ℤ) → List Float → ℤ → (n m l k : ℕ) → ZoneBzTripletsAtQ
+zone_bz_triplets_at_q q0 addresses map classes d q lattice t n m l k =
+    let o = bz_triplets_at_q q0 addresses map classes d (rows (matrix_at q 0)) (rows (float_nine lattice)) t n m l k in
     cond (triplet_lengths (length d) (length q) (length lattice))
-    (record { answer = answer_of o.answer; out = o.out; left = o.left; left_length = o.left_length })
-    (record { answer = wrong_length; out = unwritten n; left = unwritten m; left_length = replicate l (of_int binary64 (negsuc 0)) })
+    (record { answer = answer_of o.answer; out = o.out; left = o.left; left_length = o.left_length; cells = o.cells })
+    (record { answer = wrong_length; out = unwritten n; left = unwritten m; left_length = replicate l (of_int binary64 (negsuc 0)); cells = unwritten k })

@@ -19,7 +19,7 @@ ghost use Rattle.answers.specs.Lengths.{wrong_length, unwritten};
 use common::Refusal;
 pub use diagonal::{diagonal_lengths, smith_lengths, tell_diagonal, tell_smith};
 pub use form::{form_lengths, tell_order, tell_same};
-pub use grid::{class_lengths, tell_classes};
+pub use grid::{class_lengths, folding_lengths, point_lengths, tell_classes, tell_folded};
 pub use images::{image_lengths, lattice_at, rotate_lengths, tell_lengths, tell_rotated};
 pub use marks::{mark_lengths, ranges_at};
 pub use pair::tell_pair;

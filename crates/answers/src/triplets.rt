@@ -5,7 +5,7 @@ ghost use Rattle.std.specs.Float.Ieee.{of_int};
 ghost use Rattle.answers.specs.Lengths.{wrong_length, unwritten};
 ghost use Rattle.answers.specs.Triplets.{triplet_class_lengths, triplet_lengths};
 
-use crate::refuse;
+use crate::refuse_three;
 
 pub fn triplet_class_lengths(d: usize, told: usize) -> bool
     ensures { result ≡ triplet_class_lengths d told }
@@ -19,14 +19,19 @@ pub fn triplet_lengths(d: usize, q: usize, lattice: usize) -> bool
     d == 3 && q == 9 && lattice == 9
 }
 
-// Three outputs: see docs/DECISIONS.md, 'Output slices'.
-pub fn refuse_triplets(out: &mut [i64], left: &mut [i64], left_length: &mut [f64]) -> i64
+// Four outputs: see docs/DECISIONS.md, 'Output slices'.
+pub fn refuse_triplets(
+    out: &mut [i64],
+    left: &mut [i64],
+    left_length: &mut [f64],
+    cells: &mut [i64],
+) -> i64
     ensures value { result ≡ wrong_length }
     ensures out_after { out.new ≡ unwritten (length out.old) }
     ensures left_after { left.new ≡ unwritten (length left.old) }
     ensures left_length_after { left_length.new ≡ replicate (length left_length.old) (of_int binary64 (negsuc 0)) }
+    ensures cells_after { cells.new ≡ unwritten (length cells.old) }
 {
     left_length.fill(-1.0);
-    left.fill(-1);
-    refuse(out)
+    refuse_three(out, left, cells)
 }

@@ -13,6 +13,7 @@ use lib.ListN.{length, get_or, set, take, drop, length-append, length-drop, leng
 use lib.Seq.{length-take-le, take_all, take_at, take-suc-set, sets-eq}
 use Rattle.std.specs.Prelude.{Ok, Err}
 use Rattle.common.specs.declared.Refusal.{Refusal}
+use Rattle.common.specs.Matrix.{Vec}
 use Rattle.grgrid.specs.Own.{is_place, own_places, own_points}
 use Rattle.grgrid.proofs.Numbers.{own-more, own_same}
 use Rattle.grgrid.proofs.Own.{own-rises, points_more, points_same}
@@ -22,8 +23,8 @@ use Rattle.bz_triplets.specs.declared.choices.Step.{Step}
 use Rattle.bz_triplets.specs.declared.choices.Step.TheVariants as step
 use Rattle.bz_triplets.specs.declared.choices.Triplet.{Triplet}
 use Rattle.bz_triplets.specs.Choosing.{start, left, closed}
-use Rattle.bz_triplets.specs.BzTriplets.{State, read_each, places_of, mark_of, length_of, triplet_list, marks, lengths}
-use Rattle.bz_triplets.specs.Code.TripletsView.{found_by, choice_view, state_of, step_place, RoomFor}
+use Rattle.bz_triplets.specs.BzTriplets.{State, read_each, places_of, cells_of, mark_of, length_of, by_threes, triplet_list, cell_list, marks, lengths}
+use Rattle.bz_triplets.specs.Code.TripletsView.{found_by, summed, state_of, step_place, RoomFor}
 
 -- ---- the three places of a triplet, one after the other
 pub places-stored : (t : Triplet) (at : ℕ) (out : List ℤ) → at + 3 ≤ length out → {a b c : ℤ} → a ≡ step_place t.step t.choice.x.at → b ≡ step_place t.step t.choice.y.at → c ≡ step_place t.step t.choice.z.at
@@ -33,7 +34,7 @@ places-stored t at out h ea eb ec last el = (λ i. set (set (set out at (ea i)) 
     stored : (x y z : ℤ) → set (set (set out at x) (suc at) y) (suc (suc at)) z ≡ take at out ++ ((x ∷ y ∷ z ∷ []) ++ drop (at + 3) out)
     stored x y z = sets-eq (x ∷ y ∷ z ∷ []) out at h ∙ append_assoc (take at out) (x ∷ y ∷ z ∷ []) (drop (at + 3) out)
 
-    go : (s : Step) → set (set (set out at (step_place s t.choice.x.at)) (suc at) (step_place s t.choice.y.at)) (suc (suc at)) (step_place s t.choice.z.at) ≡ take at out ++ (places_of (found_by s (choice_view t.choice)) ++ drop (at + 3) out)
+    go : (s : Step) → set (set (set out at (step_place s t.choice.x.at)) (suc at) (step_place s t.choice.y.at)) (suc (suc at)) (step_place s t.choice.z.at) ≡ take at out ++ (places_of (found_by s (summed t)) ++ drop (at + 3) out)
     go step.Empty = stored (negsuc 0) (negsuc 0) (negsuc 0)
     go (step.Left x) = stored (pos t.choice.x.at) (pos t.choice.y.at) (pos t.choice.z.at)
     go step.Closed = stored (pos t.choice.x.at) (pos t.choice.y.at) (pos t.choice.z.at)
@@ -71,40 +72,67 @@ taken out l rest at h =
 mapped-more : {A B : Type 0} (g : A → B) (out : List B) (at : ℕ) (r : List A) (a : A) → at < length out → take at out ≡ map g r → take (at + 1) (set out at (g a)) ≡ map g (r ++ (a ∷ []))
 mapped-more g out at r a h e = ap (λ n. take n (set out at (g a))) (add-one at) ∙ take-suc-set out at (g a) h ∙ ap (λ l. l ++ (g a ∷ [])) e ∙ sym (map-append g r (a ∷ []))
 
-length-places : (s : State) → length (places_of s) ≡ 3
+pub length-places : (s : State) → length (places_of s) ≡ 3
 length-places start = refl
 length-places (left x c) = refl
 length-places (closed c) = refl
 
-triplets-more : (r : List State) (s : State) → triplet_list (r ++ (s ∷ [])) ≡ triplet_list r ++ places_of s
-triplets-more [] s = append-nil (places_of s)
-triplets-more (t ∷ r) s = ap (λ l. places_of t ++ l) (triplets-more r s) ∙ sym (append_assoc (places_of t) (triplet_list r) (places_of s))
+pub length-cells : (d : Vec ℕ) (s : State) → length (cells_of d s) ≡ 3
+length-cells d start = refl
+length-cells d (left x c) = refl
+length-cells d (closed c) = refl
 
-pub same-room : {classes : List ℤ} {n m l n' m' l' : ℕ} → RoomFor classes n m l → RoomFor classes n' m' l' → (n ≡ n') × (m ≡ m') × (l ≡ l')
-same-room a b = (a.triplets ∙ sym b.triplets, a.left ∙ sym b.left, a.lengths ∙ sym b.lengths)
+-- ---- three numbers of each: what f tells of state s goes to the places of triplet `at`
+module _ (f : State → List ℤ) (three : (s : State) → length (f s) ≡ 3) where
+  threes-more : (r : List State) (s : State) → by_threes f (r ++ (s ∷ [])) ≡ by_threes f r ++ f s
+  threes-more [] s = append-nil (f s)
+  threes-more (t ∷ r) s = ap (λ l. f t ++ l) (threes-more r s) ∙ sym (append_assoc (f t) (by_threes f r) (f s))
+
+  abbrev put : State → ℕ → List ℤ → List ℤ
+  put s at out = take (at * 3) out ++ (f s ++ drop (at * 3 + 3) out)
+
+  module _ (s : State) (at : ℕ) (out : List ℤ) (room : at * 3 + 3 ≤ length out) where
+    put-more : (states : List State) → take (at * 3) out ≡ by_threes f states → take ((at + 1) * 3) (put s at out) ≡ by_threes f (states ++ (s ∷ []))
+    put-more states e =
+        ap (λ n. take n (put s at out)) (third (three s))
+        ∙ taken out (f s) (drop (at * 3 + 3) out) (at * 3) (omega (arith, room)) ∙ ap (λ l. l ++ f s) e ∙ sym (threes-more states s)
+      where
+        third : {n : ℕ} → n ≡ 3 → (at + 1) * 3 ≡ at * 3 + n
+        third r = omega arith
+
+    put-length : length (put s at out) ≡ length out
+    put-length =
+        length-append (take (at * 3) out) (f s ++ drop (at * 3 + 3) out)
+        ∙ ap₂ ◌+◌ (length-take-le (at * 3) out (omega (arith, room))) (length-append (f s) (drop (at * 3 + 3) out))
+        ∙ omega (arith, three s, length-drop (at * 3 + 3) out, room)
+
+pub same-room : {classes : List ℤ} {n m l c n' m' l' c' : ℕ} → RoomFor classes n m l c → RoomFor classes n' m' l' c' → (n ≡ n') × (m ≡ m') × (l ≡ l') × (c ≡ c')
+same-room a b = (a.triplets ∙ sym b.triplets, a.left ∙ sym b.left, a.lengths ∙ sym b.lengths, a.cells ∙ sym b.cells)
 
 -- ---- f reads the triplet of a class; those of the first q points stand in the first `at` places
-pub record Filled (f : ℕ → Read State) (classes : List ℤ) (q at : ℕ) (out marked : List ℤ) (measured : List Float) : Type 0 where
+pub record Filled (f : ℕ → Read State) (d : Vec ℕ) (classes : List ℤ) (q at : ℕ) (out marked : List ℤ) (measured : List Float) (celled : List ℤ) : Type 0 where
   pub states : List State
   pub read : read_each f (own_points classes q) ≡ got states
   pub count : at ≡ own_places classes q
   pub places : take (at * 3) out ≡ triplet_list states
   pub marks : take at marked ≡ marks states
   pub lengths : take at measured ≡ lengths states
-  pub room : RoomFor classes (length out) (length marked) (length measured)
+  pub cells : take (at * 3) celled ≡ by_threes (cells_of d) states
+  pub room : RoomFor classes (length out) (length marked) (length measured) (length celled)
 
 -- of outputs that are told by equations
-pub filled-as : {f : ℕ → Read State} {classes : List ℤ} {q at at' : ℕ} {out out' marked marked' : List ℤ} {measured measured' : List Float}
-    → at' ≡ at → out' ≡ out → marked' ≡ marked → measured' ≡ measured → Filled f classes q at out marked measured → Filled f classes q at' out' marked' measured'
-filled-as ea eo em el d = rw (ea, eo, em, el) d
+pub filled-as : {f : ℕ → Read State} {g : Vec ℕ} {classes : List ℤ} {q at at' : ℕ} {out out' marked marked' : List ℤ} {measured measured' : List Float} {celled celled' : List ℤ}
+    → at' ≡ at → out' ≡ out → marked' ≡ marked → measured' ≡ measured → celled' ≡ celled → Filled f g classes q at out marked measured celled → Filled f g classes q at' out' marked' measured' celled'
+filled-as ea eo em el ec d = rw (ea, eo, em, el, ec) d
 
-module _ (f : ℕ → Read State) (classes : List ℤ) where
-  pub filled_none : (out marked : List ℤ) (measured : List Float) → RoomFor classes (length out) (length marked) (length measured) → Filled f classes 0 0 out marked measured
-  filled_none out marked measured h = record { states = []; read = refl; count = refl; places = refl; marks = refl; lengths = refl; room = h }
+module _ (f : ℕ → Read State) (grid : Vec ℕ) (classes : List ℤ) where
+  pub filled_none : (out marked : List ℤ) (measured : List Float) (celled : List ℤ) → RoomFor classes (length out) (length marked) (length measured) (length celled)
+      → Filled f grid classes 0 0 out marked measured celled
+  filled_none out marked measured celled h = record { states = []; read = refl; count = refl; places = refl; marks = refl; lengths = refl; cells = refl; room = h }
 
-  module _ {q at : ℕ} {out marked : List ℤ} {measured : List Float} (d : Filled f classes q at out marked measured) where
+  module _ {q at : ℕ} {out marked : List ℤ} {measured : List Float} {celled : List ℤ} (d : Filled f grid classes q at out marked measured celled) where
     -- a point that is in a class of another
-    pub filled_on : is_place (get_or classes q (pos 0)) q ≡ false → Filled f classes (q + 1) at out marked measured
+    pub filled_on : is_place (get_or classes q (pos 0)) q ≡ false → Filled f grid classes (q + 1) at out marked measured celled
     filled_on e = record {
       states = d.states;
       read = ap (read_each f) (points_same classes q e) ∙ d.read;
@@ -112,6 +140,7 @@ module _ (f : ℕ → Read State) (classes : List ℤ) where
       places = d.places;
       marks = d.marks;
       lengths = d.lengths;
+      cells = d.cells;
       room = d.room;
     }
 
@@ -122,25 +151,28 @@ module _ (f : ℕ → Read State) (classes : List ℤ) where
       pub filled-room : at * 3 + 3 ≤ length out
       filled-room = omega (arith, filled-below, d.room.triplets)
 
+      pub filled-cells-room : at * 3 + 3 ≤ length celled
+      filled-cells-room = omega (arith, filled-below, d.room.cells)
+
       -- a point that gives its class its number, with its triplet written
       pub filled_more : (s : State) → f q ≡ got s
-          → Filled f classes (q + 1) (at + 1) (take (at * 3) out ++ (places_of s ++ drop (at * 3 + 3) out)) (set marked at (mark_of s)) (set measured at (length_of s))
+          → Filled f grid classes (q + 1) (at + 1) (take (at * 3) out ++ (places_of s ++ drop (at * 3 + 3) out)) (set marked at (mark_of s)) (set measured at (length_of s))
+          (take (at * 3) celled ++ (cells_of grid s ++ drop (at * 3 + 3) celled))
       filled_more s g = record {
         states = d.states ++ (s ∷ []);
         read = ap (read_each f) (points_more classes q e) ∙ each_more f (own_points classes q) q d.read g;
         count = ap (λ n. n + 1) d.count ∙ own-more classes q e;
-        places = ap (λ n. take n (take (at * 3) out ++ (places_of s ++ drop (at * 3 + 3) out))) (third (length-places s)) ∙ taken out (places_of s) (drop (at * 3 + 3) out) (at * 3) (omega (arith, filled-room)) ∙ ap (λ l. l ++ places_of s) d.places ∙ sym (triplets-more d.states s);
+        places = put-more places_of length-places s at out filled-room d.states d.places;
         marks = mapped-more mark_of marked at d.states s (omega (arith, filled-below, d.room.left)) d.marks;
         lengths = mapped-more length_of measured at d.states s (omega (arith, filled-below, d.room.lengths)) d.lengths;
+        cells = put-more (cells_of grid) (length-cells grid) s at celled filled-cells-room d.states d.cells;
         room = record {
-          triplets = length-append (take (at * 3) out) (places_of s ++ drop (at * 3 + 3) out) ∙ ap₂ ◌+◌ (length-take-le (at * 3) out (omega (arith, filled-room))) (length-append (places_of s) (drop (at * 3 + 3) out)) ∙ omega (arith, length-places s, length-drop (at * 3 + 3) out, filled-room) ∙ d.room.triplets;
+          triplets = put-length places_of length-places s at out filled-room ∙ d.room.triplets;
           left = length-set marked at (mark_of s) ∙ d.room.left;
           lengths = length-set measured at (length_of s) ∙ d.room.lengths;
+          cells = put-length (cells_of grid) (length-cells grid) s at celled filled-cells-room ∙ d.room.cells;
         };
       }
-        where
-          third : {n : ℕ} → n ≡ 3 → (at + 1) * 3 ≡ at * 3 + n
-          third r = omega arith
 
     -- all points passed
     module _ (e : q ≡ length classes) where
@@ -162,6 +194,10 @@ module _ (f : ℕ → Read State) (classes : List ℤ) where
       pub filled-lengths : got measured ≡ (all then λ r. got (lengths r))
       filled-lengths = end lengths at measured (omega (arith, reached, d.room.lengths)) d.lengths
 
+      pub filled-cells : got celled ≡ (all then λ r. got (cell_list grid r))
+      unfolding cell_list
+      filled-cells = end (by_threes (cells_of grid)) (at * 3) celled (omega (arith, reached, d.room.cells)) d.cells
+
   -- the points from one in its own class on
   split : (n q : ℕ) → q < n → is_place (get_or classes q (pos 0)) q ≡ true → (m : List ℕ) × (own_points classes n ≡ own_points classes q ++ (q ∷ m))
   split zero q h e = absurd (not-suc-le-zero h)
@@ -173,7 +209,7 @@ module _ (f : ℕ → Read State) (classes : List ℤ) where
           (r.0 ++ last, ap (λ l. l ++ last) r.1 ∙ append_assoc (own_points classes q) (q ∷ r.0) last)
 
   -- a triplet that is refused, and all is refused
-  pub filled-refused : {q at : ℕ} {out marked : List ℤ} {measured : List Float} → Filled f classes q at out marked measured → {B : Type 0} (g : List State → Read B) → q < length classes → is_place (get_or classes q (pos 0)) q ≡ true
+  pub filled-refused : {q at : ℕ} {out marked : List ℤ} {measured : List Float} {celled : List ℤ} → Filled f grid classes q at out marked measured celled → {B : Type 0} (g : List State → Read B) → q < length classes → is_place (get_or classes q (pos 0)) q ≡ true
       → {r : Refusal} → f q ≡ Err r → Err r ≡ (read_each f (own_points classes (length classes)) then g)
   filled-refused {q} d g h e k =
       let m = split (length classes) q h e in

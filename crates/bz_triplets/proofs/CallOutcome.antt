@@ -34,7 +34,7 @@ use Rattle.bzgrid.specs.BzGridAddresses.{grid_type_of}
 use Rattle.bzgrid.proofs.Accepted.{passes}
 use Rattle.bzsearch.specs.Lattice.{lattice_fits}
 use Rattle.bztable.specs.Reading.{Read, got, whole_addresses, address_of, list_of}
-use Rattle.bz_triplets.specs.BzTriplets.{State, Walk, walk_of, point_of, triplet_of, triplet_at, read_each, is_dense, input_tests, triplets_read, states_read, triplet_list, marks, lengths, BzTriplets, triplet_tests, bz_triplets_at_q}
+use Rattle.bz_triplets.specs.BzTriplets.{State, Walk, walk_of, point_of, triplet_of, triplet_at, read_each, is_dense, input_tests, triplets_read, states_read, triplet_list, cell_list, marks, lengths, BzTriplets, triplet_tests, bz_triplets_at_q}
 use Rattle.bz_triplets.specs.Code.TripletsView.{RoomFor}
 
 -- ---- an address that was read was asked for by a number that is not negative
@@ -67,9 +67,10 @@ pub record Input : Type 0 where
   pub n : ℕ
   pub m : ℕ
   pub l : ℕ
+  pub c : ℕ
 
 pub record InputAccepted (i : Input) (k : GridType) : Type 0 where
-  pub room : RoomFor i.classes i.n i.m i.l
+  pub room : RoomFor i.classes i.n i.m i.l i.c
   pub grid : T (diagonal_fits i.d)
   pub known : grid_type_of i.t ≡ Ok k
 
@@ -79,7 +80,7 @@ each i k g w a0 p = read_each (triplet_of k g i.map w a0 p) (own_points i.classe
 
 module _ (i : Input) where
   abbrev pub inputs : (q0 t : ℤ) → Result GridType Refusal
-  inputs q0 t = input_tests q0 i.addresses i.classes i.d i.q i.lattice t i.n i.m i.l
+  inputs q0 t = input_tests q0 i.addresses i.classes i.d i.q i.lattice t i.n i.m i.l i.c
 
   abbrev pub read : GridType → Read (List State)
   read k = triplets_read i.q0 i.addresses i.map i.classes i.d i.q i.lattice k
@@ -88,10 +89,10 @@ module _ (i : Input) where
   states = states_read i.q0 i.addresses i.map i.classes i.d i.q i.lattice i.t
 
   abbrev pub answer : Tested
-  answer = triplet_tests i.q0 i.addresses i.map i.classes i.d i.q i.lattice i.t i.n i.m i.l
+  answer = triplet_tests i.q0 i.addresses i.map i.classes i.d i.q i.lattice i.t i.n i.m i.l i.c
 
   abbrev pub lengths_fit : ℕ → Bool
-  lengths_fit own = whole_addresses i.addresses && (eqb i.n (own * 3) && (eqb i.m own && eqb i.l own))
+  lengths_fit own = whole_addresses i.addresses && (eqb i.n (own * 3) && (eqb i.m own && (eqb i.l own && eqb i.c (own * 3))))
 
   abbrev limits_fit : Bool
   limits_fit = diagonal_fits i.d && (matrix_within 1000 (matrix_of i.q) && lattice_fits (float_matrix i.lattice))
@@ -112,17 +113,20 @@ module _ (i : Input) where
       let triplets = eqb i.n (own * 3) in
       let left = eqb i.m own in
       let lengths = eqb i.l own in
+      let cells = eqb i.c (own * 3) in
       let limits = matrix_within 1000 (matrix_of i.q) && lattice_fits (float_matrix i.lattice) in
-      let a = passes (whole_addresses i.addresses && (triplets && (left && lengths))) WrongLength _ e in
+      let a = passes (whole_addresses i.addresses && (triplets && (left && (lengths && cells)))) WrongLength _ e in
       let b = passes (diagonal_fits i.d && limits) OutsideLimits _ a.1 in
       let c = passes (point_inside i.q0 (grid_type_of i.t)) OutsideLimits (grid_type_of i.t) b.1 in
-      let three = and_r (whole_addresses i.addresses) (triplets && (left && lengths)) (holds a.0) in
-      let two = and_r triplets (left && lengths) three in
+      let four = and_r (whole_addresses i.addresses) (triplets && (left && (lengths && cells))) (holds a.0) in
+      let three = and_r triplets (left && (lengths && cells)) four in
+      let two = and_r left (lengths && cells) three in
       record {
         room = record {
-          triplets = eqb-true i.n (own * 3) (is_true triplets (and_l triplets (left && lengths) three));
-          left = eqb-true i.m own (is_true left (and_l left lengths two));
-          lengths = eqb-true i.l own (is_true lengths (and_r left lengths two));
+          triplets = eqb-true i.n (own * 3) (is_true triplets (and_l triplets (left && (lengths && cells)) four));
+          left = eqb-true i.m own (is_true left (and_l left (lengths && cells) three));
+          lengths = eqb-true i.l own (is_true lengths (and_l lengths cells two));
+          cells = eqb-true i.c (own * 3) (is_true cells (and_r lengths cells two));
         };
         grid = and_l (diagonal_fits i.d) limits (holds b.0);
         known = c.1;
@@ -149,6 +153,11 @@ module _ (i : Input) where
       pub walked : {a0 : Vec ℤ} → got a0 ≡ address_of i.addresses q0 → {g : Vec ℕ} → g ≡ sides_of i.d → {w : Walk} → w ≡ walk_of i.addresses i.d i.q i.lattice → {p : ℕ} → p ≡ point_of g k (nat_abs q0) a0 → each i k g w a0 p ≡ read k
       walked {a0} f {g} eg ew ep = (λ j. each i k (eg j) (ew j) a0 ((ep ∙ (λ j. point_of (eg j) k (nat_abs (same j)) a0)) j)) ∙ read-from f
 
+    -- cells by the grid that stands for d
+    pub celled : (r : Tested) (x : List ℤ) {g : Vec ℕ} {y : Read (List State)} → giving r x ≡ (y then λ l. got (cell_list g l)) → g ≡ sides_of i.d → y ≡ read k
+        → giving r x ≡ (read k then λ l. got (cell_list (sides_of i.d) l))
+    celled r x e eg ey = e ∙ (λ j. ey j then λ l. got (cell_list (eg j) l))
+
     -- ---- where the walk gave r and left x
     module _ {B : Type 0} (f : List State → B) (r : Tested) (x : B) (w : giving r x ≡ (read k then λ l. got (f l))) where
       pub walk-answer : r ≡ (read k then λ _. Accepted)
@@ -172,7 +181,7 @@ module _ (i : Input) where
 
   -- ---- the outcome of the call
   abbrev call : BzTriplets
-  call = bz_triplets_at_q i.q0 i.addresses i.map i.classes i.d i.q i.lattice i.t i.n i.m i.l
+  call = bz_triplets_at_q i.q0 i.addresses i.map i.classes i.d i.q i.lattice i.t i.n i.m i.l i.c
 
   abbrev outcome : Tested → BzTriplets
   outcome s = record {
@@ -180,17 +189,18 @@ module _ (i : Input) where
     out = output_of s i.n (triplet_list states);
     left = output_of s i.m (marks states);
     left_length = filled_or (of_int binary64 (negsuc 0)) s i.l (lengths states);
+    cells = output_of s i.c (cell_list (sides_of i.d) states);
   }
 
-  module _ {out left : List ℤ} {left_length : List Float} where
+  module _ {out left : List ℤ} {left_length : List Float} {cells : List ℤ} where
     pub chosen : (s : Tested) → s ≡ answer → (s ≡ Accepted → out ≡ triplet_list states) → (s ≡ Accepted → left ≡ marks states) → (s ≡ Accepted → left_length ≡ lengths states)
-        → IfOk s (λ _. record { answer = Accepted; out = out; left = left; left_length = left_length } ≡ call)
+        → (s ≡ Accepted → cells ≡ cell_list (sides_of i.d) states) → IfOk s (λ _. record { answer = Accepted; out = out; left = left; left_length = left_length; cells = cells } ≡ call)
     unfolding bz_triplets_at_q
-    chosen (Ok _) e f g h = (λ j. record { answer = Accepted; out = f refl j; left = g refl j; left_length = h refl j }) ∙ ap outcome e
-    chosen (Err r) e f g h = tt
+    chosen (Ok _) e f g h k = (λ j. record { answer = Accepted; out = f refl j; left = g refl j; left_length = h refl j; cells = k refl j }) ∙ ap outcome e
+    chosen (Err r) e f g h k = tt
 
     pub refused : (s : Tested) → is_err s ≡ true → s ≡ answer → out ≡ replicate i.n (negsuc 0) → left ≡ replicate i.m (negsuc 0) → left_length ≡ replicate i.l (of_int binary64 (negsuc 0))
-        → record { answer = s; out = out; left = left; left_length = left_length } ≡ call
+        → cells ≡ replicate i.c (negsuc 0) → record { answer = s; out = out; left = left; left_length = left_length; cells = cells } ≡ call
     unfolding bz_triplets_at_q
-    refused (Ok _) k e f g h = absurd (true≢false (sym k))
-    refused (Err r) k e f g h = (λ j. record { answer = Err r; out = f j; left = g j; left_length = h j }) ∙ ap outcome e
+    refused (Ok _) k e f g h l = absurd (true≢false (sym k))
+    refused (Err r) k e f g h l = (λ j. record { answer = Err r; out = f j; left = g j; left_length = h j; cells = l j }) ∙ ap outcome e

@@ -133,35 +133,92 @@ module _ {C F : Type 0} (closes : C → Bool) (len : C → F) (lt : F → F → 
     pub walk-said : (l : List C) → ((c : C) → c ∈ l → Len (len c)) → Says l (foldl (tried closes len lt less) start l)
     walk-said l k = from [] l start k refl
 
--- ---- the triplet that demand 3 asks for
-module _ {A F : Type 0} (closes : Vec A → Bool) (len : Vec A → F) (lt : F → F → Bool) (less : F → F) (l : Vec (List A)) where
-  pub record Best (c : Vec A) : Type 0 where
-    pub picked : Picks l c
-    pub closed-if : (y : Vec A) → Picks l y → T (closes y) → T (closes c)
-    pub least : ¬ T (closes c) → (y : Vec A) → Picks l y → ¬ T (lt (len y) (less (len c)))
+-- ---- what a walk finds is one of the choices, whatever the lengths
+module _ {C F : Type 0} (closes : C → Bool) (len : C → F) (lt : F → F → Bool) (less : F → F) where
+  abbrev Among : List C → Found C F → Type 0
+  Among l start = l ≡ []
+  Among l (left x b) = b ∈ l
+  Among l (closed b) = b ∈ l
+
+  among-on : (l : List C) (c : C) (s : Found C F) → Among l s → Among (l ++ (c ∷ [])) (tried closes len lt less s c)
+  among-on l c start e =
+      pick-cases (closes c) (closed c) (left (len c) c) (Among (l ++ (c ∷ []))) (λ t. append_right l (here refl)) (λ t. append_right l (here refl))
+  among-on l c (left x b) m =
+      pick-cases (closes c) (closed c) (cond (lt (len c) (less x)) (left (len c) c) (left x b)) (Among (l ++ (c ∷ []))) (λ t. append_right l (here refl))
+      (λ t. pick-cases (lt (len c) (less x)) (left (len c) c) (left x b) (Among (l ++ (c ∷ []))) (λ u. append_right l (here refl)) (λ u. append_left (c ∷ []) m))
+  among-on l c (closed b) m = append_left (c ∷ []) m
+
+  among-from : (done l : List C) (s : Found C F) → Among done s → Among (done ++ l) (foldl (tried closes len lt less) s l)
+  among-from done [] s h = rw (append-nil done) h
+  among-from done (c ∷ l) s h = rw (← append_snoc done c l) (among-from (done ++ (c ∷ [])) l (tried closes len lt less s c) (among-on done c s h))
+
+  pub walk-among : (l : List C) → Among l (foldl (tried closes len lt less) start l)
+  walk-among l = among-from [] l start refl
+
+-- ---- the triplet that demand 3 asks for, where pick p counts as choice `of p`
+module _ {A C F : Type 0} (of : Vec A → C) (closes : C → Bool) (len : C → F) (lt : F → F → Bool) (less : F → F) (l : Vec (List A)) where
+  abbrev pub step : Found C F → Vec A → Found C F
+  step s p = tried closes len lt less s (of p)
+
+  pub record Picked (c : C) : Type 0 where
+    pub by : Vec A
+    pub picks : Picks l by
+    pub is : of by ≡ c
+
+  abbrev counted : List C
+  counted = map of (choices l)
+
+  in-counted : (y : Vec A) → Picks l y → of y ∈ counted
+  in-counted y p = map-in of (in-choices l y p)
+
+  of-counted : {c : C} → c ∈ counted → Picked c
+  of-counted m = let r = of_map of (choices l) m in record { by = r.0; picks = of-choices l r.0 r.1; is = r.2 }
+
+  walk_is : nested step start l ≡ foldl (tried closes len lt less) start counted
+  walk_is = nested_is l step start ∙ sym (foldl-map of (tried closes len lt less) (choices l) start)
+
+  -- nothing, where there is no choice
+  abbrev pub Chosen : Found C F → Type 0
+  Chosen start = (y : Vec A) → ¬ Picks l y
+  Chosen (left x c) = Picked c
+  Chosen (closed c) = Picked c
+
+  pub triplet-chosen : Chosen (nested step start l)
+  triplet-chosen = rw walk_is (go (foldl (tried closes len lt less) start counted) (walk-among closes len lt less counted))
+    where
+      go : (s : Found C F) → Among closes len lt less counted s → Chosen s
+      go start e = λ y p. not-nil (subst (λ l. of y ∈ l) e (in-counted y p))
+      go (left x c) m = of-counted m
+      go (closed c) m = of-counted m
+
+  pub record Best (c : C) : Type 0 where
+    pub picked : Picked c
+    pub closed-if : (y : Vec A) → Picks l y → T (closes (of y)) → T (closes c)
+    pub least : ¬ T (closes c) → (y : Vec A) → Picks l y → ¬ T (lt (len (of y)) (less (len c)))
 
   -- with what is told beside it
-  abbrev pub Triplet : Found (Vec A) F → Type 0
+  abbrev pub Triplet : Found C F → Type 0
   Triplet start = (y : Vec A) → ¬ Picks l y
   Triplet (left x c) = Best c × (x ≡ len c) × (¬ T (closes c))
   Triplet (closed c) = Best c × T (closes c)
 
-  best : (s : Found (Vec A) F) → Says closes len lt less (choices l) s → Triplet s
-  best start e = λ y p. not-nil (subst (λ l. y ∈ l) e (in-choices l y p))
+  best : (s : Found C F) → Says closes len lt less counted s → Triplet s
+  best start e = λ y p. not-nil (subst (λ l. of y ∈ l) e (in-counted y p))
   best (left x b) (m, e, a) = (
     record {
-      picked = of-choices l b m;
-      closed-if = λ y p t. absurd (T_not (closes y) (a y (in-choices l y p)).0 t);
-      least = λ _ y p t. (a y (in-choices l y p)).1 (subst (λ z. T (lt (len y) (less z))) (sym e) t);
+      picked = of-counted m;
+      closed-if = λ y p t. absurd (T_not (closes (of y)) (a (of y) (in-counted y p)).0 t);
+      least = λ _ y p t. (a (of y) (in-counted y p)).1 (subst (λ z. T (lt (len (of y)) (less z))) (sym e) t);
     },
     e,
     T_not (closes b) (a b m).0,
   )
-  best (closed b) (m, t) = (record { picked = of-choices l b m; closed-if = λ y p _. t; least = λ n. absurd (n t) }, t)
+  best (closed b) (m, t) = (record { picked = of-counted m; closed-if = λ y p _. t; least = λ n. absurd (n t) }, t)
 
-  pub triplet-best : {Len : F → Type 0} → Order lt less Len → ((c : Vec A) → Picks l c → Len (len c)) → Triplet (nested (tried closes len lt less) start l)
-  triplet-best o k =
-      rw (nested_is l (tried closes len lt less) start) (best (foldl (tried closes len lt less) start (choices l)) (walk-said closes len lt less o (choices l) (λ c m. k c (of-choices l c m))))
+  pub triplet-best : {Len : F → Type 0} → Order lt less Len → ((y : Vec A) → Picks l y → Len (len (of y))) → Triplet (nested step start l)
+  triplet-best {Len} o k =
+      rw walk_is (best (foldl (tried closes len lt less) start counted)
+      (walk-said closes len lt less o counted (λ c m. let r = of-counted m in subst (λ c. Len (len c)) r.is (k r.by r.picks))))
 
 -- ---- squared lengths in binary64
 pub record Length (x : Float) : Type 0 where

@@ -16,7 +16,7 @@ use Rattle.common.specs.Tested.{◌then◌}
 use Rattle.bztable.specs.Reading.{Read, got, address_at}
 use Rattle.bz_triplets.specs.declared.choices.Step.{Step}
 use Rattle.bz_triplets.specs.declared.choices.Step.TheVariants as step
-use Rattle.bz_triplets.specs.BzTriplets.{Walk, sum_of, tried_sum, try_read, try_at}
+use Rattle.bz_triplets.specs.BzTriplets.{Choice, Walk, sum_of, tried_sum, try_read, try_at}
 use Rattle.bz_triplets.specs.Code.TripletsView.{found_by, is_closed}
 
 -- ---- the sum
@@ -35,7 +35,7 @@ module _ {a b c : List ℤ} (h : Sized 10000000000000 a × (Sized 10000000000000
     sum-size = rw sum_is (let f = h.0 in let g = h.1.0 in let k = h.1.1 in plain-within {v = get_or a n (pos 0) +ℤ get_or b n (pos 0) +ℤ get_or c n (pos 0)} (search (plain, p-sized) depth 12) tt)
 
 -- ---- the three addresses, while the walk goes on
-module _ (w : Walk) (s : Step) (b : Vec ℕ) (o : is_closed s ≡ false) (p : Vec ℕ) where
+module _ (w : Walk) (s : Step) (b : Choice) (o : is_closed s ≡ false) (p : Vec ℕ) where
   going : try_at w (got (found_by s b)) p ≡ try_read w (found_by s b) p
   unfolding try_at
   going = go s o

@@ -19,7 +19,7 @@ use Rattle.bz_triplets.specs.declared.choices.Triplet.{Triplet}
 use Rattle.bz_triplets.specs.Choosing.{nested}
 use Rattle.bz_triplets.specs.BzTriplets.{State, Walk, try_at}
 use Rattle.bztable.specs.Access.{place_in}
-use Rattle.bz_triplets.specs.Code.TripletsView.{found_by, choice_view, state_of, is_closed}
+use Rattle.bz_triplets.specs.Code.TripletsView.{found_by, summed, state_of, is_closed}
 
 -- ---- one walk
 module _ {A S : Type 0} (f : S → A → S) where
@@ -101,7 +101,7 @@ module _ (w : Walk) where
   unfolding try_at
   closed-stays t e p = go t.step e
     where
-      go : (s : Step) → is_closed s ≡ true → try_at w (got (found_by s (choice_view t.choice))) p ≡ got (found_by s (choice_view t.choice))
+      go : (s : Step) → is_closed s ≡ true → try_at w (got (found_by s (summed t))) p ≡ got (found_by s (summed t))
       go step.Closed e = refl
       go step.Empty e = absurd (true≢false (sym e))
       go (step.Left x) e = absurd (true≢false (sym e))

@@ -1,4 +1,4 @@
--- `bz_triplets_at_q`: for each class a triplet of images of q0, q1 and q2. The image table and the class map may hold anything.
+-- `bz_triplets_at_q`: for each class a triplet of images of q0, q1 and q2, and the cell of their sum. The image table and the class map may hold anything.
 use Rattle.std.specs.Prelude.{Bool, true, false, ◌&&◌, ◌||◌, List, [], ◌∷◌, ◌++◌, map as map_list, ℕ}
 use Rattle.std.specs.Prelude.{◌*◌, eqb, ℤ, pos, negsuc, nat_abs, ◌+ℤ◌, length, Float, Result, Ok, Err}
 use Rattle.std.specs.Float.{binary64}
@@ -11,7 +11,7 @@ use Rattle.common.specs.Limits.{matrix_within, diagonal_fits, point_fits}
 use Rattle.common.specs.Tested.{require, filled_or, output_of, Tested, Accepted, ◌then◌}
 use Rattle.common.specs.declared.Refusal.{Refusal}
 use Rattle.common.specs.declared.Refusal.TheVariants.{OutsideLimits, WrongLength}
-use Rattle.grgrid.specs.Grid.{size, index}
+use Rattle.grgrid.specs.Grid.{size, index, cell}
 use Rattle.grgrid.specs.Own.{own_places, own_points}
 use Rattle.bzgrid.specs.declared.GridType.{GridType}
 use Rattle.bzgrid.specs.declared.GridType.TheVariants.{Sparse, Dense}
@@ -40,8 +40,13 @@ sum_of a b c = vector (λ k. side a k +ℤ side b k +ℤ side c k)
 abbrev pub is_zero : Vec ℤ → Bool
 is_zero g = all_axes (λ k. same (side g k) (pos 0))
 
+-- with its sum
+pub record Choice : Type 0 where
+  pub at : Vec ℕ
+  pub sum : Vec ℤ
+
 abbrev pub State : Type 0
-State = Found (Vec ℕ) Float
+State = Found Choice Float
 
 -- what a walk goes by: how lengths are measured, and the table of addresses
 pub record Walk : Type 0 where
@@ -51,7 +56,8 @@ pub record Walk : Type 0 where
 
 -- with sum g
 abbrev pub tried_sum : Walk → State → Vec ℕ → Vec ℤ → State
-tried_sum w s p g = tried (λ _. is_zero g) (λ _. squared_distance w.lqd g) lt (λ x. sub binary64 x w.tolerance) s p
+tried_sum w s p g =
+    tried (λ c. is_zero c.sum) (λ c. squared_distance w.lqd c.sum) lt (λ x. sub binary64 x w.tolerance) s (record { at = p; sum = g })
 
 abbrev pub try_read : Walk → State → Vec ℕ → Read State
 try_read w s p =
@@ -95,8 +101,14 @@ read_each f (p ∷ l) = f p then λ s. read_each f l then λ r. got (s ∷ r)
 -- ---- as the outputs hold them
 abbrev pub places_of : State → List ℤ
 places_of start = negsuc 0 ∷ negsuc 0 ∷ negsuc 0 ∷ []
-places_of (left x c) = items (map_vec pos c)
-places_of (closed c) = items (map_vec pos c)
+places_of (left x c) = items (map_vec pos c.at)
+places_of (closed c) = items (map_vec pos c.at)
+
+-- the cell of the sum, on the grid of d
+abbrev pub cells_of : Vec ℕ → State → List ℤ
+cells_of d start = negsuc 0 ∷ negsuc 0 ∷ negsuc 0 ∷ []
+cells_of d (left x c) = items (cell d c.sum)
+cells_of d (closed c) = items (cell d c.sum)
 
 -- 1 closed, 0 a length left over, -1 no choice
 abbrev pub mark_of : State → ℤ
@@ -109,9 +121,17 @@ length_of start = of_int binary64 (pos 0)
 length_of (left x c) = x
 length_of (closed c) = of_int binary64 (pos 0)
 
+-- three numbers of each
+abbrev pub by_threes : (State → List ℤ) → List State → List ℤ
+by_threes f [] = []
+by_threes f (s ∷ l) = f s ++ by_threes f l
+
 abbrev pub triplet_list : List State → List ℤ
-triplet_list [] = []
-triplet_list (s ∷ l) = places_of s ++ triplet_list l
+triplet_list l = by_threes places_of l
+
+unfoldable pub cell_list : Vec ℕ → List State → List ℤ
+unfolding cell
+cell_list d l = by_threes (cells_of d) l
 
 abbrev pub marks : List State → List ℤ
 marks l = map_list mark_of l
@@ -125,12 +145,12 @@ is_dense (Ok Sparse) = false
 is_dense (Ok Dense) = true
 is_dense (Err r) = false
 
-module _ (q0 : ℤ) (addresses classes d : List ℤ) (q : List (List ℤ)) (lattice : List (List Float)) (t : ℤ) (n m l : ℕ) where
-  -- the three outputs have n, m and l places; the layout of the tables, where the tests pass
+module _ (q0 : ℤ) (addresses classes d : List ℤ) (q : List (List ℤ)) (lattice : List (List Float)) (t : ℤ) (n m l c : ℕ) where
+  -- the four outputs have n, m, l and c places; the layout of the tables, where the tests pass
   unfoldable pub input_tests : Result GridType Refusal
   input_tests =
       let own = own_places classes (length classes) in
-      require (whole_addresses addresses && (eqb n (own * 3) && (eqb m own && eqb l own))) WrongLength
+      require (whole_addresses addresses && (eqb n (own * 3) && (eqb m own && (eqb l own && eqb c (own * 3))))) WrongLength
       (require (diagonal_fits d && (matrix_within 1000 (matrix_of q) && lattice_fits (float_matrix lattice))) OutsideLimits
       (require (is_dense (grid_type_of t) || point_fits q0 (pos (size (sides_of d)))) OutsideLimits (grid_type_of t)))
 
@@ -155,6 +175,7 @@ pub record BzTriplets : Type 0 where
   pub out : List ℤ
   pub left : List ℤ
   pub left_length : List Float
+  pub cells : List ℤ
 
 module _ (q0 : ℤ) (addresses map classes d : List ℤ) (q : List (List ℤ)) (lattice : List (List Float)) (t : ℤ) where
   -- what a call reads whose tests pass
@@ -162,16 +183,17 @@ module _ (q0 : ℤ) (addresses map classes d : List ℤ) (q : List (List ℤ)) (
   unfolding triplets_read
   states_read = list_of (grid_type_of t then triplets_read q0 addresses map classes d q lattice)
 
-  module _ (n m l : ℕ) where
+  module _ (n m l c : ℕ) where
     unfoldable pub triplet_tests : Tested
     unfolding input_tests triplets_read
-    triplet_tests = input_tests q0 addresses classes d q lattice t n m l then λ k. triplets_read q0 addresses map classes d q lattice k then λ _. Accepted
+    triplet_tests = input_tests q0 addresses classes d q lattice t n m l c then λ k. triplets_read q0 addresses map classes d q lattice k then λ _. Accepted
 
     unfoldable pub bz_triplets_at_q : BzTriplets
-    unfolding triplet_tests states_read
+    unfolding triplet_tests states_read cell_list
     bz_triplets_at_q = record {
       answer = triplet_tests;
       out = output_of triplet_tests n (triplet_list states_read);
       left = output_of triplet_tests m (marks states_read);
       left_length = filled_or (of_int binary64 (negsuc 0)) triplet_tests l (lengths states_read);
+      cells = output_of triplet_tests c (cell_list (sides_of d) states_read);
     }

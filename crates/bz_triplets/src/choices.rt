@@ -26,10 +26,12 @@ pub enum Step {
 pub struct Triplet {
     pub step: Step,
     pub choice: Choice,
+    // Of the addresses of the choice.
+    pub sum: Sum,
 }
 
 // Of three addresses.
-type Sum = Bounded<30000000000000>;
+pub type Sum = Bounded<30000000000000>;
 
 // How lengths are measured: lattice · Q · diag(1 / d) by rows, and the tolerance.
 #[derive(Clone, Copy)]
@@ -83,6 +85,7 @@ fn with_sum(t: Triplet, choice: Choice, g: Sum, m: Measure) -> Triplet
         return Triplet {
             step: Step::Closed,
             choice,
+            sum: g,
         };
     }
     let d2 = squared_distance(g, m.lqd);
@@ -90,6 +93,7 @@ fn with_sum(t: Triplet, choice: Choice, g: Sum, m: Measure) -> Triplet
         return Triplet {
             step: Step::Left(d2),
             choice,
+            sum: g,
         };
     }
     t
@@ -144,6 +148,7 @@ pub fn search_choices(
             y: none,
             z: none,
         },
+        sum: Sum { v: [0, 0, 0] },
     };
     if q0.count == 0 || q1.count == 0 || q2.count == 0 {
         return Ok(found);

@@ -7,7 +7,7 @@ ghost use Rattle.grgrid.specs.Own.{own_points};
 ghost use Rattle.grgrid.specs.Sides.{sides};
 ghost use Rattle.bztable.specs.Access.{image_places};
 ghost use Rattle.bztable.specs.Reading.{got, vector_read};
-ghost use Rattle.bz_triplets.specs.BzTriplets.{chosen, first_of, triplet_of, read_each, places_of};
+ghost use Rattle.bz_triplets.specs.BzTriplets.{chosen, first_of, triplet_of, read_each, places_of, cells_of, cell_list};
 ghost use Rattle.bz_triplets.specs.BzTriplets.{mark_of, length_of, triplet_list, marks, lengths};
 ghost use Rattle.bz_triplets.specs.Code.TripletsView.{state_of, state_read, places_listed, walk_by, step_place, RoomFor};
 
@@ -18,7 +18,7 @@ use bzgrid::GridType;
 use bztable::reading;
 use bztable::reading::Table;
 use common::Refusal;
-use grgrid::Address;
+use grgrid::{Address, Grid};
 
 // ---- the images of a point
 
@@ -77,7 +77,7 @@ fn triplet_of(
 {
     let a1 = first_of(table, q1.at)?;
     let q2 = Place {
-        at: grgrid::grid_index_from_address(triplet_grid::third(a0, a1), table.g),
+        at: grgrid::fold_address(triplet_grid::third(a0, a1), table.g).index,
     };
     chosen(table, q0, q1, q2, m)
 }
@@ -125,6 +125,24 @@ fn store_places(out: &mut [i64], at: usize, t: Triplet)
     out[at * 3 + 2] = place_of(s, c.z);
 }
 
+// The cell of the triplet's sum.
+fn cell_of(t: Triplet, g: Grid) -> [i64; 3]
+    ensures { result ≡ cells_of (sides g) (state_of t) }
+{
+    match t.step {
+        Step::Closed | Step::Left(_) => grgrid::fold_address(t.sum.v, g).cell,
+        Step::Empty => [-1, -1, -1],
+    }
+}
+
+// The cell of triplet `at`.
+fn store_cell(out: &mut [i64], at: usize, t: Triplet, g: Grid)
+    requires { at * 3 + 3 ≤ length out.old }
+    ensures { out.new ≡ take (at * 3) out.old ++ (cells_of (sides g) (state_of t) ++ drop (at * 3 + 3) out.old) }
+{
+    out[at * 3..at * 3 + 3].copy_from_slice(&cell_of(t, g));
+}
+
 // A triplet for each entry of the class map that equals its own place, from the lowest up.
 pub fn fill_triplets(
     table: &Table,
@@ -135,8 +153,9 @@ pub fn fill_triplets(
     out: &mut [i64],
     left: &mut [i64],
     left_length: &mut [f64],
+    cells: &mut [i64],
 ) -> Result<(), Refusal>
-    requires { RoomFor class_map.now (length out.old) (length left.old) (length left_length.old) }
+    requires { RoomFor class_map.now (length out.old) (length left.old) (length left_length.old) (length cells.old) }
     ensures out_after { let w = walk_by m table.now.addresses.now in
         let f = triplet_of table.now.t (sides table.now.g) table.now.map.now w (vector_of a0.v) q0.at in
         giving result out.new ≡ (read_each f (own_points class_map.now (length class_map.now)) then λ l. got (triplet_list l)) }
@@ -146,6 +165,10 @@ pub fn fill_triplets(
     ensures left_length_after { let w = walk_by m table.now.addresses.now in
         let f = triplet_of table.now.t (sides table.now.g) table.now.map.now w (vector_of a0.v) q0.at in
         giving result left_length.new ≡ (read_each f (own_points class_map.now (length class_map.now)) then λ l. got (lengths l)) }
+    ensures cells_after { let w = walk_by m table.now.addresses.now in
+        let f = triplet_of table.now.t (sides table.now.g) table.now.map.now w (vector_of a0.v) q0.at in
+        let d = sides table.now.g in
+        giving result cells.new ≡ (read_each f (own_points class_map.now (length class_map.now)) then λ l. got (cell_list d l)) }
 {
     let mut at = 0;
     for (q1, class) in class_map.iter().enumerate() {
@@ -154,6 +177,7 @@ pub fn fill_triplets(
             store_places(&mut *out, at, found);
             left[at] = mark_of(found);
             left_length[at] = length_of(found);
+            store_cell(&mut *cells, at, found, table.g);
             at += 1;
         }
     }

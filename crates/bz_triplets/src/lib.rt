@@ -56,13 +56,23 @@ fn measure_of(lattice: [[f64; 3]; 3], q: [[i64; 3]; 3], d: [i64; 3]) -> Measure
     }
 }
 
-fn lengths_fit(addresses: &[i64], own: usize, triplets: usize, left: usize, lengths: usize) -> bool
-    ensures { result ≡ whole_addresses addresses.now && (eqb triplets (own * 3) && (eqb left own && eqb lengths own)) }
+// The lengths of the four outputs.
+#[derive(Clone, Copy)]
+struct Rooms {
+    triplets: usize,
+    left: usize,
+    lengths: usize,
+    cells: usize,
+}
+
+fn lengths_fit(addresses: &[i64], own: usize, r: Rooms) -> bool
+    ensures { result ≡ whole_addresses addresses.now && (eqb r.triplets (own * 3) && (eqb r.left own && (eqb r.lengths own && eqb r.cells (own * 3)))) }
 {
     reading::whole_addresses(addresses)
-        && common::is_thrice(triplets, own)
-        && left == own
-        && lengths == own
+        && common::is_thrice(r.triplets, own)
+        && r.left == own
+        && r.lengths == own
+        && common::is_thrice(r.cells, own)
 }
 
 fn limits_fit(d: [i64; 3], q: [[i64; 3]; 3], lattice: [[f64; 3]; 3]) -> bool
@@ -94,19 +104,11 @@ fn input_tests(
     q: [[i64; 3]; 3],
     lattice: [[f64; 3]; 3],
     bz_grid_type: i64,
-    triplets: usize,
-    left: usize,
-    lengths: usize,
+    r: Rooms,
 ) -> Result<GridType, Refusal>
-    ensures { result ≡ input_tests q0 addresses.now class_map.now d q lattice bz_grid_type triplets left lengths }
+    ensures { result ≡ input_tests q0 addresses.now class_map.now d q lattice bz_grid_type r.triplets r.left r.lengths r.cells }
 {
-    if !lengths_fit(
-        addresses,
-        grgrid::own_places(class_map),
-        triplets,
-        left,
-        lengths,
-    ) {
+    if !lengths_fit(addresses, grgrid::own_places(class_map), r) {
         return Err(Refusal::WrongLength);
     }
     if !limits_fit(d, q, lattice) {
@@ -126,7 +128,7 @@ fn point_of(t: GridType, g: Grid, q0: i64, a0: [i64; 3]) -> usize
 {
     match t {
         GridType::Sparse => q0 as usize,
-        GridType::Dense => grgrid::grid_index_from_address(a0, g),
+        GridType::Dense => grgrid::fold_address(a0, g).index,
     }
 }
 
@@ -143,29 +145,27 @@ fn triplet_tests(
     out: &mut [i64],
     left: &mut [i64],
     left_length: &mut [f64],
+    cells: &mut [i64],
 ) -> Result<(), Refusal>
     ensures value { let n = length out.old in
         let m = length left.old in
         let l = length left_length.old in
-        result ≡ triplet_tests q0 addresses.now map.now class_map.now d q lattice bz_grid_type n m l }
+        let k = length cells.old in
+        result ≡ triplet_tests q0 addresses.now map.now class_map.now d q lattice bz_grid_type n m l k }
     ensures chosen { let n = length out.old in
         let m = length left.old in
         let l = length left_length.old in
-        let o : BzTriplets = record { answer = Accepted; out = out.new; left = left.new; left_length = left_length.new } in
-        IfOk result (λ _. o ≡ bz_triplets_at_q q0 addresses.now map.now class_map.now d q lattice bz_grid_type n m l) }
+        let k = length cells.old in
+        let o : BzTriplets = record { answer = Accepted; out = out.new; left = left.new; left_length = left_length.new; cells = cells.new } in
+        IfOk result (λ _. o ≡ bz_triplets_at_q q0 addresses.now map.now class_map.now d q lattice bz_grid_type n m l k) }
 {
-    let t = input_tests(
-        q0,
-        addresses,
-        class_map,
-        d,
-        q,
-        lattice,
-        bz_grid_type,
-        out.len(),
-        left.len(),
-        left_length.len(),
-    )?;
+    let r = Rooms {
+        triplets: out.len(),
+        left: left.len(),
+        lengths: left_length.len(),
+        cells: cells.len(),
+    };
+    let t = input_tests(q0, addresses, class_map, d, q, lattice, bz_grid_type, r)?;
     let g = grgrid::grid_of(d);
     let table = Table {
         t,
@@ -186,11 +186,12 @@ fn triplet_tests(
         out,
         left,
         left_length,
+        cells,
     )
 }
 
 // A triplet of images (q0, q1, q2) with q0 + q1 + q2 = G for each class: `class_map` has the classes that `ir_triplets_at_q` left. Beside it stands whether its
-// sum closed, or the squared length that is left over.
+// sum closed, or the squared length that is left over, and the cell of the sum, by the quotients of G by the diagonal.
 pub fn bz_triplets_at_q(
     q0: i64,
     addresses: &[i64],
@@ -203,12 +204,14 @@ pub fn bz_triplets_at_q(
     out: &mut [i64],
     left: &mut [i64],
     left_length: &mut [f64],
+    cells: &mut [i64],
 ) -> Result<(), Refusal>
     ensures { let n = length out.old in
         let m = length left.old in
         let l = length left_length.old in
-        let o : BzTriplets = record { answer = result; out = out.new; left = left.new; left_length = left_length.new } in
-        o ≡ bz_triplets_at_q q0 addresses.now map.now class_map.now d q lattice bz_grid_type n m l }
+        let k = length cells.old in
+        let o : BzTriplets = record { answer = result; out = out.new; left = left.new; left_length = left_length.new; cells = cells.new } in
+        o ≡ bz_triplets_at_q q0 addresses.now map.now class_map.now d q lattice bz_grid_type n m l k }
 {
     let answer = triplet_tests(
         q0,
@@ -222,11 +225,13 @@ pub fn bz_triplets_at_q(
         &mut *out,
         &mut *left,
         &mut *left_length,
+        &mut *cells,
     );
     if answer.is_err() {
         out.fill(-1);
         left.fill(-1);
         left_length.fill(-1.0);
+        cells.fill(-1);
     }
     answer
 }

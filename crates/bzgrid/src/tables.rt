@@ -219,7 +219,7 @@ pub fn place_images(addresses: &[i64], g: Grid, map: &mut [i64])
 {
     // By index: for chunks_exact the proof needs three lemmas on what is left of the list, as job's put_triplets does; for row_at none.
     for k in 0..addresses.len() / 3 {
-        let at = grgrid::grid_index_from_address(common::row_at(addresses, 3 * k), g);
+        let at = grgrid::fold_address(common::row_at(addresses, 3 * k), g).index;
         map[at] = k as i64;
     }
 }

@@ -18,12 +18,14 @@ use Rattle.bzgrid.specs.BzGridAddresses.{table_of, map_of, all_found, padded}
 use Rattle.bztable.specs.Access.{image_places, ImageAt}
 use Rattle.bztable.specs.Reading.{got, triple_at, place_at}
 use Rattle.bzsearch.proofs.Listing.{map-apart}
-use Rattle.bztable.proofs.TableRead.{place-read, address-reads, point-reads, found, places_of, places-are, read-places, place-below, place_found}
+use Rattle.bztable.proofs.TableRead.{place-read, address-reads, point-reads, found, places_of, places-are, told-within, read-places, place-below, place_found}
 
 -- ---- a table of m places that stands for a list of images a point: addresses, map, points
 pub record Stands (t : GridType) (n : ℕ) (g : ℕ → List (Vec ℤ)) (addresses map points : List ℤ) (m : ℕ) : Type 0 where
   pub places : ℕ → List ℕ
   pub counted : (p : ℕ) → p < n → image_places t map n p ≡ got (places p)
+  -- the map tells the places of no other point
+  pub within : (p : ℕ) {l : List ℕ} → image_places t map n p ≡ got l → p < n
   -- the addresses at the places of a point are its images, in order
   pub reads : (p : ℕ) → p < n → map_list (triple_at addresses) (places p) ≡ g p
   -- and the table of points names it there
@@ -67,6 +69,7 @@ module _ (d : Vec ℕ) (g : ℕ → List (Vec ℤ)) (t : GridType) (some : T (al
   table-stands = record {
     places = places_of t (named g) n;
     counted = places-are t d (named g) (replicate (b - length (map_of t d (named g))) (negsuc 0)) each few;
+    within = λ p {l} e. told-within t d (named g) (b - length (map_of t d (named g))) p e;
     reads = λ p l.
         read-places (named g) n each (triple_at (padded (address_list table) a)) (λ x. x.address) t (address-reads table (replicate (a - length (address_list table)) (negsuc 0))) p l
         ∙ map-map (λ x. x.address) (image_of p) (g p) ∙ map-id (g p);

@@ -10,9 +10,9 @@ use Prim.Native.Nat.{ℕ, zero, suc, ◌+◌, ◌*◌, ◌-◌, ◌≤◌, ◌<�
 use native.Mathlib.Nat.{zero-add, le_refl, lt_trans, add_assoc, le_of_suc-le-suc, not-suc-le-zero, eq-or-lt_of_le, add-zero}
 use native.Mathlib.Numerals.{add-one}
 use native.Mathlib.Omega.{arith}
-use lib.Dec.{T, eqb, leb, ltb, le→leb, lt→ltb}
+use lib.Dec.{T, eqb, leb, ltb, le→leb, lt→ltb, ltb→lt, ltb→lt}
 use lib.IntN.{ℤ, pos, negsuc}
-use lib.ListN.{length, get_or, set, replicate, take, length-append, length-set, length-replicate, get_or-append, take-append-drop}
+use lib.ListN.{length, get_or, set, replicate, take, length-append, length-set, length-replicate, get_or-append, get_or-replicate, take-append-drop}
 use lib.Seq.{get_or-append-add}
 use Rattle.integer.proofs.Test.{and_l, and_r, is_true}
 use Rattle.common.specs.Matrix.{Vec}
@@ -160,6 +160,9 @@ module _ (d : Vec ℕ) (g : ℕ → List Image) (r : List ℤ) where
   mesh-full : length mesh ≡ 8 * size d
   mesh-full = length-placed d 0 (sparse g (size d)) (replicate (empty d) (pos (empty d))) ∙ length-replicate (empty d) (pos (empty d))
 
+  pub sparse-length : length (sparse_map d g) ≡ 8 * size d + (size d + 1)
+  sparse-length = omega (arith, mesh-full, length-append mesh counts, length-numbers (λ i. pos (length (concat (others g) i))) 0 (size d + 1))
+
   pub sparse-room : 8 * size d + (size d + 1) ≤ length (sparse_map d g ++ r)
   sparse-room =
       omega (
@@ -222,6 +225,49 @@ module _ (map : List ℤ) (n p : ℕ) {l : List ℕ} where
       let r = passes-first (run_of Sparse map n p) _ e in
       subst (λ l. 0 < length l → i ∈ l) (same-ok r.2) (λ h. subst (λ i. i ∈ in_order Sparse p r.0) (same-ok f) (listed-first p r.0.from _ h)) h
   first-stands Dense e h f = let r = dense-first e in subst (λ i. i ∈ l) (same-ok (sym r.1 ∙ f)) (r.2 h)
+
+-- ---- no other point has places
+place-inside : (l : List ℤ) (i : ℕ) {n : ℕ} → place_at l i ≡ got n → i < length l
+place-inside l i e = ltb→lt i (length l) (go (ltb i (length l)) (get_or l i (pos 0)) (passes-first (inside (ltb i (length l)) (get_or l i (pos 0))) place_of e).1)
+  where
+    go : (t : Bool) (z : ℤ) {w : ℤ} → inside t z ≡ got w → T t
+    go true z e = tt
+    go false z e = absurd (refused-not-ok e)
+
+low-or : (p n : ℕ) → (n ≤ p → ⊥) → p < n
+low-or p n f = ⊎_elim (λ h. h) (λ h. absurd (f h)) (below p n)
+
+-- -1 is no number of a map
+past-map : (l : List ℤ) (k i : ℕ) → length l ≤ i → {n : ℕ} → place_at (l ++ replicate k (negsuc 0)) i ≡ got n → ⊥
+past-map l k i h {n} e = not-natural (sym blank ∙ place-got (l ++ replicate k (negsuc 0)) i e)
+  where
+    not-natural : negsuc 0 ≡ pos n → ⊥
+    not-natural e = cc
+
+    below : i - length l < k
+    below = omega (arith, h, place-inside (l ++ replicate k (negsuc 0)) i e, length-append l (replicate k (negsuc 0)), length-replicate k (negsuc 0))
+
+    split : i ≡ length l + (i - length l)
+    split = omega (arith, h)
+
+    blank : get_or (l ++ replicate k (negsuc 0)) i (pos 0) ≡ negsuc 0
+    blank =
+        ap (λ i. get_or (l ++ replicate k (negsuc 0)) i (pos 0)) split ∙ get_or-append-add l (replicate k (negsuc 0)) (i - length l) (pos 0)
+        ∙ get_or-replicate k (i - length l) (negsuc 0) (pos 0) below
+
+pub told-within : (t : GridType) (d : Vec ℕ) (g : ℕ → List Image) (k p : ℕ) {l : List ℕ} → image_places t (map_of t d g ++ replicate k (negsuc 0)) (size d) p ≡ got l → p < size d
+told-within Sparse d g k p e =
+    let m = sparse_map d g in
+    let r = passes-first (run_of Sparse (m ++ replicate k (negsuc 0)) (size d) p) _ e in
+    let s = passes-first (place_at (m ++ replicate k (negsuc 0)) (8 * size d + p)) _ r.1 in
+    let u = passes-first (place_at (m ++ replicate k (negsuc 0)) (8 * size d + p + 1)) _ s.2 in
+    low-or p (size d) (λ h. past-map m k (8 * size d + p + 1) (omega (arith, h, sparse-length d g [])) u.1)
+told-within Dense d g k p e =
+    let m = dense_map g (size d) in
+    let r = passes-first (run_of Dense (m ++ replicate k (negsuc 0)) (size d) p) _ e in
+    let s = passes-first (place_at (m ++ replicate k (negsuc 0)) p) _ r.1 in
+    let u = passes-first (place_at (m ++ replicate k (negsuc 0)) (p + 1)) _ s.2 in
+    low-or p (size d) (λ h. past-map m k (p + 1) (omega (arith, h, length-numbers (λ i. pos (length (concat g i))) 0 (size d + 1))) u.1)
 
 -- ---- a table
 module _ (g : ℕ → List Image) (n : ℕ) (some : (p : ℕ) → p < n → 0 < length (g p)) where

@@ -28,10 +28,10 @@ fn sparse_neighbour(table: &Table, b: [i64; 3]) -> Result<usize, Refusal>
 {
     let g = table.g;
     let mesh = bzgrid::doubled(g);
-    let at = grgrid::grid_index_from_address(b, mesh);
+    let at = grgrid::fold_address(b, mesh).index;
     let i = reading::place_at(table.map, at)?;
     if i == 8 * grgrid::points(g) {
-        return Ok(grgrid::grid_index_from_address(b, g));
+        return Ok(grgrid::fold_address(b, g).index);
     }
     Ok(i)
 }
@@ -52,7 +52,7 @@ fn dense_neighbour(table: &Table, b: [i64; 3]) -> Result<usize, Refusal>
     ensures value { result ≡ dense_neighbour (sides table.now.g) table.now.addresses.now table.now.map.now (vector_of b) }
     ensures below { IfOk result (λ p. p < 2199023255552) }
 {
-    let p = grgrid::grid_index_from_address(b, table.g);
+    let p = grgrid::fold_address(b, table.g).index;
     let r = reading::bounded(table.map, p, 0)?;
     image_among(table, b, r.from, r.to)
 }

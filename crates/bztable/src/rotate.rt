@@ -94,7 +94,7 @@ fn among_images(table: &Table, a: [i64; 3], p: usize) -> Result<Option<usize>, R
 fn image_of(table: &Table, a: [i64; 3]) -> Result<Rotated, Refusal>
     ensures { result ≡ image_of table.now.t (sides table.now.g) table.now.addresses.now table.now.map.now (vector_of a) }
 {
-    let p = grgrid::grid_index_from_address(a, table.g);
+    let p = grgrid::fold_address(a, table.g).index;
     match among_images(table, a, p)? {
         Some(i) => Ok(Rotated::Image(i as i64)),
         None => Ok(Rotated::Fallback(reading::place_at(table.map, p)? as i64)),

@@ -18,7 +18,7 @@ use Rattle.common.specs.Matrix.{Vec, Mat, ◌·◌, identity, inversion, map_mat
 use Rattle.common.specs.Array.{items, rows, matrix_of, matrices, flat}
 use Rattle.common.specs.IntegerMatrix.{product_fits, det_fits}
 use Rattle.common.proofs.Unimodular.{Unimodular}
-use Rattle.grgrid.specs.Grid.{index}
+use Rattle.grgrid.specs.Grid.{index, cell}
 use Rattle.grgrid.proofs.MatrixGroup.{MatrixGroup}
 use Rattle.recip_rotations.specs.PointGroup.{with_negatives, get_reciprocal_point_group}
 use Rattle.recip_rotations.proofs.Told.{joined-group}
@@ -129,14 +129,19 @@ classifies = (refl, refl, refl, refl)
 abbrev triplets : List ℤ
 triplets = pos 1 ∷ pos 0 ∷ pos 2 ∷ pos 1 ∷ pos 1 ∷ pos 1 ∷ []
 
+-- 1 1 1 has the sum (0,0,3)
+abbrev cells : List ℤ
+cells = pos 0 ∷ pos 0 ∷ pos 0 ∷ pos 0 ∷ pos 0 ∷ pos 1 ∷ []
+
 abbrev Chosen : ℤ → List ℤ → Type 0
 Chosen type map =
-    ((bz_triplets_at_q (pos 1) addresses map classes (items d) (rows q) lattice type 6 2 2).answer ≡ Accepted)
-    × (triplets ≡ (bz_triplets_at_q (pos 1) addresses map classes (items d) (rows q) lattice type 6 2 2).out)
+    ((bz_triplets_at_q (pos 1) addresses map classes (items d) (rows q) lattice type 6 2 2 6).answer ≡ Accepted)
+    × (triplets ≡ (bz_triplets_at_q (pos 1) addresses map classes (items d) (rows q) lattice type 6 2 2 6).out)
+    × (cells ≡ (bz_triplets_at_q (pos 1) addresses map classes (items d) (rows q) lattice type 6 2 2 6).cells)
 
 chooses : Chosen (pos 2) dense × Chosen (pos 1) sparse
-unfolding bz_triplets_at_q lqd_inv squared_distance bz_tolerance abs_of round add sub mul div lt le of_int of_bits
-chooses = ((refl, refl), (refl, refl))
+unfolding bz_triplets_at_q cell lqd_inv squared_distance bz_tolerance abs_of round add sub mul div lt le of_int of_bits
+chooses = ((refl, refl, refl), (refl, refl, refl))
 
 -- ---- the calls
 pub job : Calls
@@ -178,9 +183,12 @@ job = record {
   start = 1;
   starts = record { places = 1 ∷ []; read = refl; stands = here refl };
   triplets = triplets;
+  cells = cells;
   triplet-rooms = record { x = 6; y = 2; z = 2 };
+  cell-room = 6;
   chooses = chooses.0.0;
   chooses-to = chooses.0.1;
+  tells-cells = chooses.0.2;
 }
 
 pub sparse-job : Calls
@@ -222,7 +230,10 @@ sparse-job = record {
   start = 1;
   starts = refl;
   triplets = triplets;
+  cells = cells;
   triplet-rooms = record { x = 6; y = 2; z = 2 };
+  cell-room = 6;
   chooses = chooses.1.0;
   chooses-to = chooses.1.1;
+  tells-cells = chooses.1.2;
 }

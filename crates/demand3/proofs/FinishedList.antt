@@ -11,7 +11,7 @@ pub demand-3 : (c : Calls) → Demand3 c
 demand-3 c =
     let t = finished-triplets c (every-number c) in
     record {
-      every = record { full = every-number c; rising = lowest-rise c; as_many = t.0; best = t.1 };
+      every = record { full = every-number c; rising = lowest-rise c; as_many = t.0; cells_too = t.1; best = t.2 };
       true-classes = λ g. record { same_number = one_number c g; lowest = lowest-number c g; one_each = lowest-each c g };
     }
 

@@ -11,7 +11,7 @@ use Rattle.common.specs.Tested.{Accepted}
 use Rattle.common.specs.Array.{items, rows, matrices}
 use Rattle.float.specs.Rounding.{round_of, nint_of, floor_of, ceil_of, abs_of}
 use Rattle.float.specs.Sqrt.{root, sqrt_of}
-use Rattle.grgrid.specs.Grid.{index}
+use Rattle.grgrid.specs.Grid.{index, cell}
 use Rattle.grgrid.specs.MatrixGroup.{MatrixGroup}
 use Rattle.recip_rotations.specs.PointGroup.{with_negatives}
 use Rattle.bzgrid.specs.declared.Lengths.{Lengths}
@@ -55,10 +55,14 @@ classifies = (refl, refl)
 abbrev triplets : List ℤ
 triplets = pos 0 ∷ pos 0 ∷ pos 0 ∷ pos 0 ∷ pos 3 ∷ pos 2 ∷ []
 
-chooses : ((bz_triplets_at_q (pos 0) addresses map classes (items d) (rows q) lattice (pos 1) 6 2 2).answer ≡ Accepted)
-    × (triplets ≡ (bz_triplets_at_q (pos 0) addresses map classes (items d) (rows q) lattice (pos 1) 6 2 2).out)
-unfolding bz_triplets_at_q lqd_inv squared_distance bz_tolerance abs_of round add sub mul div lt le of_int of_bits
-chooses = (refl, refl)
+abbrev cells : List ℤ
+cells = replicate 6 (pos 0)
+
+chooses : ((bz_triplets_at_q (pos 0) addresses map classes (items d) (rows q) lattice (pos 1) 6 2 2 6).answer ≡ Accepted)
+    × (triplets ≡ (bz_triplets_at_q (pos 0) addresses map classes (items d) (rows q) lattice (pos 1) 6 2 2 6).out)
+    × (cells ≡ (bz_triplets_at_q (pos 0) addresses map classes (items d) (rows q) lattice (pos 1) 6 2 2 6).cells)
+unfolding bz_triplets_at_q cell lqd_inv squared_distance bz_tolerance abs_of round add sub mul div lt le of_int of_bits
+chooses = (refl, refl, refl)
 
 pub kept-job : Calls
 kept-job = record {
@@ -99,9 +103,12 @@ kept-job = record {
   start = 0;
   starts = refl;
   triplets = triplets;
+  cells = cells;
   triplet-rooms = record { x = 6; y = 2; z = 2 };
+  cell-room = 6;
   chooses = chooses.0;
   chooses-to = chooses.1;
+  tells-cells = chooses.2;
 }
 
 pub kept-conditions : MatrixGroup (with_negatives false (matrices returned))

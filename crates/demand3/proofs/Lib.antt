@@ -1,6 +1,9 @@
 pub mod TableWalks
 pub mod SumLengths
 pub mod AcceptedTriplets
+pub mod SumCells
+pub mod PickedPlaces
+pub mod WholeSums
 pub mod FinishedTriplets
 pub mod JoinedList
 pub mod FinishedClasses

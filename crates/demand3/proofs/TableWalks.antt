@@ -5,7 +5,7 @@ use mathlib.Core.List.{List, [], ◌∷◌, ◌++◌, foldl}
 use Prim.Native.Nat.{ℕ, zero, suc, ◌+◌, ◌*◌, ◌<◌}
 use native.Mathlib.Nat.{not-suc-le-zero, le_of_suc-le-suc}
 use native.Mathlib.Omega.{arith}
-use lib.IntN.{ℤ, pos, negsuc}
+use lib.IntN.{ℤ, pos}
 use lib.ListN.{length, get_or, length-append}
 use lib.Ieee.{Float, binary64, sub, lt}
 use Rattle.std.specs.Prelude.{Ok, Err}
@@ -19,30 +19,25 @@ use Rattle.bztable.specs.Reading.{Read, got, triple_at, address_at}
 use Rattle.bztable.specs.Access.{image_places}
 use Rattle.bztable.proofs.TableRead.{address-got}
 use Rattle.bz_triplets.specs.Choosing.{start, left, closed, tried, nested}
-use Rattle.bz_triplets.specs.BzTriplets.{squared_distance, sum_of, is_zero, State, Walk, tried_sum, try_read, try_at, chosen, read_each, places_of, triplet_list}
+use Rattle.bz_triplets.specs.BzTriplets.{squared_distance, sum_of, is_zero, Choice, State, Walk, tried_sum, try_read, try_at, chosen, read_each, by_threes}
 use Rattle.bz_triplets.proofs.Choosing.{choices, nested_is}
 
 -- ---- the walk over the choices
 module _ (w : Walk) where
-  abbrev pub sum_at : Vec ℕ → Vec ℤ
-  sum_at p = sum_of (triple_at w.addresses p.x) (triple_at w.addresses p.y) (triple_at w.addresses p.z)
+  abbrev pub choice_at : Vec ℕ → Choice
+  choice_at p = record { at = p; sum = sum_of (triple_at w.addresses p.x) (triple_at w.addresses p.y) (triple_at w.addresses p.z) }
 
-  abbrev pub closes_at : Vec ℕ → Bool
-  closes_at p = is_zero (sum_at p)
+  abbrev pub closes : Choice → Bool
+  closes c = is_zero c.sum
 
-  abbrev pub length_at : Vec ℕ → Float
-  length_at p = squared_distance w.lqd (sum_at p)
+  abbrev pub squared : Choice → Float
+  squared c = squared_distance w.lqd c.sum
 
   abbrev pub less_at : Float → Float
   less_at x = sub binary64 x w.tolerance
 
   abbrev pub step : State → Vec ℕ → State
-  step = tried closes_at length_at lt less_at
-
-  same_step : (s : State) (p : Vec ℕ) → step s p ≡ tried_sum w s p (sum_at p)
-  same_step start p = refl
-  same_step (left x b) p = refl
-  same_step (closed b) p = refl
+  step s p = tried closes squared lt less_at s (choice_at p)
 
   read_step : (s : State) (p : Vec ℕ) {r : State} → try_read w s p ≡ got r → step s p ≡ r
   read_step s p e =
@@ -52,7 +47,7 @@ module _ (w : Walk) where
       let a = address-got w.addresses p.x x.1 in
       let b = address-got w.addresses p.y y.1 in
       let c = address-got w.addresses p.z z.1 in
-      same_step s p ∙ (λ t. tried_sum w s p (sum_of (a t) (b t) (c t))) ∙ same-ok z.2
+      (λ t. tried_sum w s p (sum_of (a t) (b t) (c t))) ∙ same-ok z.2
 
   try-got : (r : Read State) (p : Vec ℕ) {u : State} → try_at w r p ≡ got u → (s : State) × (r ≡ got s) × (step s p ≡ u)
   unfolding try_at
@@ -83,41 +78,47 @@ module _ (w : Walk) where
       (subst (λ r. (r then λ y. image_places t map n v.z then λ z. nested (try_at w) (got start) (record { x = l.x; y = y; z = z })) ≡ got s) (h Y)
       (subst (λ r. (r then λ x. image_places t map n v.y then λ y. image_places t map n v.z then λ z. nested (try_at w) (got start) (record { x = x; y = y; z = z })) ≡ got s) (h X) e)))
 
--- ---- one triplet a class
-three-more : (a b c : ℤ) (l : List ℤ) (n : ℕ) → triple_at (a ∷ b ∷ c ∷ l) (suc n) ≡ triple_at l n
-three-more a b c l n = λ t. record { x = at (3 * suc n) (3 * n) (omega arith) t; y = at (3 * suc n + 1) (3 * n + 1) (omega arith) t; z = at (3 * suc n + 2) (3 * n + 2) (omega arith) t }
+-- ---- one state a point
+pub each-read : (f : ℕ → Read State) (l : List ℕ) {r : List State} → read_each f l ≡ got r
+    → (length r ≡ length l) × ((j : ℕ) → j < length l → f (get_or l j 0) ≡ got (get_or r j start))
+each-read f [] e = subst (λ r. (length r ≡ 0) × ((j : ℕ) → j < 0 → f 0 ≡ got (get_or r j start))) (same-ok e) (refl, λ j h. absurd (not-suc-le-zero h))
+each-read f (p ∷ l) e =
+    let s = passes-first (f p) _ e in
+    let u = passes-first (read_each f l) _ s.2 in
+    let k = each-read f l u.1 in
+    subst (λ r. (length r ≡ suc (length l)) × ((j : ℕ) → j < suc (length l) → f (get_or (p ∷ l) j 0) ≡ got (get_or r j start))) (same-ok u.2)
+    (ap suc k.0, at s.0 u.0 s.1 k.1)
+  where
+    at : (s : State) (r : List State) → f p ≡ got s → ((j : ℕ) → j < length l → f (get_or l j 0) ≡ got (get_or r j start))
+        → (j : ℕ) → j < suc (length l) → f (get_or (p ∷ l) j 0) ≡ got (get_or (s ∷ r) j start)
+    at s r e k zero h = e
+    at s r e k (suc j) h = k j (le_of_suc-le-suc h)
+
+-- ---- and three numbers a state
+triple-first : (x l : List ℤ) → length x ≡ 3 → triple_at (x ++ l) 0 ≡ vector_of x
+triple-first (a ∷ b ∷ c ∷ []) l e = refl
+triple-first [] l e = absurd (omega (arith, e))
+triple-first (a ∷ []) l e = absurd (omega (arith, e))
+triple-first (a ∷ b ∷ []) l e = absurd (omega (arith, e))
+triple-first (a ∷ b ∷ c ∷ d ∷ x) l e = absurd (omega (arith, e))
+
+triple-later : (x l : List ℤ) (n : ℕ) → length x ≡ 3 → triple_at (x ++ l) (suc n) ≡ triple_at l n
+triple-later (a ∷ b ∷ c ∷ []) l n e =
+    λ t. record { x = at (3 * suc n) (3 * n) (omega arith) t; y = at (3 * suc n + 1) (3 * n + 1) (omega arith) t; z = at (3 * suc n + 2) (3 * n + 2) (omega arith) t }
   where
     at : (i j : ℕ) → i ≡ suc (suc (suc j)) → get_or (a ∷ b ∷ c ∷ l) i (pos 0) ≡ get_or l j (pos 0)
     at i j e = ap (λ i. get_or (a ∷ b ∷ c ∷ l) i (pos 0)) e
+triple-later [] l n e = absurd (omega (arith, e))
+triple-later (a ∷ []) l n e = absurd (omega (arith, e))
+triple-later (a ∷ b ∷ []) l n e = absurd (omega (arith, e))
+triple-later (a ∷ b ∷ c ∷ d ∷ x) l n e = absurd (omega (arith, e))
 
-first-places : (s : State) (l : List ℤ) → triple_at (places_of s ++ l) 0 ≡ vector_of (places_of s)
-first-places start l = refl
-first-places (left x c) l = refl
-first-places (closed c) l = refl
+module _ (g : State → List ℤ) (three : (s : State) → length (g s) ≡ 3) where
+  pub threes-length : (r : List State) → length (by_threes g r) ≡ length r * 3
+  threes-length [] = refl
+  threes-length (s ∷ r) = omega (arith, length-append (g s) (by_threes g r), three s, threes-length r)
 
-later-places : (s : State) (l : List ℤ) (n : ℕ) → triple_at (places_of s ++ l) (suc n) ≡ triple_at l n
-later-places start l n = three-more (negsuc 0) (negsuc 0) (negsuc 0) l n
-later-places (left x c) l n = three-more (pos c.x) (pos c.y) (pos c.z) l n
-later-places (closed c) l n = three-more (pos c.x) (pos c.y) (pos c.z) l n
-
-three-places : (s : State) → length (places_of s) ≡ 3
-three-places start = refl
-three-places (left x c) = refl
-three-places (closed c) = refl
-
--- the triplets of the points l
-abbrev Lists : (ℕ → Read State) → List ℕ → List State → Type 0
-Lists f l r = (length (triplet_list r) ≡ length l * 3) × ((j : ℕ) → j < length l → (s : State) × (f (get_or l j 0) ≡ got s) × (triple_at (triplet_list r) j ≡ vector_of (places_of s)))
-
-pub each-got : (f : ℕ → Read State) (l : List ℕ) {r : List State} → read_each f l ≡ got r → Lists f l r
-each-got f [] e = subst (Lists f []) (same-ok e) (refl, λ j h. absurd (not-suc-le-zero h))
-each-got f (p ∷ l) {r} e =
-    let s = passes-first (f p) _ e in
-    let u = passes-first (read_each f l) _ s.2 in
-    let k = each-got f l u.1 in
-    subst (Lists f (p ∷ l)) (same-ok u.2) (omega (arith, length-append (places_of s.0) (triplet_list u.0), three-places s.0, k.0), at s.0 u.0 s.1 k.1)
-  where
-    at : (s : State) (r : List State) → f p ≡ got s → ((j : ℕ) → j < length l → (s : State) × (f (get_or l j 0) ≡ got s) × (triple_at (triplet_list r) j ≡ vector_of (places_of s)))
-        → (j : ℕ) → j < suc (length l) → (u : State) × (f (get_or (p ∷ l) j 0) ≡ got u) × (triple_at (places_of s ++ triplet_list r) j ≡ vector_of (places_of u))
-    at s r e k zero h = (s, e, first-places s (triplet_list r))
-    at s r e k (suc j) h = let u = k j (le_of_suc-le-suc h) in (u.0, u.1, later-places s (triplet_list r) j ∙ u.2)
+  pub threes-item : (r : List State) (j : ℕ) → j < length r → triple_at (by_threes g r) j ≡ vector_of (g (get_or r j start))
+  threes-item [] j h = absurd (not-suc-le-zero h)
+  threes-item (s ∷ r) zero h = triple-first (g s) (by_threes g r) (three s)
+  threes-item (s ∷ r) (suc j) h = triple-later (g s) (by_threes g r) j (three s) ∙ threes-item r j (le_of_suc-le-suc h)

@@ -1,6 +1,6 @@
 -- Demand 3: what holds of the finished list that diagonalising, transforming, images, classes and triplets leave, each accepted and each given what
 -- those before it left. The theorem is `demand-3` of proofs/FinishedList.
-use Rattle.std.specs.Prelude.{◌≡◌, ◌↔◌, Bool, List, ℕ, ◌*◌, ◌<◌, T, ℤ, pos, length, get_or, take, Float, Ok}
+use Rattle.std.specs.Prelude.{◌≡◌, ◌↔◌, Bool, List, ℕ, ◌*◌, ◌<◌, T, ℤ, pos, ◌*ℤ◌, length, get_or, take, Float, Ok}
 use Rattle.std.specs.Float.{binary64}
 use Rattle.std.specs.Float.Ieee.{sub, le}
 use Rattle.common.specs.Tested.{Accepted}
@@ -87,11 +87,15 @@ pub record Calls : Type 0 where
   pub start : ℕ
   pub starts : Starts kind map (size (sides_of (items d))) q0 start
   pub triplets : List ℤ
+  pub cells : List ℤ
   pub triplet-rooms : Vec ℕ
+  pub cell-room : ℕ
   pub chooses : (bz_triplets_at_q (pos start) addresses map classes (items d) (rows q) lattice type
-      triplet-rooms.x triplet-rooms.y triplet-rooms.z).answer ≡ Accepted
+      triplet-rooms.x triplet-rooms.y triplet-rooms.z cell-room).answer ≡ Accepted
   pub chooses-to : triplets ≡ (bz_triplets_at_q (pos start) addresses map classes (items d) (rows q) lattice type
-      triplet-rooms.x triplet-rooms.y triplet-rooms.z).out
+      triplet-rooms.x triplet-rooms.y triplet-rooms.z cell-room).out
+  pub tells-cells : cells ≡ (bz_triplets_at_q (pos start) addresses map classes (items d) (rows q) lattice type
+      triplet-rooms.x triplet-rooms.y triplet-rooms.z cell-room).cells
 
 -- ---- the finished list
 module _ (c : Calls) where
@@ -144,10 +148,12 @@ module _ (c : Calls) where
   abbrev pub at : Vec ℕ → Vec (Vec ℤ)
   at i = map_vec (triple_at c.addresses) i
 
-  -- a triplet of image indices for the class of q1
-  pub record Best (q1 : ℕ) (i : Vec ℕ) : Type 0 where
+  -- a triplet of image indices for the class of q1, whose sum lies in cell g
+  pub record Best (q1 : ℕ) (i : Vec ℕ) (g : Vec ℤ) : Type 0 where
     pub stands : (k : Axis) → ImageAt c.kind c.map points (side (trio q1) k) (side i k)
     pub choice : Choice q1 (at i)
+    -- the sum is the cell times the diagonal
+    pub whole : (k : Axis) → side (sum (at i)) k ≡ side g k *ℤ pos (side grid k)
     -- it sums to zero if any choice does
     pub closes : (a : Vec (Vec ℤ)) → Choice q1 a → sum a ≡ origin → sum (at i) ≡ origin
     -- else every choice has at least its squared length less the tolerance
@@ -159,9 +165,11 @@ module _ (c : Calls) where
     pub full : length c.classes ≡ points
     -- the lowest points rise
     pub rising : Rising lowest_points
-    -- and in their order each has one triplet
+    -- and in their order each has one triplet, with its cell
     pub as_many : length c.triplets ≡ length lowest_points * 3
-    pub best : (j : ℕ) → j < length lowest_points → (i : Vec ℕ) × (triple_at c.triplets j ≡ map_vec pos i) × Best (get_or lowest_points j 0) i
+    pub cells_too : length c.cells ≡ length lowest_points * 3
+    pub best : (j : ℕ) → j < length lowest_points
+        → (i : Vec ℕ) × (triple_at c.triplets j ≡ map_vec pos i) × Best (get_or lowest_points j 0) i (triple_at c.cells j)
 
   -- ---- and where the list of rotations is a group
   pub record TrueClasses : Type 0 where

@@ -1,1 +1,2 @@
 pub mod FinishedList
+pub mod WholeSums

@@ -57,13 +57,13 @@ module _ (c : Calls) where
     inside = subst (λ n. p < n) (every-number c) own
 
     -- an image index of the tables has at most ten digits
-    image-low : {i : Vec ℕ} → Best c p i → (k : Axis) → side i k < 10000000000
+    image-low : {i : Vec ℕ} {g : Vec ℤ} → Best c p i g → (k : Axis) → side i k < 10000000000
     image-low b k = omega (arith, best-inside c p inside b k, call-total (built c))
 
     small-row : SmallRow (row c.classes c.triplets r)
     unfolding row
     small-row =
-        let t = (finished-triplets c (every-number c)).1 r listed in
+        let t = (finished-triplets c (every-number c)).2 r listed in
         let i = t.0 in
         let f = few in
         let a = own in

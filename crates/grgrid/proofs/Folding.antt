@@ -1,16 +1,21 @@
 -- Index and address: they are inverse on the points of the grid, and two addresses have one index exactly if they agree modulo d.
 use mathlib.Core.Path.{◌≡◌, refl, sym, ◌∙◌, ap, subst}
-use lib.IntN.{ℤ, pos, negsuc, nat_abs}
+use mathlib.Core.List.{[], ◌∷◌}
+use lib.IntN.{ℤ, pos, negsuc, nat_abs, ◌+ℤ◌, ◌*ℤ◌}
 use Prim.Native.Nat.{ℕ, zero, ◌+◌, ◌*◌, ◌-◌, ◌/◌, ◌%◌, ◌<◌}
 use native.Mathlib.Nat.{mod-lt, mod-eq_of_lt, div-add-mod', add-mul-mod_self_right, mul-add-mod_self_right, div-eq_of_lt-le, div-lt_iff_lt-mul, mul-le-mul_right, mul-pos}
 use native.Mathlib.Omega.{arith}
-use Rattle.integer.specs.Division.{rem_euclid}
+use Rattle.integer.specs.Division.{div_euclid, rem_euclid}
 use Rattle.integer.specs.Divides.{Congruent}
-use Rattle.integer.proofs.Division.{rem-euclid-lt}
+use Rattle.integer.proofs.Division.{rem-euclid-lt, div-rem-euclid}
+use Rattle.integer.proofs.Reify.{ring, reify}
 use Rattle.integer.proofs.Congruence.{congruent-sym, congruent-trans, rem-congruent, same-rem}
-use Rattle.common.specs.Matrix.{Axis, X, Y, Z, Vec, side, vector, map_vec}
+use Rattle.common.specs.Matrix.{Axis, X, Y, Z, Vec, side, vector, map_vec, origin}
+use Rattle.common.specs.Array.{along, items}
 use Rattle.common.proofs.Matrix.{same-vector, side-vector}
-use Rattle.grgrid.specs.Grid.{size, fold, folded, place, index, digits, address}
+use Rattle.grgrid.specs.Grid.{size, fold, folded, place, index, cell, digits, address}
+use Rattle.grgrid.specs.Folding.{Exact}
+use Rattle.grgrid.specs.declared.Folded.{Folded}
 
 -- ---- the remainder that is never negative
 fold_is : (a : ℤ) (n : ℕ) → rem_euclid a (pos n) ≡ pos (fold a n)
@@ -19,6 +24,16 @@ fold_is (negsuc a) n = refl
 
 fold-congruent : (a : ℤ) (n : ℕ) → zero < n → Congruent (pos n) (pos (fold a n)) a
 fold-congruent a n h = subst (λ r. Congruent (pos n) r a) (fold_is a n) (rem-congruent (pos n) h a)
+
+part : (a : ℤ) (n : ℕ) → zero < n → a ≡ div_euclid a (pos n) *ℤ pos n +ℤ pos (fold a n)
+part a n h = sym (div-rem-euclid a (pos n) h) ∙ ap (λ r. div_euclid a (pos n) *ℤ pos n +ℤ r) (fold_is a n)
+
+plus-zero : (z : ℤ) → z +ℤ pos 0 ≡ z
+plus-zero z = ring (z ∷ []) (search reify depth 40) tt
+
+-- of a multiple nothing is left
+none : (a : ℤ) (n : ℕ) → zero < n → {z : ℤ} → z ≡ pos 0 → Congruent (pos n) a z → a ≡ div_euclid a (pos n) *ℤ pos n
+none a n h e c = sym (div-rem-euclid a (pos n) h) ∙ ap (λ r. div_euclid a (pos n) *ℤ pos n +ℤ r) (same-rem (pos n) h c ∙ ap (λ z. rem_euclid z (pos n)) e ∙ ap pos (mod-eq_of_lt h)) ∙ plus-zero (div_euclid a (pos n) *ℤ pos n)
 
 -- ---- remainders and their place
 pub record Sides (d : Vec ℕ) : Type 0 where
@@ -121,3 +136,19 @@ module _ (d : Vec ℕ) (s : Sides d) where
 
   pub index-folded : (a : Vec ℤ) → index d (map_vec pos (folded d a)) ≡ index d a
   index-folded a = same_index (folded-agree a)
+
+  -- the cell and the index make the address
+  pub exact : (a : Vec ℤ) (k : Axis) → side a k ≡ along (items (cell d a)) k *ℤ pos (side d k) +ℤ side (address d (index d a)) k
+  unfolding cell
+  exact a X = rw (address-index a) (part a.x d.x (s.positive X))
+  exact a Y = rw (address-index a) (part a.y d.y (s.positive Y))
+  exact a Z = rw (address-index a) (part a.z d.z (s.positive Z))
+
+  -- an address that agrees with 0 is its cell times the diagonal
+  pub whole : (a : Vec ℤ) → Agree d a origin → (k : Axis) → side a k ≡ side (cell d a) k *ℤ pos (side d k)
+  unfolding cell
+  whole a h k = rw (side-vector (λ k. div_euclid (side a k) (pos (side d k))) k) (none (side a k) (side d k) (s.positive k) (side-vector (λ k. pos 0) k) (h.at k))
+
+  -- as the code tells it
+  pub exact-told : (a : Vec ℤ) {f : Folded} → f.index ≡ index d a → f.cell ≡ items (cell d a) → Exact d a f
+  exact-told a e g k = rw (e, g) (exact a k)

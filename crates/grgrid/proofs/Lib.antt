@@ -15,5 +15,6 @@ pub mod Own
 pub mod Accepted
 pub mod Walk
 pub mod Refusing
+pub mod RotatedPoint
 pub mod Outcome
 mod Examples

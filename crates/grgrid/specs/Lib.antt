@@ -1,4 +1,5 @@
 pub mod Grid
+pub mod Folding
 pub mod Sides
 pub mod Build
 pub mod Lists

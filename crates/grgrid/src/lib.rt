@@ -4,9 +4,11 @@
 mod grid;
 mod point;
 
-ghost use Rattle.std.specs.Prelude.{IfSome, ◌≡◌, ◌+◌, ◌*◌, ◌≤◌, ◌<◌, ℤ, pos, nat_abs, ◌+ℤ◌, ◌*ℤ◌, ◌-ℤ◌, length, map, T};
+ghost use Rattle.std.specs.Prelude.{IfOk, IfSome, ◌≡◌, ◌+◌, ◌*◌, ◌≤◌, ◌<◌, ℤ, pos, nat_abs, ◌+ℤ◌, ◌*ℤ◌, ◌-ℤ◌, length, map, T};
 ghost use Rattle.common.specs.Array.{vector_of, sides_of, items, matrix_of, matrices, Sized, SizedRows};
-ghost use Rattle.grgrid.specs.Grid.{size, fold, place, index, address, double, half, halve, rotate};
+ghost use Rattle.integer.specs.Division.{div_euclid};
+ghost use Rattle.grgrid.specs.Grid.{size, fold, place, index, cell, address, double, half, halve, rotated, rotate};
+ghost use Rattle.grgrid.specs.Folding.{Exact, grid_index_from_address, rotate_grid_index};
 ghost use Rattle.common.specs.Matrix.{◌▹◌};
 ghost use Rattle.grgrid.specs.Sides.{sides, remainders};
 ghost use Rattle.grgrid.specs.ClassMap.{first_lower, class_map_of};
@@ -38,12 +40,24 @@ pub fn points(g: Grid) -> usize
     g.x * g.y * g.z
 }
 
-fn fold(a: i64, n: usize) -> usize
+// A number of an address: its remainder in the cell, and the cell.
+#[derive(Clone, Copy)]
+struct Part {
+    rest: usize,
+    cell: i64,
+}
+
+fn fold(a: i64, n: usize) -> Part
     requires { (0 < n) × (n ≤ 512) }
-    ensures value { result ≡ fold a n }
-    ensures upper_bound { result < n }
+    ensures value { result.rest ≡ fold a n }
+    ensures cell_value { result.cell ≡ div_euclid a (pos n) }
+    ensures upper_bound { result.rest < n }
 {
-    integer::rem_euclid(a, n as i64) as usize
+    let n = n as i64;
+    Part {
+        rest: integer::rem_euclid(a, n) as usize,
+        cell: integer::div_euclid(a, n),
+    }
 }
 
 // A point by its remainders.
@@ -62,21 +76,46 @@ fn place(r: Remainders, g: Grid) -> usize
     r.z * g.x * g.y + r.y * g.x + r.x
 }
 
-// Map a grid address to its single-grid-point index.
-#[tactic(auto, unfolding(crate::specs::Grid::index))]
-pub fn grid_index_from_address(address: [i64; 3], g: Grid) -> usize
-    ensures value { result ≡ index (sides g) (vector_of address) }
-    ensures upper_bound { result < size (sides g) }
-{
-    let r = Remainders {
-        x: fold(address[0], g.x),
-        y: fold(address[1], g.y),
-        z: fold(address[2], g.z),
-    };
-    place(r, g)
+// What an address folds to: the index of its point, and the cell that it lies in, by three whole quotients rounded down.
+#[derive(Clone, Copy, Debug, PartialEq, Eq)]
+pub struct Folded {
+    pub index: usize,
+    pub cell: [i64; 3],
 }
 
-// Inverse of `grid_index_from_address` for a canonical address.
+#[tactic(auto, unfolding(crate::specs::Grid::index, crate::specs::Grid::cell))]
+pub fn fold_address(address: [i64; 3], g: Grid) -> Folded
+    ensures value { result.index ≡ index (sides g) (vector_of address) }
+    ensures cell_value { result.cell ≡ items (cell (sides g) (vector_of address)) }
+    ensures upper_bound { result.index < size (sides g) }
+{
+    let x = fold(address[0], g.x);
+    let y = fold(address[1], g.y);
+    let z = fold(address[2], g.z);
+    let r = Remainders {
+        x: x.rest,
+        y: y.rest,
+        z: z.rest,
+    };
+    Folded {
+        index: place(r, g),
+        cell: [x.cell, y.cell, z.cell],
+    }
+}
+
+// Map a grid address to its single-grid-point index, and tell its cell.
+#[tactic(auto, unfolding(crate::specs::Folding::grid_index_from_address))]
+pub fn grid_index_from_address(address: [i64; 3], d: [i64; 3]) -> Result<Folded, Refusal>
+    ensures value { result ≡ grid_index_from_address address d }
+    ensures exact { IfOk result (λ f. Exact (sides_of d) (vector_of address) f) }
+{
+    if !common::diagonal_fits(d) {
+        return Err(Refusal::OutsideLimits);
+    }
+    Ok(fold_address(address, grid_of(d)))
+}
+
+// Inverse of `fold_address` for a canonical address.
 #[tactic(auto, unfolding(crate::specs::Grid::address))]
 pub fn grid_address_from_index(point: GridPoint) -> Address
     ensures { result.v ≡ items (address (sides point.g) point.p) }
@@ -132,19 +171,21 @@ pub fn halve_address(a: [i64; 3], ps: Shift) -> [i64; 3]
     ]
 }
 
-// Map a double-grid address to its single-grid index.
-fn double_grid_index(a: [i64; 3], g: Grid, ps: Shift) -> usize
+// Fold a double-grid address.
+fn double_grid_index(a: [i64; 3], g: Grid, ps: Shift) -> Folded
     requires { Sized 6000000000000300000 a }
-    ensures value { result ≡ index (sides g) (halve (vector_of a) (vector_of ps.v)) }
-    ensures upper_bound { result < size (sides g) }
+    ensures value { result.index ≡ index (sides g) (halve (vector_of a) (vector_of ps.v)) }
+    ensures cell_value { result.cell ≡ items (cell (sides g) (halve (vector_of a) (vector_of ps.v))) }
+    ensures upper_bound { result.index < size (sides g) }
 {
-    grid_index_from_address(halve_address(a, ps), g)
+    fold_address(halve_address(a, ps), g)
 }
 
-// The index of a doubled address after a rotation.
-fn rotated_index(a: Doubled, rotation: Rotation, g: Grid, ps: Shift) -> usize
-    ensures value { result ≡ index (sides g) (halve (matrix_of rotation.m ▹ vector_of a.v) (vector_of ps.v)) }
-    ensures upper_bound { result < size (sides g) }
+// A doubled address after a rotation, folded.
+fn rotated_index(a: Doubled, rotation: Rotation, g: Grid, ps: Shift) -> Folded
+    ensures value { result.index ≡ index (sides g) (halve (matrix_of rotation.m ▹ vector_of a.v) (vector_of ps.v)) }
+    ensures cell_value { result.cell ≡ items (cell (sides g) (halve (matrix_of rotation.m ▹ vector_of a.v) (vector_of ps.v))) }
+    ensures upper_bound { result.index < size (sides g) }
 {
     double_grid_index(common::matvec_ii(rotation.m, a.v), g, ps)
 }
@@ -155,12 +196,43 @@ fn doubled_point(point: GridPoint, ps: Shift) -> Doubled
     double_grid_address(grid_address_from_index(point), ps)
 }
 
-// Apply an integer rotation to a grid point and return the index of the rotated point.
-pub fn rotate_grid_index(point: GridPoint, rotation: Rotation, ps: Shift) -> usize
-    ensures value { result ≡ rotate (sides point.g) (vector_of ps.v) (matrix_of rotation.m) point.p }
-    ensures upper_bound { result < size (sides point.g) }
+// Where a rotation carries a point.
+pub fn rotate_point(point: GridPoint, rotation: Rotation, ps: Shift) -> Folded
+    ensures value { result.index ≡ rotate (sides point.g) (vector_of ps.v) (matrix_of rotation.m) point.p }
+    ensures cell_value { result.cell ≡ items (cell (sides point.g) (rotated (sides point.g) (vector_of ps.v) (matrix_of rotation.m) point.p)) }
+    ensures upper_bound { result.index < size (sides point.g) }
 {
     rotated_index(doubled_point(point, ps), rotation, point.g, ps)
+}
+
+// Apply an integer rotation to a grid point and return the index of the rotated point, and the cell.
+#[tactic(auto, unfolding(crate::specs::Folding::rotate_grid_index))]
+pub fn rotate_grid_index(
+    point: i64,
+    rotation: [[i64; 3]; 3],
+    d: [i64; 3],
+    ps: [i64; 3],
+) -> Result<Folded, Refusal>
+    ensures { result ≡ rotate_grid_index point rotation d ps }
+{
+    if !common::diagonal_fits(d) {
+        return Err(Refusal::OutsideLimits);
+    }
+    let g = grid_of(d);
+    if !common::shift_fits(ps) {
+        return Err(Refusal::OutsideLimits);
+    }
+    if !common::matrix_within(rotation, 100000) {
+        return Err(Refusal::OutsideLimits);
+    }
+    if !common::point_fits(point, points(g) as i64) {
+        return Err(Refusal::OutsideLimits);
+    }
+    let at = GridPoint {
+        p: point as usize,
+        g,
+    };
+    Ok(rotate_point(at, Rotation { m: rotation }, common::shift(ps)))
 }
 
 // Where the first rotation of the list that carries the point lower carries it.
@@ -171,7 +243,7 @@ fn first_lower(rotations: Rotations<'_>, point: GridPoint, ps: Shift) -> Option<
     let address = doubled_point(point, ps);
     // A loop: with `map` and `find` the proof would be of two closures.
     for n in 0..rotations.count() {
-        let q = rotated_index(address, rotations.at(n), point.g, ps);
+        let q = rotated_index(address, rotations.at(n), point.g, ps).index;
         if q < point.p {
             return Some(q);
         }

@@ -77,6 +77,13 @@ pub fn checked_rem(a: i64, d: i64) -> Result<i64, ArithmeticError>
     divided(d, a.checked_rem(d))
 }
 
+pub fn div_euclid(a: i64, d: i64) -> i64
+    requires { Divisible a d }
+    ensures { result ≡ div_euclid a d }
+{
+    a.div_euclid(d)
+}
+
 pub fn rem_euclid(a: i64, d: i64) -> i64
     requires { Divisible a d }
     ensures { result ≡ rem_euclid a d }

@@ -66,6 +66,7 @@ fn triplets(rt: &impl Print) -> io::Result<()> {
     let mut out = [0i64; 6];
     let mut left = [0i64; 2];
     let mut left_length = [0.0f64; 2];
+    let mut cells = [0i64; 6];
     let answer = zone_c::zone_bz_triplets_at_q(
         1,
         &[0, 0, 0, 0, 0, 1, 0, 0, -1],
@@ -78,10 +79,12 @@ fn triplets(rt: &impl Print) -> io::Result<()> {
         &mut out,
         &mut left,
         &mut left_length,
+        &mut cells,
     );
     print_list(rt, "triplets, d (1,1,3), q0 = 1:", &[answer])?;
     print_list(rt, "places:", &out)?;
     print_list(rt, "closed:", &left)?;
+    print_list(rt, "cells:", &cells)?;
     round(rt, "the length left over", left_length[1])
 }
 

@@ -4,6 +4,7 @@
 // number of data/control is wrong, so that one case of it must differ.
 #![tactic(auto)]
 
+mod folding;
 mod matrices;
 mod outputs;
 
@@ -32,6 +33,13 @@ fn main(rt: HostRuntime) -> io::Result<()> {
         &mut n,
         outputs::all_grid_addresses,
     )?;
+    replay(
+        &rt,
+        "grid_index_from_address",
+        &mut n,
+        folding::grid_index_from_address,
+    )?;
+    replay(&rt, "rotate_grid_index", &mut n, folding::rotate_grid_index)?;
     replay(&rt, "snf3x3", &mut n, matrices::snf3x3)?;
     replay(&rt, "smith3x3", &mut n, matrices::smith3x3)?;
     replay(&rt, "hermite3x3", &mut n, matrices::hermite3x3)?;

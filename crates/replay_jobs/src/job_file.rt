@@ -43,6 +43,7 @@ pub fn printed(line: &[i64]) -> Option<Verdict> {
     let mut triplets = [UNWRITTEN; 768];
     let mut left = [UNWRITTEN; 256];
     let mut lengths = [UNWRITTEN_FLOAT; 256];
+    let mut cells = [UNWRITTEN; 768];
     let mut text = [UNWRITTEN_BYTE; 8192];
     let count = zone_print::print_job(
         &held[..size],
@@ -54,6 +55,7 @@ pub fn printed(line: &[i64]) -> Option<Verdict> {
         &mut triplets,
         &mut left,
         &mut lengths,
+        &mut cells,
         &mut text,
     );
     Some(ends_with(Compared::with(slices::after_answer(line)), &text, count))

@@ -3,8 +3,8 @@
 use vectors::compared::Compared;
 use vectors::{UNWRITTEN, UNWRITTEN_FLOAT, Verdict, floats, slices};
 
-// The point, five slices, the lattice, the type, the answer, two outputs and the lengths left over. They are
-// lent with the lengths that the line has.
+// The point, five slices, the lattice, the type, the answer, two outputs, the lengths left over and the cells.
+// They are lent with the lengths that the line has.
 pub fn bz_triplets_at_q(line: &[i64]) -> Option<Verdict> {
     let (q0, line) = line.split_first()?;
     let (addresses, line) = slices::split(line);
@@ -18,12 +18,15 @@ pub fn bz_triplets_at_q(line: &[i64]) -> Option<Verdict> {
     let first = slices::after_answer(line);
     let second = slices::after_output(first);
     let third = slices::after_output(second);
+    let (_, fourth) = slices::split_pairs(third)?;
     let mut out = [UNWRITTEN; 2048];
     let out = slices::lent(first, &mut out);
     let mut left = [UNWRITTEN; 1024];
     let left = slices::lent(second, &mut left);
     let mut left_length = [UNWRITTEN_FLOAT; 1024];
     let left_length = slices::lent(third, &mut left_length);
+    let mut cells = [UNWRITTEN; 2048];
+    let cells = slices::lent(fourth, &mut cells);
     let answer = zone_c::zone_bz_triplets_at_q(
         *q0,
         addresses,
@@ -36,6 +39,7 @@ pub fn bz_triplets_at_q(line: &[i64]) -> Option<Verdict> {
         out,
         left,
         left_length,
+        cells,
     );
     Some(
         Compared::with(line)
@@ -43,6 +47,7 @@ pub fn bz_triplets_at_q(line: &[i64]) -> Option<Verdict> {
             .output(out)
             .output(left)
             .floats(left_length)
+            .output(cells)
             .verdict(),
     )
 }

@@ -15,6 +15,7 @@ fn main(rt: HostRuntime) -> io::Result<()> {
     let mut triplets = [0; 24576];
     let mut left = [0; 8192];
     let mut lengths = [0.0; 8192];
+    let mut cells = [0; 24576];
     // The sheet of 8,192 classes has 46 * (8,192 + 205) places.
     let mut sheet = [0; 386262];
     let mut text = [0u8; 386262];
@@ -28,6 +29,7 @@ fn main(rt: HostRuntime) -> io::Result<()> {
         &mut triplets,
         &mut left,
         &mut lengths,
+        &mut cells,
         &mut sheet,
         &mut text,
     );

@@ -55,11 +55,12 @@ fn lay_job(
     triplets: &mut [i64],
     left: &mut [i64],
     lengths: &mut [f64],
+    cells: &mut [i64],
     sheet: &mut [i64],
     room: usize,
 ) -> Result<usize, Refusal>
-    ensures { let r = rooms_of addresses.old map.old grg.old classes.old points.old triplets.old left.old lengths.old in
-        let l = lists classes.new points.new triplets.new left.new lengths.new in
+    ensures { let r = rooms_of addresses.old map.old grg.old classes.old points.old triplets.old left.old lengths.old cells.old in
+        let l = lists classes.new points.new triplets.new left.new lengths.new cells.new in
         let o : LaidSheet = record {
           answer = result;
           addresses = addresses.new;
@@ -81,11 +82,12 @@ fn lay_job(
         &mut *triplets,
         &mut *left,
         &mut *lengths,
+        &mut *cells,
     )?;
     let laid = lay_sheet(f, classes, triplets, room, sheet);
     if laid.is_err() {
         zone::wipe(
-            addresses, map, grg, classes, points, triplets, left, lengths,
+            addresses, map, grg, classes, points, triplets, left, lengths, cells,
         );
     }
     laid
@@ -115,11 +117,12 @@ pub fn print_sheet(
     triplets: &mut [i64],
     left: &mut [i64],
     lengths: &mut [f64],
+    cells: &mut [i64],
     sheet: &mut [i64],
     text: &mut [u8],
 ) -> usize
-    ensures o_after { let r = rooms_of addresses.old map.old grg.old classes.old points.old triplets.old left.old lengths.old in
-        let l = lists classes.new points.new triplets.new left.new lengths.new in
+    ensures o_after { let r = rooms_of addresses.old map.old grg.old classes.old points.old triplets.old left.old lengths.old cells.old in
+        let l = lists classes.new points.new triplets.new left.new lengths.new cells.new in
         let o : PrintedSheet = record {
           bytes = result;
           text = text.new;
@@ -142,6 +145,7 @@ pub fn print_sheet(
         triplets,
         left,
         lengths,
+        cells,
         &mut *sheet,
         text.len(),
     ) {

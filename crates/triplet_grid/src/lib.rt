@@ -38,7 +38,7 @@ pub fn third(a: Address, b: Address) -> [i64; 3]
 fn carried(rotation: Rotation, address: Address, g: Grid) -> usize
     ensures { result ≡ index (sides g) (matrix_of rotation.m ▹ vector_of address.v) }
 {
-    grgrid::grid_index_from_address(common::matvec_ii(rotation.m, address.v), g)
+    grgrid::fold_address(common::matvec_ii(rotation.m, address.v), g).index
 }
 
 // Moves the matrices that keep q0 to the front, and answers how many there are.
@@ -85,7 +85,7 @@ fn swapped_number(classes: &Classes<'_>, address0: Address, q1: usize) -> i64
 {
     let g = classes.q0.g;
     let address1 = grgrid::grid_address_from_index(GridPoint { p: q1, g });
-    let q2 = grgrid::grid_index_from_address(third(address0, address1), g);
+    let q2 = grgrid::fold_address(third(address0, address1), g).index;
     classes.map_q[q2].min(q1 as i64)
 }
 

@@ -146,12 +146,12 @@ module _ (j : Job) (r : Rooms) (d : Vec ℤ) (p q : Mat ℤ) (rounds : ℕ) (dia
     start_is : start g a m ≡ pos (nat_abs (start g a m))
     unfolding chosen triplets_read
     start_is =
-        let t = triplets-accepted (start g a m) a m (class_map_of g) (items d) (rows q) j.lattice j.type (count g * 3) (count g) (count g) lists.1 in
+        let t = triplets-accepted (start g a m) a m (class_map_of g) (items d) (rows q) j.lattice j.type (count g * 3) (count g) (count g) (count g * 3) lists.1 in
         whole (start g a m) (asked-for a (start g a m) (sym (passes-first (address_of a (start g a m)) _ t.read).1))
 
-    triplets-are : chosen g a m ≡ bz_triplets_at_q (pos (nat_abs (start g a m))) a m (class_map_of g) (items d) (rows q) j.lattice j.type (count g * 3) (count g) (count g)
+    triplets-are : chosen g a m ≡ bz_triplets_at_q (pos (nat_abs (start g a m))) a m (class_map_of g) (items d) (rows q) j.lattice j.type (count g * 3) (count g) (count g) (count g * 3)
     unfolding chosen
-    triplets-are = ap (λ z. bz_triplets_at_q z a m (class_map_of g) (items d) (rows q) j.lattice j.type (count g * 3) (count g) (count g)) start_is
+    triplets-are = ap (λ z. bz_triplets_at_q z a m (class_map_of g) (items d) (rows q) j.lattice j.type (count g * 3) (count g) (count g) (count g * 3)) start_is
 
     abbrev map-written : List ℤ
     map-written = (bz_grid_addresses (items d) (rows q) j.shift j.lattice j.type r.addresses r.map r.grg).map
@@ -212,6 +212,9 @@ module _ (j : Job) (r : Rooms) (d : Vec ℤ) (p q : Mat ℤ) (rounds : ℕ) (dia
       triplet-rooms = record { x = count g * 3; y = count g; z = count g };
       chooses = sym (ap (λ o. o.answer) triplets-are) ∙ lists.1;
       chooses-to = ap (λ o. o.out) triplets-are;
+      cells = (chosen g a m).cells;
+      cell-room = count g * 3;
+      tells-cells = ap (λ o. o.cells) triplets-are;
     }
 
     -- what the calls left, by the definitions of the steps
@@ -247,6 +250,7 @@ module _ (j : Job) (r : Rooms) (d : Vec ℤ) (p q : Mat ℤ) (rounds : ℕ) (dia
       map_is = ap (λ o. o.map) k;
       classes-are = ap (λ o. o.lists.classes) k;
       triplets-are = ap (λ o. o.lists.triplets) k;
+      cells-are = ap (λ o. o.lists.cells) k;
       finished = finished-list calls (accepted-joined j.rotations j.time_reversal 432 both.0);
     })
 

@@ -57,7 +57,7 @@ module _ (c : Calls) where
   triplets-below =
       let t = finished-triplets c (every-number c) in
       triples-below c.triplets c.rooms.z (length (lowest_points c)) t.0
-      (λ j h. let b = t.1 j h in (b.0, b.1, λ k. omega (arith, best-inside c (get_or (lowest_points c) j 0) (inside j h) b.2 k, images-room c)))
+      (λ j h. let b = t.2 j h in (b.0, b.1, λ k. omega (arith, best-inside c (get_or (lowest_points c) j 0) (inside j h) b.2 k, images-room c)))
     where
       inside : (j : ℕ) → j < length (lowest_points c) → get_or (lowest_points c) j 0 < points c
       inside j h =

@@ -53,20 +53,23 @@ own-blank l k (suc j) h = ap (own_places (l ++ replicate k (negsuc 0))) next ∙
 own-padded : (l : List ℤ) (k : ℕ) → own_places (l ++ replicate k (negsuc 0)) (length (l ++ replicate k (negsuc 0))) ≡ own_places l (length l)
 own-padded l k = ap (own_places (l ++ replicate k (negsuc 0))) (length-append l (replicate k (negsuc 0)) ∙ ap (λ n. length l + n) (length-replicate k (negsuc 0))) ∙ own-blank l k k (le_refl k)
 
-pub rooms-agreed : (r : Rooms) → rooms_agree r ≡ true → Agreed r.classes r.points r.triplets r.left r.lengths
+pub rooms-agreed : (r : Rooms) → rooms_agree r ≡ true → Agreed r.classes r.points r.triplets r.left r.lengths r.cells
 rooms-agreed r e =
     let p = eqb r.points r.classes in
     let t = eqb r.triplets (r.classes * 3) in
     let l = eqb r.left r.classes in
     let f = eqb r.lengths r.classes in
+    let c = eqb r.cells (r.classes * 3) in
     let h = holds e in
-    let i = and_r p (t && (l && f)) h in
-    let k = and_r t (l && f) i in
+    let i = and_r p (t && (l && (f && c))) h in
+    let k = and_r t (l && (f && c)) i in
+    let n = and_r l (f && c) k in
     record {
-      points-agree = eqb-true r.points r.classes (is_true p (and_l p (t && (l && f)) h));
-      triplets-agree = eqb-true r.triplets (r.classes * 3) (is_true t (and_l t (l && f) i));
-      left-agree = eqb-true r.left r.classes (is_true l (and_l l f k));
-      lengths-agree = eqb-true r.lengths r.classes (is_true f (and_r l f k));
+      points-agree = eqb-true r.points r.classes (is_true p (and_l p (t && (l && (f && c))) h));
+      triplets-agree = eqb-true r.triplets (r.classes * 3) (is_true t (and_l t (l && (f && c)) i));
+      left-agree = eqb-true r.left r.classes (is_true l (and_l l (f && c) k));
+      lengths-agree = eqb-true r.lengths r.classes (is_true f (and_l f c n));
+      cells-agree = eqb-true r.cells (r.classes * 3) (is_true c (and_r f c n));
     }
 
 module _ (j : Job) (r : Rooms) where

@@ -25,7 +25,7 @@ pub record Job : Type 0 where
   pub q0 : ℤ
 
 abbrev pub rooms_agree : Rooms → Bool
-rooms_agree r = eqb r.points r.classes && (eqb r.triplets (r.classes * 3) && (eqb r.left r.classes && eqb r.lengths r.classes))
+rooms_agree r = eqb r.points r.classes && (eqb r.triplets (r.classes * 3) && (eqb r.left r.classes && (eqb r.lengths r.classes && eqb r.cells (r.classes * 3))))
 
 -- ---- the diagonal
 -- and the change of basis: -1 everywhere where there is none
@@ -57,6 +57,7 @@ wiped r = record {
   triplets = replicate r.triplets (negsuc 0);
   left = replicate r.left (negsuc 0);
   lengths = replicate r.lengths (of_int binary64 (negsuc 0));
+  cells = replicate r.cells (negsuc 0);
 }
 
 -- a refusal leaves that

@@ -30,4 +30,5 @@ pub record FinishedChain (j : Job) (answer : Finished) (addresses map : List ℤ
   pub map_is : map ≡ calls.map
   pub classes-are : l.classes ≡ padded calls.classes n
   pub triplets-are : l.triplets ≡ padded calls.triplets (n * 3)
+  pub cells-are : l.cells ≡ padded calls.cells (n * 3)
   pub finished : FinishedList calls

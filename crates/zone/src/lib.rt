@@ -32,13 +32,21 @@ pub struct Finished {
 }
 
 // Room for as many points in each.
-fn rooms_agree(classes: usize, points: usize, triplets: usize, left: usize, lengths: usize) -> bool
-    ensures { result ≡ eqb points classes && (eqb triplets (classes * 3) && (eqb left classes && eqb lengths classes)) }
+fn rooms_agree(
+    classes: usize,
+    points: usize,
+    triplets: usize,
+    left: usize,
+    lengths: usize,
+    cells: usize,
+) -> bool
+    ensures { result ≡ eqb points classes && (eqb triplets (classes * 3) && (eqb left classes && (eqb lengths classes && eqb cells (classes * 3)))) }
 {
     points == classes
         && common::is_thrice(triplets, classes)
         && left == classes
         && lengths == classes
+        && common::is_thrice(cells, classes)
 }
 
 // A refusal may leave anything in the outputs, which are slices: see docs/DECISIONS.md, 'Output slices'.
@@ -52,13 +60,14 @@ fn run_chain(
     triplets: &mut [i64],
     left: &mut [i64],
     lengths: &mut [f64],
+    cells: &mut [i64],
 ) -> Result<Finished, Refusal>
-    ensures value { let r = rooms_of addresses.old map.old grg.old classes.old points.old triplets.old left.old lengths.old in
+    ensures value { let r = rooms_of addresses.old map.old grg.old classes.old points.old triplets.old left.old lengths.old cells.old in
         let j = asked job.now in
         result ≡ (finished_list j r).answer }
-    ensures tables { let r = rooms_of addresses.old map.old grg.old classes.old points.old triplets.old left.old lengths.old in
+    ensures tables { let r = rooms_of addresses.old map.old grg.old classes.old points.old triplets.old left.old lengths.old cells.old in
         let j = asked job.now in
-        let l = lists classes.new points.new triplets.new left.new lengths.new in
+        let l = lists classes.new points.new triplets.new left.new lengths.new cells.new in
         OnOk result (record { answer = result; addresses = addresses.new; map = map.new; grg = grg.new; lists = l } ≡ finished_list j r) }
 {
     if !rooms_agree(
@@ -67,6 +76,7 @@ fn run_chain(
         triplets.len(),
         left.len(),
         lengths.len(),
+        cells.len(),
     ) {
         return Err(Refusal::WrongLength);
     }
@@ -94,6 +104,7 @@ fn run_chain(
         triplets,
         left,
         lengths,
+        cells,
     )?;
     // The places past the class map hold -1, which is no place.
     let num_ir = grgrid::own_places(classes) as i64;
@@ -110,15 +121,16 @@ pub fn wipe(
     triplets: &mut [i64],
     left: &mut [i64],
     lengths: &mut [f64],
+    cells: &mut [i64],
 )
     ensures addresses_after { addresses.new ≡ replicate (length addresses.old) (negsuc 0) }
     ensures map_after { map.new ≡ replicate (length map.old) (negsuc 0) }
     ensures grg_after { grg.new ≡ replicate (length grg.old) (negsuc 0) }
-    ensures lengths_after { let r = rooms_of addresses.old map.old grg.old classes.old points.old triplets.old left.old lengths.old in
-        lists classes.new points.new triplets.new left.new lengths.new ≡ wiped r }
+    ensures lengths_after { let r = rooms_of addresses.old map.old grg.old classes.old points.old triplets.old left.old lengths.old cells.old in
+        lists classes.new points.new triplets.new left.new lengths.new cells.new ≡ wiped r }
 {
     bzgrid::wipe(addresses, map, grg);
-    zone_steps::wipe_lists(classes, points, triplets, left, lengths);
+    zone_steps::wipe_lists(classes, points, triplets, left, lengths, cells);
 }
 
 // Diagonalises the matrix, takes the reciprocal rotations of a list that must be a group, transforms them, and runs images, classes and triplets. An output
@@ -133,13 +145,14 @@ pub fn finished_list(
     triplets: &mut [i64],
     left: &mut [i64],
     lengths: &mut [f64],
+    cells: &mut [i64],
 ) -> Result<Finished, Refusal>
-    ensures value { let r = rooms_of addresses.old map.old grg.old classes.old points.old triplets.old left.old lengths.old in
+    ensures value { let r = rooms_of addresses.old map.old grg.old classes.old points.old triplets.old left.old lengths.old cells.old in
         let j = asked job.now in
-        let l = lists classes.new points.new triplets.new left.new lengths.new in
+        let l = lists classes.new points.new triplets.new left.new lengths.new cells.new in
         record { answer = result; addresses = addresses.new; map = map.new; grg = grg.new; lists = l } ≡ finished_list j r }
     ensures finished_chain { let j = asked job.now in
-        let l = lists classes.new points.new triplets.new left.new lengths.new in
+        let l = lists classes.new points.new triplets.new left.new lengths.new cells.new in
         IfOk result (λ v. FinishedChain j v addresses.new map.new l (length classes.old)) }
 {
     let f = run_chain(
@@ -152,10 +165,11 @@ pub fn finished_list(
         &mut *triplets,
         &mut *left,
         &mut *lengths,
+        &mut *cells,
     );
     if f.is_err() {
         wipe(
-            addresses, map, grg, classes, points, triplets, left, lengths,
+            addresses, map, grg, classes, points, triplets, left, lengths, cells,
         );
     }
     f

@@ -41,12 +41,14 @@ pub extern "C" fn zone_bz_triplets_at_q(
     out: &mut [i64],
     left: &mut [i64],
     left_length: &mut [f64],
+    cells: &mut [i64],
 ) -> i64
     ensures { let n = length out.old in
         let m = length left.old in
         let l = length left_length.old in
-        record { answer = result; out = out.new; left = left.new; left_length = left_length.new }
-        ≡ zone_bz_triplets_at_q q0 addresses.now map.now class_map.now d.now q.now lattice.now bz_grid_type n m l }
+        let k = length cells.old in
+        record { answer = result; out = out.new; left = left.new; left_length = left_length.new; cells = cells.new }
+        ≡ zone_bz_triplets_at_q q0 addresses.now map.now class_map.now d.now q.now lattice.now bz_grid_type n m l k }
 {
     zone_c::zone_bz_triplets_at_q(
         q0,
@@ -60,5 +62,6 @@ pub extern "C" fn zone_bz_triplets_at_q(
         out,
         left,
         left_length,
+        cells,
     )
 }

@@ -18,6 +18,7 @@ fn list_job(job: &[u8], text: &mut [u8]) -> Result<usize, Refusal>
     let mut triplets = [0; 768];
     let mut left = [0; 256];
     let mut lengths = [0.0; 256];
+    let mut cells = [0; 768];
     zone_list::list(
         job,
         &mut addresses,
@@ -28,6 +29,7 @@ fn list_job(job: &[u8], text: &mut [u8]) -> Result<usize, Refusal>
         &mut triplets,
         &mut left,
         &mut lengths,
+        &mut cells,
         text,
     )
 }

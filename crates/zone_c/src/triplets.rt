@@ -44,15 +44,17 @@ pub fn zone_bz_triplets_at_q(
     out: &mut [i64],
     left: &mut [i64],
     left_length: &mut [f64],
+    cells: &mut [i64],
 ) -> i64
     ensures { let n = length out.old in
         let m = length left.old in
         let l = length left_length.old in
-        record { answer = result; out = out.new; left = left.new; left_length = left_length.new }
-        ≡ zone_bz_triplets_at_q q0 addresses.now map.now class_map.now d.now q.now lattice.now bz_grid_type n m l }
+        let k = length cells.old in
+        record { answer = result; out = out.new; left = left.new; left_length = left_length.new; cells = cells.new }
+        ≡ zone_bz_triplets_at_q q0 addresses.now map.now class_map.now d.now q.now lattice.now bz_grid_type n m l k }
 {
     if !answers::triplet_lengths(d.len(), q.len(), lattice.len()) {
-        return answers::refuse_triplets(out, left, left_length);
+        return answers::refuse_triplets(out, left, left_length, cells);
     }
     answers::number(bz_triplets::bz_triplets_at_q(
         q0,
@@ -66,5 +68,6 @@ pub fn zone_bz_triplets_at_q(
         out,
         left,
         left_length,
+        cells,
     ))
 }

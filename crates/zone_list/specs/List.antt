@@ -19,7 +19,7 @@ use Rattle.zone.specs.ChainView.{job}
 
 -- arrays for 256 points and 1,024 images
 abbrev pub list_rooms : Rooms
-list_rooms = rooms 3072 2305 1024 256 256 768 256 256
+list_rooms = rooms 3072 2305 1024 256 256 768 256 256 768
 
 -- ---- a job
 -- the chain's job in the bytes of a file that the reader accepts, without shift

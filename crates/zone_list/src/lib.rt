@@ -21,9 +21,10 @@ pub fn run_job(
     triplets: &mut [i64],
     left: &mut [i64],
     lengths: &mut [f64],
+    cells: &mut [i64],
 ) -> Result<Finished, Refusal>
-    ensures { let r = rooms_of addresses.old map.old grg.old classes.old points.old triplets.old left.old lengths.old in
-        let l = lists classes.new points.new triplets.new left.new lengths.new in
+    ensures { let r = rooms_of addresses.old map.old grg.old classes.old points.old triplets.old left.old lengths.old cells.old in
+        let l = lists classes.new points.new triplets.new left.new lengths.new cells.new in
         record { answer = result; addresses = addresses.new; map = map.new; grg = grg.new; lists = l } ≡ run_job bytes.now r }
 {
     let mut rotations = [0i64; 1728];
@@ -43,12 +44,12 @@ pub fn run_job(
                 q0: j.q0,
             };
             zone::finished_list(
-                &asked, addresses, map, grg, classes, points, triplets, left, lengths,
+                &asked, addresses, map, grg, classes, points, triplets, left, lengths, cells,
             )
         }
         Err(r) => {
             zone::wipe(
-                addresses, map, grg, classes, points, triplets, left, lengths,
+                addresses, map, grg, classes, points, triplets, left, lengths, cells,
             );
             Err(r)
         }
@@ -85,10 +86,11 @@ pub fn list(
     triplets: &mut [i64],
     left: &mut [i64],
     lengths: &mut [f64],
+    cells: &mut [i64],
     text: &mut [u8],
 ) -> Result<usize, Refusal>
-    ensures { let r = rooms_of addresses.old map.old grg.old classes.old points.old triplets.old left.old lengths.old in
-        let l = lists classes.new points.new triplets.new left.new lengths.new in
+    ensures { let r = rooms_of addresses.old map.old grg.old classes.old points.old triplets.old left.old lengths.old cells.old in
+        let l = lists classes.new points.new triplets.new left.new lengths.new cells.new in
         let o : Listing = record {
           answer = result;
           addresses = addresses.new;
@@ -110,11 +112,12 @@ pub fn list(
         &mut *triplets,
         &mut *left,
         &mut *lengths,
+        &mut *cells,
     )?;
     let printed = print_finished(f, classes, triplets, text);
     if printed.is_err() {
         zone::wipe(
-            addresses, map, grg, classes, points, triplets, left, lengths,
+            addresses, map, grg, classes, points, triplets, left, lengths, cells,
         );
     }
     printed

@@ -27,9 +27,10 @@ pub fn print_job(
     triplets: &mut [i64; 768],
     left: &mut [i64; 256],
     lengths: &mut [f64; 256],
+    cells: &mut [i64; 768],
     text: &mut [u8; 8192],
 ) -> usize
-    ensures o_after { let l = lists classes.new points.new triplets.new left.new lengths.new in
+    ensures o_after { let l = lists classes.new points.new triplets.new left.new lengths.new cells.new in
         let o : PrintedJob = record {
           bytes = result;
           text = text.new;
@@ -42,7 +43,7 @@ pub fn print_job(
     ensures upper_bound { result ≤ length text.new }
 {
     match zone_list::list(
-        job, addresses, map, grg, classes, points, triplets, left, lengths, &mut *text,
+        job, addresses, map, grg, classes, points, triplets, left, lengths, cells, &mut *text,
     ) {
         Ok(n) => n,
         Err(r) => print_refused(r, text),

@@ -108,22 +108,25 @@ module _ (g : Setting) where
           points = (o j).map_q ++ front-drop n points j;
         }
 
-  -- ---- triplets, in the front of three outputs
+  -- ---- triplets, in the front of four outputs
   module _ (addresses map : List ℤ) {start : ℤ} {classes : List ℤ} (es : start ≡ start_of (grid_type_of g.type) map g.q0) (ec : classes ≡ class_map_of g)
-      (triplets left : List ℤ) (lengths : List Float) (room : (length classes * 3 ≤ length triplets) × (length classes ≤ length left) × (length classes ≤ length lengths)) where
-    pub triplets-chosen : {k : ℕ} → k ≡ own_places classes (length classes) → k ≤ length classes → {i u : ℤ} {r : Tested} {x y : List ℤ} {z : List Float} → i ≡ start → u ≡ g.type
-        → record { answer = r; out = x; left = y; left_length = z } ≡ bz_triplets_at_q i addresses map classes g.d g.q g.lattice u (length (take (k * 3 - 0) triplets)) (length (take (k - 0) left)) (length (take (k - 0) lengths))
-        → record { answer = r; out = x ++ drop (k * 3 - 0) triplets; left = y ++ drop (k - 0) left; left_length = z ++ drop (k - 0) lengths } ≡ in_front (chosen g addresses map) (count g) triplets left lengths
+      (triplets left : List ℤ) (lengths : List Float) (cells : List ℤ)
+      (room : (length classes * 3 ≤ length triplets) × (length classes ≤ length left) × (length classes ≤ length lengths) × (length classes * 3 ≤ length cells)) where
+    pub triplets-chosen : {k : ℕ} → k ≡ own_places classes (length classes) → k ≤ length classes → {i u : ℤ} {r : Tested} {x y : List ℤ} {z : List Float} {w : List ℤ} → i ≡ start → u ≡ g.type
+        → record { answer = r; out = x; left = y; left_length = z; cells = w } ≡ bz_triplets_at_q i addresses map classes g.d g.q g.lattice u (length (take (k * 3 - 0) triplets)) (length (take (k - 0) left)) (length (take (k - 0) lengths)) (length (take (k * 3 - 0) cells))
+        → record { answer = r; out = x ++ drop (k * 3 - 0) triplets; left = y ++ drop (k - 0) left; left_length = z ++ drop (k - 0) lengths; cells = w ++ drop (k * 3 - 0) cells } ≡ in_front (chosen g addresses map) (count g) triplets left lengths cells
     unfolding chosen
     triplets-chosen {k} own few ei eu e =
         let ek : k ≡ count g = own ∙ ap (λ l. own_places l (length l)) ec in
         let a = front_length (k * 3) triplets (omega arith) ∙ ap (λ k. k * 3) ek in
         let b = front_length k left (omega arith) ∙ ek in
         let c = front_length k lengths (omega arith) ∙ ek in
-        let o = e ∙ (λ j. bz_triplets_at_q ((ei ∙ es) j) addresses map (ec j) g.d g.q g.lattice (eu j) (a j) (b j) (c j)) in
+        let d = front_length (k * 3) cells (omega arith) ∙ ap (λ k. k * 3) ek in
+        let o = e ∙ (λ j. bz_triplets_at_q ((ei ∙ es) j) addresses map (ec j) g.d g.q g.lattice (eu j) (a j) (b j) (c j) (d j)) in
         λ j. record {
           answer = (o j).answer;
           out = (o j).out ++ (front-drop (k * 3) triplets ∙ ap (λ k. drop (k * 3) triplets) ek) j;
           left = (o j).left ++ (front-drop k left ∙ ap (λ k. drop k left) ek) j;
           left_length = (o j).left_length ++ (front-drop k lengths ∙ ap (λ k. drop k lengths) ek) j;
+          cells = (o j).cells ++ (front-drop (k * 3) cells ∙ ap (λ k. drop (k * 3) cells) ek) j;
         }

@@ -68,17 +68,18 @@ module _ (g : Setting) where
         whole : n - 0 ≡ n
         whole = omega arith
 
-    pub lists-left : {y y' : List ℤ} → y ≡ replicate m (negsuc 0) → y' ≡ (classified g).map_q ++ drop n y → (addresses map : List ℤ) {v : Tested} {t l t' l' : List ℤ} {f f' : List Float}
-        → record { answer = v; out = t'; left = l'; left_length = f' } ≡ in_front (chosen g addresses map) (count g) t l f
-        → t ≡ replicate (m * 3) (negsuc 0) → l ≡ replicate m (negsuc 0) → f ≡ replicate m (of_int binary64 (negsuc 0))
-        → length y' ≡ m → length t' ≡ m * 3 → length l' ≡ m → length f' ≡ m → lists x' y' t' l' f' ≡ lists_of g addresses map m
+    pub lists-left : {y y' : List ℤ} → y ≡ replicate m (negsuc 0) → y' ≡ (classified g).map_q ++ drop n y → (addresses map : List ℤ) {v : Tested} {t l t' l' : List ℤ} {f f' : List Float} {c c' : List ℤ}
+        → record { answer = v; out = t'; left = l'; left_length = f'; cells = c' } ≡ in_front (chosen g addresses map) (count g) t l f c
+        → t ≡ replicate (m * 3) (negsuc 0) → l ≡ replicate m (negsuc 0) → f ≡ replicate m (of_int binary64 (negsuc 0)) → c ≡ replicate (m * 3) (negsuc 0)
+        → length y' ≡ m → length t' ≡ m * 3 → length l' ≡ m → length f' ≡ m → length c' ≡ m * 3 → lists x' y' t' l' f' c' ≡ lists_of g addresses map m
     unfolding lists_of
-    lists-left by wy addresses map c bt bl bf ky kt kl kf =
+    lists-left by wy addresses map call bt bl bf bc ky kt kl kf kc =
         let o = chosen g addresses map in
         let h : count g * 3 ≤ m * 3 = (let h = few in omega arith) in
         let ex = front-padded (negsuc 0) (class_map_of g) n m bx wx kx fits in
         let ey = front-padded (negsuc 0) (classified g).map_q n m by wy ky fits in
-        let et = front-padded (negsuc 0) o.out (count g * 3) (m * 3) bt (ap (λ o. o.out) c) kt h in
-        let el = front-padded (negsuc 0) o.left (count g) m bl (ap (λ o. o.left) c) kl few in
-        let ef = front-padded (of_int binary64 (negsuc 0)) o.left_length (count g) m bf (ap (λ o. o.left_length) c) kf few in
-        λ j. lists (ex j) (ey j) (et j) (el j) (ef j)
+        let et = front-padded (negsuc 0) o.out (count g * 3) (m * 3) bt (ap (λ o. o.out) call) kt h in
+        let el = front-padded (negsuc 0) o.left (count g) m bl (ap (λ o. o.left) call) kl few in
+        let ef = front-padded (of_int binary64 (negsuc 0)) o.left_length (count g) m bf (ap (λ o. o.left_length) call) kf few in
+        let ec = front-padded (negsuc 0) o.cells (count g * 3) (m * 3) bc (ap (λ o. o.cells) call) kc h in
+        λ j. lists (ex j) (ey j) (et j) (el j) (ef j) (ec j)

@@ -18,7 +18,7 @@ use Rattle.bzgrid.specs.BzGridAddresses.{grid_type_of, padded, BzGridAddresses, 
 use Rattle.triplet_grid.specs.IrTriplets.{IrTriplets, ir_triplets_at_q}
 use Rattle.bz_triplets.specs.BzTriplets.{BzTriplets, bz_triplets_at_q}
 
--- how many places are lent: for the image tables, and for each point one in `classes`, `points`, `left` and `lengths`, three in `triplets`
+-- how many places are lent: for the image tables, and for each point one in `classes`, `points`, `left` and `lengths`, three in `triplets` and `cells`
 pub record Rooms : Type 0 where
   pub addresses : ℕ
   pub map : ℕ
@@ -28,6 +28,7 @@ pub record Rooms : Type 0 where
   pub triplets : ℕ
   pub left : ℕ
   pub lengths : ℕ
+  pub cells : ℕ
 
 -- ---- the rotations in the basis of a grid
 -- the told part of the reciprocal call
@@ -64,6 +65,7 @@ pub record Lists : Type 0 where
   pub triplets : List ℤ
   pub left : List ℤ
   pub lengths : List Float
+  pub cells : List ℤ
 
 -- an answer, and what is left in the image tables and in the lists
 pub record Outcome (A : Type 0) : Type 0 where
@@ -107,7 +109,7 @@ module _ (g : Setting) where
 
     unfoldable pub chosen : BzTriplets
     unfolding classified bz_triplets_at_q
-    chosen = bz_triplets_at_q start addresses map class_map_of g.d g.q g.lattice g.type (count * 3) count count
+    chosen = bz_triplets_at_q start addresses map class_map_of g.d g.q g.lattice g.type (count * 3) count count (count * 3)
 
     unfoldable pub list_tests : Tested
     unfolding classified chosen
@@ -122,6 +124,7 @@ module _ (g : Setting) where
       triplets = padded chosen.out (n * 3);
       left = padded chosen.left n;
       lengths = padded_lengths chosen.left_length n;
+      cells = padded chosen.cells (n * 3);
     }
 
   -- ---- the table of images

@@ -28,11 +28,18 @@ abbrev pub turned_grid : Input → Setting
 turned_grid g =
     grid g.d g.q (transformed g.rotations.now g.is_time_reversal g.d g.q) g.lattice g.is_time_reversal g.swappable g.bz_grid_type g.q0
 
-abbrev pub lists : (classes points triplets left : List ℤ) → List Float → Lists
-lists classes points triplets left lengths = record { classes = classes; points = points; triplets = triplets; left = left; lengths = lengths }
+abbrev pub lists : (classes points triplets left : List ℤ) → List Float → (cells : List ℤ) → Lists
+lists classes points triplets left lengths cells = record {
+  classes = classes;
+  points = points;
+  triplets = triplets;
+  left = left;
+  lengths = lengths;
+  cells = cells;
+}
 
-abbrev pub rooms : (addresses map grg classes points triplets left lengths : ℕ) → Rooms
-rooms addresses map grg classes points triplets left lengths = record {
+abbrev pub rooms : (addresses map grg classes points triplets left lengths cells : ℕ) → Rooms
+rooms addresses map grg classes points triplets left lengths cells = record {
   addresses = addresses;
   map = map;
   grg = grg;
@@ -41,12 +48,13 @@ rooms addresses map grg classes points triplets left lengths = record {
   triplets = triplets;
   left = left;
   lengths = lengths;
+  cells = cells;
 }
 
 -- those of what is lent
-abbrev pub rooms_of : (addresses map grg classes points triplets left : List ℤ) → List Float → Rooms
-rooms_of addresses map grg classes points triplets left lengths =
-    rooms (length addresses) (length map) (length grg) (length classes) (length points) (length triplets) (length left) (length lengths)
+abbrev pub rooms_of : (addresses map grg classes points triplets left : List ℤ) → List Float → (cells : List ℤ) → Rooms
+rooms_of addresses map grg classes points triplets left lengths cells =
+    rooms (length addresses) (length map) (length grg) (length classes) (length points) (length triplets) (length left) (length lengths) (length cells)
 
 -- ---- the rotations
 -- the list of n rotations stands in the front
@@ -55,15 +63,16 @@ TurnedInto list out (Ok n) = (n * 9 ≤ 432) × (take (n * 9) out ≡ list)
 TurnedInto list out (Err r) = Unit
 
 -- ---- outputs of lengths that agree, with room for the classes and triplets of n points
-pub record Agreed (classes points triplets left lengths : ℕ) : Type 0 where
+pub record Agreed (classes points triplets left lengths cells : ℕ) : Type 0 where
   pub points-agree : points ≡ classes
   pub triplets-agree : triplets ≡ classes * 3
   pub left-agree : left ≡ classes
   pub lengths-agree : lengths ≡ classes
+  pub cells-agree : cells ≡ classes * 3
 
-pub record Roomy (n classes points triplets left lengths : ℕ) : Type 0 where
+pub record Roomy (n classes points triplets left lengths cells : ℕ) : Type 0 where
   pub fits : n ≤ classes
-  pub agreed : Agreed classes points triplets left lengths
+  pub agreed : Agreed classes points triplets left lengths cells
 
 -- ---- what a call leaves, in the front of longer outputs
 -- the classes of n points
@@ -80,10 +89,11 @@ numbered o n classes points = record {
 }
 
 -- k triplets
-abbrev pub in_front : BzTriplets → ℕ → (triplets left : List ℤ) → List Float → BzTriplets
-in_front o k triplets left lengths = record {
+abbrev pub in_front : BzTriplets → ℕ → (triplets left : List ℤ) → List Float → (cells : List ℤ) → BzTriplets
+in_front o k triplets left lengths cells = record {
   answer = o.answer;
   out = o.out ++ drop (k * 3) triplets;
   left = o.left ++ drop k left;
   left_length = o.left_length ++ drop k lengths;
+  cells = o.cells ++ drop (k * 3) cells;
 }

@@ -71,13 +71,15 @@ fn choose_triplets(
     triplets: &mut [i64],
     left: &mut [i64],
     lengths: &mut [f64],
+    cells: &mut [i64],
 ) -> Result<(), Refusal>
     requires begin { start ≡ start_of (grid_type_of input.now.bz_grid_type) map.now input.now.q0 }
     requires class_map { classes.now ≡ class_map_of (input_grid input.now) }
-    requires room { (length classes.now * 3 ≤ length triplets.old) × (length classes.now ≤ length left.old) × (length classes.now ≤ length lengths.old) }
+    requires room { (length classes.now * 3 ≤ length triplets.old) × (length classes.now ≤ length left.old)
+        × (length classes.now ≤ length lengths.old) × (length classes.now * 3 ≤ length cells.old) }
     ensures { let g = input_grid input.now in
-        let o = in_front (chosen g addresses.now map.now) (count g) triplets.old left.old lengths.old in
-        record { answer = result; out = triplets.new; left = left.new; left_length = lengths.new } ≡ o }
+        let o = in_front (chosen g addresses.now map.now) (count g) triplets.old left.old lengths.old cells.old in
+        record { answer = result; out = triplets.new; left = left.new; left_length = lengths.new; cells = cells.new } ≡ o }
 {
     let k = grgrid::own_places(classes);
     bz_triplets::bz_triplets_at_q(
@@ -92,6 +94,7 @@ fn choose_triplets(
         &mut triplets[0..k * 3],
         &mut left[0..k],
         &mut lengths[0..k],
+        &mut cells[0..k * 3],
     )
 }
 
@@ -102,18 +105,21 @@ pub fn wipe_lists(
     triplets: &mut [i64],
     left: &mut [i64],
     lengths: &mut [f64],
+    cells: &mut [i64],
 )
     ensures classes_after { classes.new ≡ replicate (length classes.old) (negsuc 0) }
     ensures points_after { points.new ≡ replicate (length points.old) (negsuc 0) }
     ensures triplets_after { triplets.new ≡ replicate (length triplets.old) (negsuc 0) }
     ensures left_after { left.new ≡ replicate (length left.old) (negsuc 0) }
     ensures lengths_after { lengths.new ≡ replicate (length lengths.old) (of_int binary64 (negsuc 0)) }
+    ensures cells_after { cells.new ≡ replicate (length cells.old) (negsuc 0) }
 {
     classes.fill(-1);
     points.fill(-1);
     triplets.fill(-1);
     left.fill(-1);
     lengths.fill(-1.0);
+    cells.fill(-1);
 }
 
 // Classes and triplets of n points, from tables that were built. A refusal may leave anything in the outputs, which are slices: see
@@ -128,12 +134,13 @@ pub fn list_classes(
     triplets: &mut [i64],
     left: &mut [i64],
     lengths: &mut [f64],
+    cells: &mut [i64],
 ) -> Result<(), Refusal>
     requires fact_1 { n ≡ size (sides_of input.now.d) }
-    requires fact_2 { Roomy n (length classes.old) (length points.old) (length triplets.old) (length left.old) (length lengths.old) }
+    requires fact_2 { Roomy n (length classes.old) (length points.old) (length triplets.old) (length left.old) (length lengths.old) (length cells.old) }
     ensures value { result ≡ list_tests (input_grid input.now) addresses.now map.now }
     ensures lengths_after { let l = lists_of (input_grid input.now) addresses.now map.now (length classes.old) in
-        result ≡ Accepted → lists classes.new points.new triplets.new left.new lengths.new ≡ l }
+        result ≡ Accepted → lists classes.new points.new triplets.new left.new lengths.new cells.new ≡ l }
 {
     wipe_lists(
         &mut *classes,
@@ -141,6 +148,7 @@ pub fn list_classes(
         &mut *triplets,
         &mut *left,
         &mut *lengths,
+        &mut *cells,
     );
     number_classes(input, n, &mut *classes, &mut *points)?;
     let start = start_of(input.bz_grid_type, map, input.q0);
@@ -153,5 +161,6 @@ pub fn list_classes(
         triplets,
         left,
         lengths,
+        cells,
     )
 }

@@ -21,13 +21,14 @@ fn list_grid(
     triplets: &mut [i64],
     left: &mut [i64],
     lengths: &mut [f64],
+    cells: &mut [i64],
 ) -> Result<(), Refusal>
     requires fact_1 { T (diagonal_fits input.now.d) }
-    requires fact_2 { Agreed (length classes.old) (length points.old) (length triplets.old) (length left.old) (length lengths.old) }
-    ensures value { let r = rooms_of addresses.old map.old grg.old classes.old points.old triplets.old left.old lengths.old in
+    requires fact_2 { Agreed (length classes.old) (length points.old) (length triplets.old) (length left.old) (length lengths.old) (length cells.old) }
+    ensures value { let r = rooms_of addresses.old map.old grg.old classes.old points.old triplets.old left.old lengths.old cells.old in
         result ≡ (listed (input_grid input.now) ps r).answer }
-    ensures tables { let r = rooms_of addresses.old map.old grg.old classes.old points.old triplets.old left.old lengths.old in
-        let l = lists classes.new points.new triplets.new left.new lengths.new in
+    ensures tables { let r = rooms_of addresses.old map.old grg.old classes.old points.old triplets.old left.old lengths.old cells.old in
+        let l = lists classes.new points.new triplets.new left.new lengths.new cells.new in
         let o = listed (input_grid input.now) ps r in
         result ≡ Accepted → record { answer = Accepted; addresses = addresses.new; map = map.new; grg = grg.new; lists = l } ≡ o }
 {
@@ -46,7 +47,7 @@ fn list_grid(
         &mut *grg,
     )?;
     grid::list_classes(
-        input, addresses, map, n, classes, points, triplets, left, lengths,
+        input, addresses, map, n, classes, points, triplets, left, lengths, cells,
     )
 }
 
@@ -62,13 +63,14 @@ pub fn list_in_basis(
     triplets: &mut [i64],
     left: &mut [i64],
     lengths: &mut [f64],
+    cells: &mut [i64],
 ) -> Result<(), Refusal>
-    requires { Agreed (length classes.old) (length points.old) (length triplets.old) (length left.old) (length lengths.old) }
-    ensures value { let r = rooms_of addresses.old map.old grg.old classes.old points.old triplets.old left.old lengths.old in
+    requires { Agreed (length classes.old) (length points.old) (length triplets.old) (length left.old) (length lengths.old) (length cells.old) }
+    ensures value { let r = rooms_of addresses.old map.old grg.old classes.old points.old triplets.old left.old lengths.old cells.old in
         let i = input.now in
         result ≡ after (rotation_tests i.rotations.now i.is_time_reversal i.d i.q) (listed (turned_grid i) ps r).answer }
-    ensures tables { let r = rooms_of addresses.old map.old grg.old classes.old points.old triplets.old left.old lengths.old in
-        let l = lists classes.new points.new triplets.new left.new lengths.new in
+    ensures tables { let r = rooms_of addresses.old map.old grg.old classes.old points.old triplets.old left.old lengths.old cells.old in
+        let l = lists classes.new points.new triplets.new left.new lengths.new cells.new in
         let o = listed (turned_grid input.now) ps r in
         result ≡ Accepted → record { answer = Accepted; addresses = addresses.new; map = map.new; grg = grg.new; lists = l } ≡ o }
 {
@@ -101,5 +103,6 @@ pub fn list_in_basis(
         triplets,
         left,
         lengths,
+        cells,
     )
 }

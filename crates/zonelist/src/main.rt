@@ -15,6 +15,7 @@ fn main(rt: HostRuntime) -> io::Result<()> {
     let mut triplets = [0; 768];
     let mut left = [0; 256];
     let mut lengths = [0.0; 256];
+    let mut cells = [0; 768];
     let mut text = [0u8; 8192];
     let bytes = zone_print::print_job(
         &held[..n],
@@ -26,6 +27,7 @@ fn main(rt: HostRuntime) -> io::Result<()> {
         &mut triplets,
         &mut left,
         &mut lengths,
+        &mut cells,
         &mut text,
     );
     rt.write_all(&text[..bytes])

@@ -8,9 +8,10 @@ use phonors::{triplet_grid, triplet_grid_watched};
 
 use crate::bench::{call, Call, Timed};
 use crate::function::{Function, Outputs};
+use crate::grid_index_from_address::cell;
 use crate::inputs::images::DENSE;
 use crate::inputs::lattices;
-use crate::inputs::lent_triplets::{own_places, TripletsInput};
+use crate::inputs::lent_triplets::{places_for, TripletsInput};
 use crate::inputs::matrices::is_within;
 use crate::limits::Q_ENTRY;
 use crate::panics::watched;
@@ -50,8 +51,7 @@ impl Given<'_> {
             lattice: lattice(&input.lattice)?,
             bz_grid_type: input.bz_grid_type,
         };
-        let triplets = own_places(given.class_map);
-        length(places == [3 * triplets, triplets, triplets])?;
+        length(places == places_for(given.class_map))?;
         Ok(given)
     }
 
@@ -117,6 +117,21 @@ impl Given<'_> {
         let triplets = watched(|| self.watched(&mut walked.borrow_mut()), plain)?;
         Ok((triplets, walked.into_inner().left))
     }
+
+    /// The sum of the addresses of a triplet, if it has images.
+    fn sum(&self, triplet: Vec3I) -> Option<Vec3I> {
+        if triplet == [REFUSED_PLACE; 3] {
+            return None;
+        }
+        let [x, y, z] = triplet.map(|image| self.addresses[image as usize]);
+        Some([0, 1, 2].map(|k| x[k] + y[k] + z[k]))
+    }
+
+    /// The cell of that sum, which the Rust does not tell.
+    fn cell(&self, triplet: Vec3I) -> Vec3I {
+        let sum = self.sum(triplet);
+        sum.map_or([-1; 3], |sum| cell(sum, self.d))
+    }
 }
 
 /// The triplets of an input, or the refusal.
@@ -150,17 +165,17 @@ fn bits(x: f64) -> i64 {
 
 /// A line of the vectors: the point; the slices addresses, map, class_map, d and q, each
 /// as its length and its items; the lattice as its length and two 32-bit words for each
-/// float, the high one first; the type; the answer; the outputs out, left and
-/// left_length, each as its length and its items, two words for a float, or its length
+/// float, the high one first; the type; the answer; the outputs out, left, left_length
+/// and cells, each as its length and its items, two words for a float, or its length
 /// and a sum of these if it has over 432 places.
 pub struct BzTripletsAtQ;
 
 impl Function for BzTripletsAtQ {
     const VECTORS: usize = 512;
 
-    const HELD: &'static [usize] = &[2_048, 1_024, 1_024];
+    const HELD: &'static [usize] = &[2_048, 1_024, 1_024, 2_048];
 
-    const FLOATS: usize = 1;
+    const FLOATS: &'static [usize] = &[2];
 
     type Input = TripletsInput;
 
@@ -169,8 +184,8 @@ impl Function for BzTripletsAtQ {
     }
 
     fn port(input: &TripletsInput, outputs: &mut Outputs) -> i64 {
-        let [out, left, left_length] = &mut outputs.slices[..] else {
-            panic!("three slices");
+        let [out, left, left_length, cells] = &mut outputs.slices[..] else {
+            panic!("four slices");
         };
         port::bz_triplets_at_q(
             input.q0,
@@ -184,6 +199,7 @@ impl Function for BzTripletsAtQ {
             out,
             left,
             left_length,
+            cells,
         )
     }
 
@@ -197,6 +213,7 @@ impl Function for BzTripletsAtQ {
             slices[0].copy_from_slice(triplets.as_flattened());
             slices[1] = left.iter().map(left_number).collect();
             slices[2] = left.iter().map(left_bits).collect();
+            slices[3] = triplets.iter().flat_map(|&at| given.cell(at)).collect();
             Ok(())
         });
         if answer != ACCEPTED {
@@ -247,6 +264,7 @@ mod tests {
             assert_eq!(slices[0], [1, 0, 2, 1, 1, 1]);
             assert_eq!(slices[1], [1, 0]);
             assert_eq!(slices[2], [0, bits(1.0)]);
+            assert_eq!(slices[3], [0, 0, 0, 0, 0, 1]);
         }
     }
 
@@ -270,6 +288,7 @@ mod tests {
             assert_eq!(slices[..2], [vec![-1; 3], vec![-1]]);
             let length = if answer == 0 { 0.0 } else { -1.0 };
             assert_eq!(slices[2], [bits(length)]);
+            assert_eq!(slices[3], [-1; 3]);
         }
     }
 
@@ -285,7 +304,7 @@ mod tests {
             q: vec![1_001; 8],
             lattice: vec![f64::NAN; 8],
             bz_grid_type: 4,
-            places: [4, 2, 2],
+            places: [4, 2, 2, 4],
         };
         let mut expect = |number, change: &dyn Fn(&mut TripletsInput)| {
             let (answer, slices) = asked(&input);
@@ -293,13 +312,15 @@ mod tests {
             assert_eq!(slices[0], vec![-1; input.places[0]]);
             assert_eq!(slices[1], vec![-1; input.places[1]]);
             assert_eq!(slices[2], vec![bits(-1.0); input.places[2]]);
+            assert_eq!(slices[3], vec![-1; input.places[3]]);
             change(&mut input);
         };
         expect(13, &|input| input.addresses = vec![ADDRESS + 1; 6].into());
         expect(13, &|input| input.d.push(0));
         expect(13, &|input| input.q.push(1_001));
         expect(13, &|input| input.lattice.push(f64::NAN));
-        expect(13, &|input| input.places = [3, 1, 1]);
+        expect(13, &|input| input.places = [3, 1, 1, 4]);
+        expect(13, &|input| input.places = [3, 1, 1, 3]);
         expect(3, &|input| input.d = vec![2, 1, 1]);
         expect(3, &|input| input.q = IDENTITY.as_flattened().to_vec());
         expect(3, &|input| {
@@ -404,6 +425,65 @@ mod tests {
         assert!(compare::run::<Innermost>(500, 1) > 20);
     }
 
+    /// Rounds a quotient of another sign than its remainder's the wrong way.
+    struct TowardZero;
+
+    impl Function for TowardZero {
+        type Input = TripletsInput;
+
+        fn outputs(input: &TripletsInput) -> Outputs {
+            BzTripletsAtQ::outputs(input)
+        }
+
+        fn port(input: &TripletsInput, outputs: &mut Outputs) -> i64 {
+            let answer = BzTripletsAtQ::oracle(input, outputs);
+            if answer != ACCEPTED {
+                return answer;
+            }
+            let given = Given::of(input, &input.places).unwrap();
+            let (triplets, _) = outputs.slices[0].as_chunks();
+            let divided = |&triplet: &Vec3I| match given.sum(triplet) {
+                Some(sum) => [0, 1, 2].map(|k| sum[k] / given.d[k]),
+                None => [-1; 3],
+            };
+            outputs.slices[3] = triplets.iter().flat_map(divided).collect();
+            answer
+        }
+
+        fn oracle(input: &TripletsInput, outputs: &mut Outputs) -> i64 {
+            BzTripletsAtQ::oracle(input, outputs)
+        }
+    }
+
+    /// Only tables that are made up or damaged leave a remainder.
+    #[test]
+    fn cells_are_compared() {
+        let differences = compare::run::<TowardZero>(2_000, 1);
+        assert!((20..500).contains(&differences), "{differences}");
+    }
+
+    /// What the calls before leave has no remainder, and sums to cells of either sign.
+    #[test]
+    fn whole_cells() {
+        let mut random = Random::new(1);
+        let mut met = [0; 3];
+        for _ in 0..300 {
+            let input = TripletsInput::chained(&mut random);
+            let (answer, slices) = asked(&input);
+            assert_eq!(answer, ACCEPTED);
+            let given = Given::of(&input, &input.places).unwrap();
+            let [triplets, cells] = [&slices[0], &slices[3]].map(|slice| slice.as_chunks().0);
+            for (&triplet, cell) in triplets.iter().zip(cells) {
+                let whole = [0, 1, 2].map(|k| cell[k] * given.d[k]);
+                assert_eq!(given.sum(triplet), Some(whole));
+                for number in cell {
+                    met[(number.signum() + 1) as usize] += 1;
+                }
+            }
+        }
+        assert!(met.iter().all(|&count| count > 100), "{met:?}");
+    }
+
     #[test]
     fn vectors_of_every_answer() {
         let lines = vectors::lines::<BzTripletsAtQ>(1);
@@ -415,6 +495,13 @@ mod tests {
             let count = met.iter().filter(|&&met| met == answer).count();
             assert!(count >= least, "{answer}: {count}");
         }
+        let told = |input: &&TripletsInput| {
+            let mut outputs = BzTripletsAtQ::outputs(input).unlike();
+            TowardZero::port(input, &mut outputs);
+            outputs.slices[3] != asked(input).1[3]
+        };
+        let count = inputs.iter().filter(told).count();
+        assert!(count >= 6, "{count}");
     }
 
     /// What the bench takes is accepted.

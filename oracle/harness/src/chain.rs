@@ -153,6 +153,7 @@ fn chain<S: Side>(steps: &mut Steps, input: &ChainInput) -> Result<Option<bool>,
         q0: point,
         class_map,
         triplets: addresses(&triplets.slices[0]),
+        cells: addresses(&triplets.slices[3]),
         left: &left.collect::<Vec<_>>(),
     };
     let checked = finished.check();
@@ -217,7 +218,7 @@ mod tests {
             let (answer, demand) = leave::<Rust>(&input, &mut outputs);
             assert_eq!((answer, demand), (0, Some(true)), "{input:?}");
             if input.swappable {
-                let triplets = &outputs.slices[outputs.slices.len() - 4];
+                let triplets = &outputs.slices[outputs.slices.len() - 5];
                 assert_eq!(triplets, &[1, 0, 2, 1, 1, 1]);
             }
         }

@@ -21,6 +21,8 @@ pub struct Finished<'a> {
     pub q0: i64,
     pub class_map: &'a [i64],
     pub triplets: &'a [Vec3I],
+    /// The cell of each triplet's sum.
+    pub cells: &'a [Vec3I],
     /// Whether each triplet closes, and else the squared length left over.
     pub left: &'a [Option<f64>],
 }
@@ -163,16 +165,18 @@ impl Finished<'_> {
         [0, 1, 2].map(|k| x[k] + y[k] + z[k])
     }
 
-    /// By rising number one triplet a class, of images of the three points; it closes if
-    /// any choice does, and else every other choice is at least as long, less the
-    /// tolerance.
+    /// By rising number one triplet a class, of images of the three points, whose sum is
+    /// its cell times d; it closes if any choice does, and else every other choice is at
+    /// least as long, less the tolerance.
     fn lists(&self) -> Result<(), String> {
         let numbers: BTreeSet<i64> = self.class_map.iter().copied().collect();
         holds(self.triplets.len() == numbers.len(), "a triplet a class")?;
         holds(self.left.len() == numbers.len(), "what is left of each")?;
+        holds(self.cells.len() == numbers.len(), "the cell of each")?;
         let (basis, tolerance) = (self.basis(), self.tolerance());
         let first = self.images(self.q0);
-        for ((&q1, triplet), left) in numbers.iter().zip(self.triplets).zip(self.left) {
+        let told = self.left.iter().zip(self.cells);
+        for ((&q1, triplet), (left, cell)) in numbers.iter().zip(self.triplets).zip(told) {
             let images = [
                 first.clone(),
                 self.images(q1),
@@ -182,6 +186,8 @@ impl Finished<'_> {
             let among = |k: usize| images[k].contains(&chosen[k]);
             holds((0..3).all(among), "a triplet has images of its points")?;
             let sum = self.sum(chosen);
+            let whole = [0, 1, 2].map(|k| cell[k] * self.d[k]);
+            holds(sum == whole, "the sum is the cell times d")?;
             let closes = sum == [0; 3];
             holds(
                 closes == left.is_none(),
@@ -233,6 +239,7 @@ mod tests {
             q0: 1,
             class_map: &[0, 1, 0],
             triplets: &[[1, 0, 2], [1, 1, 1]],
+            cells: &[[0; 3], [0, 0, 1]],
             left: &[None, Some(1.0)],
         }
     }
@@ -245,13 +252,15 @@ mod tests {
     /// Each fault of a list is seen.
     #[test]
     fn faults() {
-        let faults: [fn(&mut Finished); 8] = [
+        let faults: [fn(&mut Finished); 10] = [
             |list| list.class_map = &[0, 1, 2],
             |list| list.class_map = &[0, 0, 0],
             |list| list.class_map = &[2, 1, 2],
             |list| list.class_map = &[0, 1],
             |list| list.triplets = &[[1, 0, 2]],
             |list| list.triplets = &[[1, 1, 1], [1, 0, 2]],
+            |list| list.cells = &[[0; 3]],
+            |list| list.cells = &[[0; 3], [0, 0, 3]],
             |list| list.left = &[None, Some(2.0)],
             |list| list.left = &[None, None],
         ];
@@ -273,6 +282,7 @@ mod tests {
         list.swappable = false;
         list.class_map = &[0, 1, 2];
         list.triplets = &[[1, 0, 2], [1, 1, 1], [3, 2, 0]];
+        list.cells = &[[0; 3], [0, 0, 1], [0; 3]];
         list.left = &[None, Some(1.0), None];
         assert_eq!(list.check(), Ok(()));
     }

@@ -32,8 +32,8 @@ pub trait Function {
     /// Places of its slices that the program which replays the vectors holds.
     const HELD: &'static [usize] = &[8_192; 3];
 
-    /// Its last slices that hold floats, which stand there as their bits.
-    const FLOATS: usize = 0;
+    /// The places of its slices that hold floats, which stand there as their bits.
+    const FLOATS: &'static [usize] = &[];
 
     type Input: Input;
 

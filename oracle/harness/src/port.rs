@@ -71,6 +71,25 @@ extern "C" {
         told_len: usize,
     ) -> i64;
     fn zone_all_grid_addresses(d: *const i64, d_len: usize, out: *mut i64, out_len: usize) -> i64;
+    fn zone_grid_index_from_address(
+        address: *const i64,
+        address_len: usize,
+        d: *const i64,
+        d_len: usize,
+        told: *mut i64,
+        told_len: usize,
+    ) -> i64;
+    fn zone_rotate_grid_index(
+        point: i64,
+        rotation: *const i64,
+        rotation_len: usize,
+        d: *const i64,
+        d_len: usize,
+        ps: *const i64,
+        ps_len: usize,
+        told: *mut i64,
+        told_len: usize,
+    ) -> i64;
     fn zone_worst_pair(limit: i64, told: *mut i64, told_len: usize) -> i64;
     fn zone_transform_rotations(
         rotations: *const i64,
@@ -290,6 +309,41 @@ pub fn ir_grid_map(
 
 pub fn all_grid_addresses(d: &[i64], out: &mut [i64]) -> i64 {
     unsafe { zone_all_grid_addresses(d.as_ptr(), d.len(), out.as_mut_ptr(), out.len()) }
+}
+
+pub fn grid_index_from_address(address: &[i64], d: &[i64], told: &mut [i64]) -> i64 {
+    unsafe {
+        zone_grid_index_from_address(
+            address.as_ptr(),
+            address.len(),
+            d.as_ptr(),
+            d.len(),
+            told.as_mut_ptr(),
+            told.len(),
+        )
+    }
+}
+
+pub fn rotate_grid_index(
+    point: i64,
+    rotation: &[i64],
+    d: &[i64],
+    ps: &[i64],
+    told: &mut [i64],
+) -> i64 {
+    unsafe {
+        zone_rotate_grid_index(
+            point,
+            rotation.as_ptr(),
+            rotation.len(),
+            d.as_ptr(),
+            d.len(),
+            ps.as_ptr(),
+            ps.len(),
+            told.as_mut_ptr(),
+            told.len(),
+        )
+    }
 }
 
 pub fn worst_pair(limit: i64, told: &mut [i64]) -> i64 {

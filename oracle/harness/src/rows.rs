@@ -10,6 +10,7 @@ use crate::extended_gcd::*;
 use crate::floats::*;
 use crate::function::Function;
 use crate::grgrid::*;
+use crate::grid_index_from_address::*;
 use crate::hermite3x3::*;
 use crate::inputs::lent_classes::ClassesInput;
 use crate::inputs::lent_images::ImagesInput;
@@ -26,6 +27,7 @@ use crate::order_forms::*;
 use crate::recip_rotations::*;
 use crate::reciprocal_group::*;
 use crate::rotate_bz_grid_index::*;
+use crate::rotate_grid_index::*;
 use crate::same_grid::*;
 use crate::smith3x3::*;
 use crate::snf3x3::*;
@@ -127,6 +129,8 @@ pub static ROWS: &[Row] = &[
     Row::apart::<ReciprocalGroup>("reciprocal_group"),
     Row::call::<IrGridMap>("ir_grid_map"),
     Row::call::<AllGridAddresses>("all_grid_addresses"),
+    Row::apart::<GridIndexFromAddress>("grid_index_from_address"),
+    Row::apart::<RotateGridIndex>("rotate_grid_index"),
     Row::apart::<ClassWeights>("class_weights"),
     Row::call::<Snf3x3>("snf3x3"),
     Row::apart::<Smith3x3>("smith3x3"),

@@ -74,14 +74,13 @@ fn line<F: Function>(input: &F::Input) -> Option<String> {
     let mut line = Line::default();
     input.write(&mut line);
     line.number(answer);
-    let numbers = outputs.slices.len() - F::FLOATS;
     for (k, slice) in outputs.slices.iter().enumerate() {
-        if k < numbers {
-            write(&mut line, slice.len(), slice);
-        } else {
+        if F::FLOATS.contains(&k) {
             let float = |&bits: &i64| words(f64::from_bits(bits as u64));
             let words: Vec<i64> = slice.iter().flat_map(float).collect();
             write(&mut line, slice.len(), &words);
+        } else {
+            write(&mut line, slice.len(), slice);
         }
     }
     line.numbers(&outputs.told);

@@ -10,7 +10,7 @@ use Rattle.bz_triplets.proofs.input_tests.Goals.{After-point_fits}
 abbrev input : After-point_fits → Input
 input c =
     let a = c.args in
-    record { q0 = a.q0; addresses = a.addresses.now; map = []; classes = a.class_map.now; d = a.d; q = a.q; lattice = a.lattice; t = a.bz_grid_type; n = a.triplets; m = a.left; l = a.lengths }
+    record { q0 = a.q0; addresses = a.addresses.now; map = []; classes = a.class_map.now; d = a.d; q = a.q; lattice = a.lattice; t = a.bz_grid_type; n = a.r.triplets; m = a.r.left; l = a.r.lengths; c = a.r.cells }
 
 room : (c : After-point_fits) → true ≡ lengths_fit (input c) (own_places c.args.class_map.now (length c.args.class_map.now))
 room c = c.if-not-lengths_fit.ensures ∙ ap (lengths_fit (input c)) c.own_places.ensures.value

@@ -3,7 +3,7 @@ use Rattle.std.specs.Prelude.{◌≡◌, Bool, true, false, List, ℕ, ◌*◌, 
 use Rattle.std.specs.Float.{binary64}
 use Rattle.std.specs.Float.Ieee.{sub, div, lt}
 use Rattle.common.specs.Matrix.{Vec, side, vector}
-use Rattle.common.specs.Array.{items}
+use Rattle.common.specs.Array.{items, vector_of}
 use Rattle.common.specs.FloatMatrix.{float_vector}
 use Rattle.grgrid.specs.Own.{own_places}
 use Rattle.bzsearch.specs.SearchView.{float_nine}
@@ -13,27 +13,30 @@ use Rattle.bztable.specs.Access.{place_in}
 use Rattle.bztable.specs.Reading.{Read, got}
 use Rattle.bz_triplets.specs.declared.choices.Step.{Step}
 use Rattle.bz_triplets.specs.declared.choices.Step.TheVariants as step
-use Rattle.bz_triplets.specs.declared.places.Choice.{Choice}
+use Rattle.bz_triplets.specs.declared.places.Choice as places
 use Rattle.bz_triplets.specs.declared.choices.Triplet.{Triplet}
 use Rattle.bz_triplets.specs.declared.places.Places.{Places}
 use Rattle.bz_triplets.specs.declared.choices.Measure.{Measure}
 use Rattle.bz_triplets.specs.Choosing.{start, left, closed}
-use Rattle.bz_triplets.specs.BzTriplets.{State, Walk}
+use Rattle.bz_triplets.specs.BzTriplets.{Choice, State, Walk}
 
 -- a row of lattice · Q over the diagonal numbers
 abbrev pub row_over : List Float → List Float → List Float
 row_over a d = items (vector (λ k. div binary64 (side (float_vector a) k) (side (float_vector d) k)))
 
-abbrev pub found_by : Step → Vec ℕ → State
+abbrev pub found_by : Step → Choice → State
 found_by step.Empty c = start
 found_by (step.Left x) c = left x c
 found_by step.Closed c = closed c
 
-abbrev pub choice_view : Choice → Vec ℕ
+abbrev pub choice_view : places.Choice → Vec ℕ
 choice_view c = record { x = c.x.at; y = c.y.at; z = c.z.at }
 
+abbrev pub summed : Triplet → Choice
+summed t = record { at = choice_view t.choice; sum = vector_of t.sum.v }
+
 abbrev pub state_of : Triplet → State
-state_of t = found_by t.step (choice_view t.choice)
+state_of t = found_by t.step (summed t)
 
 abbrev pub state_read : Read Triplet → Read State
 state_read r = r then λ t. got (state_of t)
@@ -65,7 +68,8 @@ step_place (step.Left x) p = pos p
 step_place step.Closed p = pos p
 
 -- the outputs have room for the triplets of a class map
-pub record RoomFor (classes : List ℤ) (n m l : ℕ) : Type 0 where
+pub record RoomFor (classes : List ℤ) (n m l c : ℕ) : Type 0 where
   pub triplets : n ≡ own_places classes (length classes) * 3
   pub left : m ≡ own_places classes (length classes)
   pub lengths : l ≡ own_places classes (length classes)
+  pub cells : c ≡ own_places classes (length classes) * 3

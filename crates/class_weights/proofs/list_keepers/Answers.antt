@@ -8,7 +8,7 @@ use Rattle.common.specs.Array.{vector_of}
 use Rattle.grgrid.specs.Sides.{sides}
 use Rattle.class_weights.proofs.KeepersWalk.{Keeping, keeping-more, keeping-same, keeping-end}
 use Rattle.class_weights.proofs.list_keepers.Goals as goal
-use Rattle.class_weights.proofs.list_keepers.Goals.{then-rotate_grid_index-point, else-rotate_grid_index-point}
+use Rattle.class_weights.proofs.list_keepers.Goals.{then-rotate_point-point, else-rotate_point-point}
 
 pub loop-i-preserved : goal.loop-i-preserved
 loop-i-preserved c =
@@ -17,15 +17,15 @@ loop-i-preserved c =
     let d = sides s.point.g in
     let ps = vector_of s.ps.v in
     let k = l.invariant.1 in
-    elim c.if-rotate_grid_index-point.branch [
-      | then-rotate_grid_index-point w ↦ (
+    elim c.if-rotate_point-point.branch [
+      | then-rotate_point-point w ↦ (
         search rules,
-        rw w.k-is (keeping-more d ps s.rotations.list.now s.point.p k (search rules) c.rotate_grid_index.ensures.value c.at.ensures (search rules)
-            w.if-rotate_grid_index-point.true (w.keepers-is ∙ ap (set l.keepers l.k) (to_z_pos w64 {n = l.i} (search rules)))),
+        rw w.k-is (keeping-more d ps s.rotations.list.now s.point.p k (search rules) c.rotate_point.ensures.value c.at.ensures (search rules)
+            w.if-rotate_point-point.true (w.keepers-is ∙ ap (set l.keepers l.k) (to_z_pos w64 {n = l.i} (search rules)))),
       )
-      | else-rotate_grid_index-point w ↦ (
+      | else-rotate_point-point w ↦ (
         search rules,
-        rw (w.keepers-is, w.k-is) (keeping-same d ps s.rotations.list.now s.point.p k (search rules) c.rotate_grid_index.ensures.value c.at.ensures w.if-rotate_grid_index-point.false),
+        rw (w.keepers-is, w.k-is) (keeping-same d ps s.rotations.list.now s.point.p k (search rules) c.rotate_point.ensures.value c.at.ensures w.if-rotate_point-point.false),
       )
     ]
 

@@ -20,7 +20,7 @@ returns c =
     let d = sides s.classes.now.q0.g in
     let a = c.third.ensures ∙ ap (λ a. items (third (vector_of s.address0.v) (vector_of a))) c.grid_address_from_index-address1.ensures in
     let found =
-    ap (λ i. get_or s.classes.now.map_q.now i (pos 0)) (c.grid_index_from_address-q2.ensures.value ∙ ap (λ l. index d (vector_of l)) a)
+    ap (λ i. get_or s.classes.now.map_q.now i (pos 0)) (c.fold_address-q2.ensures.value ∙ ap (λ l. index d (vector_of l)) a)
     ∙ numbered-at s.classes.now.numbered (index d (third (vector_of s.address0.v) (address d s.q1))) in
     held-is _ c.min.type_inv ∙ c.min.ensures.value
     ∙ ap₂ int_min (held-is _ (search rules) ∙ found) (to_z_pos w64 {n = s.q1} (search rules))

@@ -18,7 +18,7 @@ pub list_in_basis-requires : goal.list_in_basis-requires
 list_in_basis-requires c =
     let a = c.args in
     rooms-agreed
-    (rooms (length a.addresses.now) (length a.map.now) (length a.grg.now) (length a.classes.now) (length a.points.now) (length a.triplets.now) (length a.left.now) (length a.lengths.now))
+    (rooms (length a.addresses.now) (length a.map.now) (length a.grg.now) (length a.classes.now) (length a.points.now) (length a.triplets.now) (length a.left.now) (length a.lengths.now) (length a.cells.now))
     (sym c.rooms_agree.ensures ∙ c.if-not-rooms_agree.false)
 
 pub returns-in_err-s-clause-value : goal.returns-in_err-s-clause-value

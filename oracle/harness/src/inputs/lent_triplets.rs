@@ -27,8 +27,8 @@ pub struct TripletsInput {
     pub q: Vec<i64>,
     pub lattice: Vec<f64>,
     pub bz_grid_type: i64,
-    /// Places of the three outputs that are lent.
-    pub places: [usize; 3],
+    /// Places of the four outputs that are lent.
+    pub places: [usize; 4],
 }
 
 /// Choices that a call may have to try.
@@ -54,6 +54,12 @@ pub fn own_places(class_map: &[i64]) -> usize {
     class_map.iter().enumerate().filter(|&at| own(at)).count()
 }
 
+/// The places of the outputs that a class map wants.
+pub fn places_for(class_map: &[i64]) -> [usize; 4] {
+    let triplets = own_places(class_map);
+    [3 * triplets, triplets, triplets, 3 * triplets]
+}
+
 /// The classes at a point under a list that the class call takes, else every point by
 /// itself.
 pub fn classes(
@@ -76,7 +82,6 @@ impl TripletsInput {
         q: MatI,
         lattice: MatD,
     ) -> TripletsInput {
-        let triplets = own_places(class_map);
         TripletsInput {
             q0,
             addresses: tables.addresses.clone(),
@@ -86,8 +91,13 @@ impl TripletsInput {
             q: q.as_flattened().to_vec(),
             lattice: lattice.as_flattened().to_vec(),
             bz_grid_type: tables.bz_grid_type,
-            places: [3 * triplets, triplets, triplets],
+            places: places_for(class_map),
         }
+    }
+
+    /// What the calls before leave.
+    pub fn chained(random: &mut Random) -> TripletsInput {
+        chained(random).0
     }
 
     /// The triplets of the typical grid with tables of one type.
@@ -287,8 +297,7 @@ fn damaged(random: &mut Random) -> TripletsInput {
             input.bz_grid_type = tables.bz_grid_type;
         }
     }
-    let triplets = own_places(&input.class_map);
-    input.places = [3 * triplets, triplets, triplets];
+    input.places = places_for(&input.class_map);
     input
 }
 
@@ -303,7 +312,7 @@ impl Input for TripletsInput {
                 0..=3 => made_up(random),
                 4..=7 => damaged(random),
                 8 => at_edge(random),
-                _ => chained(random).0,
+                _ => TripletsInput::chained(random),
             };
             match random.below(120) {
                 0 => input.d = grids::damaged_diagonal(random).to_vec(),

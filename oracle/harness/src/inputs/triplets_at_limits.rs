@@ -14,10 +14,10 @@ use crate::limits::{ADDRESS, LATTICE_ENTRY, MAP_VALUE, Q_ENTRY};
 use crate::tests::points;
 
 pub fn all() -> Vec<TripletsInput> {
-    [small(), values(), refused()].concat()
+    [small(), values(), moved(), refused()].concat()
 }
 
-/// Every point of small grids, one by one and under the inversion with swapping.
+/// Up to three points, or images, of small grids, one by one and under the inversion with swapping.
 fn small() -> Vec<TripletsInput> {
     let cubic = REGULAR[0];
     let grids = [
@@ -37,7 +37,7 @@ fn small() -> Vec<TripletsInput> {
                 SPARSE => points(d).expect("few points"),
                 _ => tables.images(),
             };
-            for image in 0..last.min(4) {
+            for image in 0..last.min(3) {
                 let address = tables.addresses.as_chunks().0[image];
                 let point = grid_index_from_address(address, d);
                 for (list, flags) in [(vec![], [false; 2]), (vec![INVERSION], [true; 2])] {
@@ -108,6 +108,24 @@ fn values() -> Vec<TripletsInput> {
     inputs
 }
 
+/// Tables with one image moved off its point, so that sums below 0 leave a remainder.
+fn moved() -> Vec<TripletsInput> {
+    let d = [3, 1, 1];
+    let mut inputs = Vec::new();
+    for tables in tables::both(d, REGULAR[0]) {
+        for (image, by) in [-1, -2, -4].into_iter().enumerate() {
+            let mut tables = tables.clone();
+            let number = tables.addresses[3 * image];
+            tables.set_address(3 * image, number + by);
+            let classes = [0, 1, 2];
+            inputs.push(TripletsInput::new(
+                1, &tables, &classes, IDENTITY, REGULAR[0],
+            ));
+        }
+    }
+    inputs
+}
+
 /// Refused by 13, 3 or 9, also where later tests would refuse too.
 fn refused() -> Vec<TripletsInput> {
     let [sparse, dense] = tables::both([2, 1, 1], REGULAR[0]);
@@ -153,13 +171,16 @@ fn refused() -> Vec<TripletsInput> {
             Arc::make_mut(&mut input.addresses).push(0)
         }));
         for places in [
-            [0, 2, 2],
-            [5, 2, 2],
-            [7, 2, 2],
-            [6, 1, 2],
-            [6, 3, 2],
-            [6, 2, 0],
-            [6, 2, 3],
+            [0, 2, 2, 6],
+            [5, 2, 2, 6],
+            [7, 2, 2, 6],
+            [6, 1, 2, 6],
+            [6, 3, 2, 6],
+            [6, 2, 0, 6],
+            [6, 2, 3, 6],
+            [6, 2, 2, 0],
+            [6, 2, 2, 5],
+            [6, 2, 2, 7],
         ] {
             inputs.push(with(tables, &|input| {
                 input.places = places;

@@ -37,6 +37,8 @@ extern "C" {
         left_len: usize,
         left_length: *mut f64,
         left_length_len: usize,
+        cells: *mut i64,
+        cells_len: usize,
     ) -> i64;
     fn zone_list(
         job: *const u8,
@@ -90,6 +92,7 @@ pub fn bz_triplets_at_q(
     out: &mut [i64],
     left: &mut [i64],
     left_length: &mut [i64],
+    cells: &mut [i64],
 ) -> i64 {
     unsafe {
         zone_bz_triplets_at_q(
@@ -113,6 +116,8 @@ pub fn bz_triplets_at_q(
             left.len(),
             left_length.as_mut_ptr().cast(),
             left_length.len(),
+            cells.as_mut_ptr(),
+            cells.len(),
         )
     }
 }

@@ -51,6 +51,8 @@ returns-clause-lengths_after c k =
     (w.triplets_after ∙ ap (λ k. replicate k (negsuc 0)) agreed.triplets-agree)
     (w.left_after ∙ ap (λ k. replicate k (negsuc 0)) agreed.left-agree)
     (w.lengths_after ∙ ap (λ k. replicate k (of_int binary64 (negsuc 0))) agreed.lengths-agree)
+    (w.cells_after ∙ ap (λ k. replicate k (negsuc 0)) agreed.cells-agree)
+    (search rules)
     (search rules)
     (search rules)
     (search rules)

@@ -59,7 +59,7 @@ fn add3(a: Address, b: Address, c: Address) -> Sum
     }
 }
 
-fn is_zero(g: [i64; 3]) -> bool
+pub fn is_zero(g: [i64; 3]) -> bool
     ensures { result ≡ is_zero (vector_of g) }
 {
     g == [0, 0, 0]

@@ -1,8 +1,8 @@
 // The triplet of a class, and the walk over the classes.
 ghost use Rattle.std.specs.Prelude.{◌≡◌, ◌++◌, ◌+◌, ◌*◌, ◌≤◌, ◌<◌, length, take, drop};
 ghost use Rattle.common.specs.Tested.{giving, ◌then◌};
-ghost use Rattle.common.specs.Array.{vector_of, Sized};
-ghost use Rattle.grgrid.specs.Grid.{size};
+ghost use Rattle.common.specs.Array.{vector_of, items, Sized};
+ghost use Rattle.grgrid.specs.Grid.{size, cell};
 ghost use Rattle.grgrid.specs.Own.{own_points};
 ghost use Rattle.grgrid.specs.Sides.{sides};
 ghost use Rattle.bztable.specs.Access.{image_places};
@@ -12,7 +12,7 @@ ghost use Rattle.bz_triplets.specs.BzTriplets.{mark_of, length_of, triplet_list,
 ghost use Rattle.bz_triplets.specs.Code.TripletsView.{state_of, state_read, places_listed, walk_by, step_place, RoomFor};
 
 use crate::choices;
-use crate::choices::{Measure, Step, Triplet};
+use crate::choices::{Measure, Step, Sum, Triplet};
 use crate::places::{Place, Places};
 use bzgrid::GridType;
 use bztable::reading;
@@ -125,12 +125,22 @@ fn store_places(out: &mut [i64], at: usize, t: Triplet)
     out[at * 3 + 2] = place_of(s, c.z);
 }
 
+// Most sums are zero, which lies in cell (0,0,0): that takes no division.
+fn sum_cell(sum: Sum, g: Grid) -> [i64; 3]
+    ensures { result ≡ items (cell (sides g) (vector_of sum.v)) }
+{
+    if choices::is_zero(sum.v) {
+        return [0, 0, 0];
+    }
+    grgrid::fold_address(sum.v, g).cell
+}
+
 // The cell of the triplet's sum.
 fn cell_of(t: Triplet, g: Grid) -> [i64; 3]
     ensures { result ≡ cells_of (sides g) (state_of t) }
 {
     match t.step {
-        Step::Closed | Step::Left(_) => grgrid::fold_address(t.sum.v, g).cell,
+        Step::Closed | Step::Left(_) => sum_cell(t.sum, g),
         Step::Empty => [-1, -1, -1],
     }
 }

@@ -35,6 +35,7 @@ use Rattle.triplet_grid.proofs.Stabilizer.{partner-index, partner-inside}
 use Rattle.bz_triplets.specs.Choosing.{start, left, closed}
 use Rattle.bz_triplets.specs.BzTriplets.{Choice, State, Walk, is_zero, places_of, cells_of, first_of, chosen, triplet_of, triplet_at, by_threes, cell_list, triplets_read, walk_of}
 use Rattle.bz_triplets.proofs.ByClass.{length-places, length-cells}
+use Rattle.bz_triplets.proofs.Sums.{zero-sum}
 use Rattle.bz_triplets.proofs.Choosing.{Picks, Length, Triplet, triplet-best, float-order, at_least}
 use Rattle.bz_triplets.proofs.Choosing as choosing
 use Rattle.grgrid.proofs.Own.{own-points}
@@ -46,9 +47,6 @@ use Rattle.demand3.proofs.SumLengths.{sum-size, sum-length}
 use Rattle.demand3.proofs.AcceptedTriplets.{classes-accepted, starts-point, first-got, TripletsAccepted, triplets-accepted}
 
 -- ---- a sum of zero
-zero-sum : (g : Vec ℤ) → T (is_zero g) → g ≡ origin
-zero-sum g t = same-vector {f = side g} {g = λ k. pos 0} (λ k. same-eq (side g k) (pos 0) (axes-of (λ k. same (side g k) (pos 0)) t k))
-
 sum-zero : {g : Vec ℤ} → g ≡ origin → T (is_zero g)
 sum-zero e = subst (λ g. T (is_zero g)) (sym e) tt
 

@@ -152,3 +152,11 @@ module _ (d : Vec ℕ) (s : Sides d) where
   -- as the code tells it
   pub exact-told : (a : Vec ℤ) {f : Folded} → f.index ≡ index d a → f.cell ≡ items (cell d a) → Exact d a f
   exact-told a e g k = rw (e, g) (exact a k)
+
+-- 0 lies in the first cell
+pub origin-cell : (d : Vec ℕ) → Sides d → {a : Vec ℤ} → a ≡ origin → items (cell d a) ≡ pos 0 ∷ pos 0 ∷ pos 0 ∷ []
+unfolding cell
+origin-cell d s {a} e = ap (λ a. items (cell d a)) e ∙ (λ i. pos (none d.x (s.positive X) i) ∷ pos (none d.y (s.positive Y) i) ∷ pos (none d.z (s.positive Z) i) ∷ [])
+  where
+    none : (n : ℕ) → zero < n → 0 / n ≡ 0
+    none n h = div-eq_of_lt-le n (omega (arith, h)) (omega (arith, h))

@@ -12,6 +12,7 @@ use Rattle.common.specs.Array.{vector_of, items, Sized}
 use Rattle.grgrid.specs.Grid.{size, address, double}
 use Rattle.grgrid.specs.declared.grid.Grid.{Grid}
 use Rattle.grgrid.specs.Sides.{sides}
+use Rattle.grgrid.proofs.Folding.{Sides}
 
 -- ---- a grid
 pub grid-few : (g : Grid) → size (sides g) ≤ 134217728
@@ -24,6 +25,9 @@ pub sides-small : (g : Grid) (k : Axis) → side (sides g) k ≤ 512
 sides-small g X = g.fits.1
 sides-small g Y = g.fits.3
 sides-small g Z = g.fits.5
+
+pub grid-sides : (g : Grid) → Sides (sides g)
+grid-sides g = record { positive = λ k. elim k as (λ k. 0 < side (sides g) k) [ X ↦ g.fits.0 | Y ↦ g.fits.2 | Z ↦ g.fits.4 ] }
 
 module _ (g : Grid) (p : ℕ) (h : p < size (sides g)) where
   pub address-sized : Sized 10000000000000 (items (address (sides g) p))

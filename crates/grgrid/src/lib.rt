@@ -47,6 +47,8 @@ struct Part {
     cell: i64,
 }
 
+// Inlined, as what folds an address is, so that a caller of the index alone divides no more than it must.
+#[inline(always)]
 fn fold(a: i64, n: usize) -> Part
     requires { (0 < n) × (n ≤ 512) }
     ensures value { result.rest ≡ fold a n }
@@ -84,6 +86,7 @@ pub struct Folded {
 }
 
 #[tactic(auto, unfolding(crate::specs::Grid::index, crate::specs::Grid::cell))]
+#[inline(always)]
 pub fn fold_address(address: [i64; 3], g: Grid) -> Folded
     ensures value { result.index ≡ index (sides g) (vector_of address) }
     ensures cell_value { result.cell ≡ items (cell (sides g) (vector_of address)) }
@@ -172,6 +175,7 @@ pub fn halve_address(a: [i64; 3], ps: Shift) -> [i64; 3]
 }
 
 // Fold a double-grid address.
+#[inline(always)]
 fn double_grid_index(a: [i64; 3], g: Grid, ps: Shift) -> Folded
     requires { Sized 6000000000000300000 a }
     ensures value { result.index ≡ index (sides g) (halve (vector_of a) (vector_of ps.v)) }
@@ -182,6 +186,7 @@ fn double_grid_index(a: [i64; 3], g: Grid, ps: Shift) -> Folded
 }
 
 // A doubled address after a rotation, folded.
+#[inline(always)]
 fn rotated_index(a: Doubled, rotation: Rotation, g: Grid, ps: Shift) -> Folded
     ensures value { result.index ≡ index (sides g) (halve (matrix_of rotation.m ▹ vector_of a.v) (vector_of ps.v)) }
     ensures cell_value { result.cell ≡ items (cell (sides g) (halve (matrix_of rotation.m ▹ vector_of a.v) (vector_of ps.v))) }
@@ -197,6 +202,7 @@ fn doubled_point(point: GridPoint, ps: Shift) -> Doubled
 }
 
 // Where a rotation carries a point.
+#[inline(always)]
 pub fn rotate_point(point: GridPoint, rotation: Rotation, ps: Shift) -> Folded
     ensures value { result.index ≡ rotate (sides point.g) (vector_of ps.v) (matrix_of rotation.m) point.p }
     ensures cell_value { result.cell ≡ items (cell (sides point.g) (rotated (sides point.g) (vector_of ps.v) (matrix_of rotation.m) point.p)) }

@@ -77,6 +77,7 @@ pub fn checked_rem(a: i64, d: i64) -> Result<i64, ArithmeticError>
     divided(d, a.checked_rem(d))
 }
 
+#[inline(always)]
 pub fn div_euclid(a: i64, d: i64) -> i64
     requires { Divisible a d }
     ensures { result ≡ div_euclid a d }
@@ -84,6 +85,7 @@ pub fn div_euclid(a: i64, d: i64) -> i64
     a.div_euclid(d)
 }
 
+#[inline(always)]
 pub fn rem_euclid(a: i64, d: i64) -> i64
     requires { Divisible a d }
     ensures { result ≡ rem_euclid a d }

@@ -47,6 +47,7 @@ fn squared_distance(g: Sum, lqd: [f64; 9]) -> f64
     bzsearch::length_squared(lqd, v)
 }
 
+#[inline(always)]
 fn add3(a: Address, b: Address, c: Address) -> Sum
     ensures { result.v ≡ items (sum_of (vector_of a.v) (vector_of b.v) (vector_of c.v)) }
 {
@@ -77,6 +78,7 @@ fn is_shorter(found: Step, d2: f64, tolerance: f64) -> bool
 }
 
 // A choice whose sum is g.
+#[inline(always)]
 fn with_sum(t: Triplet, choice: Choice, g: Sum, m: Measure) -> Triplet
     requires { is_closed t.step ≡ false }
     ensures { state_of result ≡ tried_sum (walk_by m []) (state_of t) (choice_view choice) (vector_of g.v) }
@@ -99,6 +101,7 @@ fn with_sum(t: Triplet, choice: Choice, g: Sum, m: Measure) -> Triplet
     t
 }
 
+#[inline(always)]
 fn try_choice(table: &Table, t: Triplet, choice: Choice, m: Measure) -> Result<Triplet, Refusal>
     requires { is_closed t.step ≡ false }
     ensures { state_read result ≡ try_at (walk_by m table.now.addresses.now) (got (state_of t)) (choice_view choice) }
@@ -109,6 +112,7 @@ fn try_choice(table: &Table, t: Triplet, choice: Choice, m: Measure) -> Result<T
     Ok(with_sum(t, choice, add3(a, b, c), m))
 }
 
+#[inline(always)]
 fn place_in(r: Places, k: usize) -> Place
     requires { k < r.count }
     ensures { result.at ≡ place_in r.first.at r.others k }
@@ -129,6 +133,7 @@ fn is_closed(s: Step) -> bool
 }
 
 // Images of q0, q1 and q2 in three nested walks. Where one of the three has none the walks would turn for nothing.
+#[inline(always)]
 pub fn search_choices(
     table: &Table,
     q0: Places,

@@ -22,6 +22,7 @@ use grgrid::{Address, Grid};
 
 // ---- the images of a point
 
+#[inline(always)]
 fn places_at(table: &Table, p: Place) -> Result<Places, Refusal>
     ensures { places_listed result ≡ image_places table.now.t table.now.map.now (size (sides table.now.g)) p.at }
 {
@@ -44,6 +45,7 @@ fn places_at(table: &Table, p: Place) -> Result<Places, Refusal>
 // ---- the triplet of a class
 
 #[tactic(auto, unfolding(crate::specs::BzTriplets::chosen))]
+#[inline(always)]
 fn chosen(table: &Table, q0: Place, q1: Place, q2: Place, m: Measure) -> Result<Triplet, Refusal>
     ensures { state_read result ≡ chosen table.now.t (size (sides table.now.g)) table.now.map.now (walk_by m table.now.addresses.now) q0.at q1.at q2.at }
 {
@@ -65,6 +67,7 @@ fn first_of(table: &Table, q1: usize) -> Result<Address, Refusal>
 
 // Of the class of q1, where a0 is an address of q0.
 #[tactic(auto, unfolding(crate::specs::BzTriplets::triplet_of))]
+#[inline(always)]
 fn triplet_of(
     table: &Table,
     a0: Address,
@@ -114,6 +117,7 @@ fn place_of(s: Step, place: Place) -> i64
 }
 
 // The three places of triplet `at`.
+#[inline(always)]
 fn store_places(out: &mut [i64], at: usize, t: Triplet)
     requires { at * 3 + 3 ≤ length out.old }
     ensures { out.new ≡ take (at * 3) out.old ++ (places_of (state_of t) ++ drop (at * 3 + 3) out.old) }
@@ -126,6 +130,7 @@ fn store_places(out: &mut [i64], at: usize, t: Triplet)
 }
 
 // Most sums are zero, which lies in cell (0,0,0): that takes no division.
+#[inline(always)]
 fn sum_cell(sum: Sum, g: Grid) -> [i64; 3]
     ensures { result ≡ items (cell (sides g) (vector_of sum.v)) }
 {
@@ -136,6 +141,7 @@ fn sum_cell(sum: Sum, g: Grid) -> [i64; 3]
 }
 
 // The cell of the triplet's sum.
+#[inline(always)]
 fn cell_of(t: Triplet, g: Grid) -> [i64; 3]
     ensures { result ≡ cells_of (sides g) (state_of t) }
 {
@@ -146,6 +152,7 @@ fn cell_of(t: Triplet, g: Grid) -> [i64; 3]
 }
 
 // The cell of triplet `at`.
+#[inline(always)]
 fn store_cell(out: &mut [i64], at: usize, t: Triplet, g: Grid)
     requires { at * 3 + 3 ≤ length out.old }
     ensures { out.new ≡ take (at * 3) out.old ++ (cells_of (sides g) (state_of t) ++ drop (at * 3 + 3) out.old) }

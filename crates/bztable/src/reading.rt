@@ -36,6 +36,7 @@ pub fn whole_addresses(list: &[i64]) -> bool
 }
 
 // 0 to 2^40. The bound is a clause and not of a type: each reader of a place reckons with the bare number at once.
+#[inline(always)]
 fn place_of(n: i64) -> Result<usize, Refusal>
     ensures value { result ≡ place_of n }
     ensures below { IfOk result (λ p. p < 2199023255552) }
@@ -47,6 +48,7 @@ fn place_of(n: i64) -> Result<usize, Refusal>
 }
 
 // Each number within 10^13.
+#[inline(always)]
 pub fn address_at(addresses: &[i64], i: usize) -> Result<Address, Refusal>
     ensures { vector_read result ≡ address_at addresses.now i }
 {
@@ -69,6 +71,7 @@ pub fn address_of(addresses: &[i64], i: i64) -> Result<Address, Refusal>
     address_at(addresses, i as usize)
 }
 
+#[inline(always)]
 pub fn place_at(map: &[i64], i: usize) -> Result<usize, Refusal>
     ensures value { result ≡ place_at map.now i }
     ensures below { IfOk result (λ p. p < 2199023255552) }
@@ -77,6 +80,7 @@ pub fn place_at(map: &[i64], i: usize) -> Result<usize, Refusal>
 }
 
 // The places that the map bounds at k and k + 1, counted from `first` on.
+#[inline(always)]
 pub fn bounded(map: &[i64], k: usize, first: usize) -> Result<Run, Refusal>
     requires { (k < 18446744073709551615) × (first ≤ 65536) }
     ensures value { result ≡ bounded map.now k first }
@@ -91,6 +95,7 @@ pub fn bounded(map: &[i64], k: usize, first: usize) -> Result<Run, Refusal>
 }
 
 // Those of the images of point p: of all, or in a sparse table of all but the first.
+#[inline(always)]
 pub fn run_of(table: &Table, p: usize) -> Result<Run, Refusal>
     requires { p < 9223372036854775808 }
     ensures value { result ≡ run_of table.now.t table.now.map.now (size (sides table.now.g)) p }

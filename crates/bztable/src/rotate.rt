@@ -53,6 +53,7 @@ fn turned(a: Address, rotation: Rotation, ps: Shift) -> [i64; 3]
 }
 
 // Among the images that the map bounds.
+#[inline(always)]
 fn among_run(table: &Table, a: [i64; 3], p: usize) -> Result<Option<usize>, Refusal>
     requires { p < size (sides table.now.g) }
     ensures value { let n = size (sides table.now.g) in

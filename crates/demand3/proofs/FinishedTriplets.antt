@@ -6,15 +6,13 @@ use lib.Dec.{T, leb, leb→le}
 use lib.IntN.{ℤ, pos, nat_abs}
 use lib.Ieee.{lt, le}
 use lib.ListN.{length, get_or}
-use Rattle.integer.specs.Same.{same}
 use Rattle.integer.proofs.Test.{and_r}
-use Rattle.integer.proofs.Same.{same-eq}
 use Rattle.float.specs.Value.{zero_f}
 use Rattle.common.specs.Matrix.{Axis, X, Y, Z, Vec, side, vector, map_vec, origin}
 use Rattle.common.specs.Array.{items, rows, vector_of}
 use Rattle.common.specs.FloatMatrix.{float_matrix}
 use Rattle.common.proofs.Tests.{same-ok}
-use Rattle.common.proofs.Matrix.{axes-of, same-vector, side-vector}
+use Rattle.common.proofs.Matrix.{same-vector, side-vector}
 use Rattle.grgrid.specs.Grid.{index, cell, address}
 use Rattle.grgrid.proofs.Folding.{index-address}
 use Rattle.triplet_grid.specs.Partner.{third, partner}

@@ -76,7 +76,7 @@ int main(int argc, char **argv)
 {
     int64_t type = argc == 3 ? atoi(argv[1]) : 2;
     int64_t q0 = argc == 3 ? atoi(argv[2]) : 2;
-    int64_t told[3];
+    int64_t told[1];
 
     /* 1: the grid */
     int64_t d[3], p[9], q[9];
@@ -95,9 +95,10 @@ int main(int argc, char **argv)
     /* 4: the images, in twice the room as long as it is too small */
     size_t map_length = (size_t)ZONE_MAP_LENGTH(type, n), room = 8 * n;
     int64_t *map = places(map_length), *addresses = places(3 * room), *grg = places(room);
+    int64_t made[3 + ZONE_RECORD_LENGTH], *record = made + 3; /* three lengths, and the record of the table */
     int64_t answer;
     while ((answer = zone_bz_grid_addresses(d, 3, q, 9, SHIFT, 3, LATTICE, 9, type, addresses, 3 * room, map,
-                                            map_length, grg, room, told, 3)) == ZONE_WRONG_LENGTH) {
+                                            map_length, grg, room, made, 10)) == ZONE_WRONG_LENGTH) {
         room *= 2;
         free(addresses);
         free(grg);
@@ -105,7 +106,7 @@ int main(int argc, char **argv)
         grg = places(room);
     }
     accepted("zone_bz_grid_addresses", answer);
-    size_t addresses_length = (size_t)told[0];
+    size_t addresses_length = (size_t)made[0];
 
     /* 5: the classes at q0 */
     int64_t *map_triplets = places(n), *map_q = places(n);
@@ -118,9 +119,9 @@ int main(int argc, char **argv)
     double *left_length = (double *)places(classes);
     int64_t *cells = places(3 * classes);
     accepted("zone_bz_triplets_at_q",
-             zone_bz_triplets_at_q(type == 1 ? q0 : map[q0], addresses, addresses_length, map, map_length,
-                                   map_triplets, n, d, 3, q, 9, LATTICE, 9, type, triplets, 3 * classes, left,
-                                   classes, left_length, classes, cells, 3 * classes));
+             zone_bz_triplets_at_q(type == 1 ? q0 : map[q0], addresses, addresses_length, map, map_length, record,
+                                   ZONE_RECORD_LENGTH, map_triplets, n, d, 3, q, 9, LATTICE, 9, type, triplets,
+                                   3 * classes, left, classes, left_length, classes, cells, 3 * classes));
 
     print_line("grid", d, 3);
     print_line("map", map_triplets, n);

@@ -30,10 +30,10 @@ extern "C" {
         q0: i64, d: In, d_len: Len, rotations: In, rotations_len: Len, time_reversal: bool, swappable: bool,
         map_triplets: Out, map_triplets_len: Len, map_q: Out, map_q_len: Len, told: Out, told_len: Len) -> i64;
     fn zone_bz_triplets_at_q(
-        q0: i64, addresses: In, addresses_len: Len, map: In, map_len: Len, class_map: In, class_map_len: Len, d: In,
-        d_len: Len, q: In, q_len: Len, lattice: *const f64, lattice_len: Len, bz_grid_type: i64, out: Out,
-        out_len: Len, left: Out, left_len: Len, left_length: *mut f64, left_length_len: Len, cells: Out,
-        cells_len: Len) -> i64;
+        q0: i64, addresses: In, addresses_len: Len, map: In, map_len: Len, table: In, table_len: Len, class_map: In,
+        class_map_len: Len, d: In, d_len: Len, q: In, q_len: Len, lattice: *const f64, lattice_len: Len,
+        bz_grid_type: i64, out: Out, out_len: Len, left: Out, left_len: Len, left_length: *mut f64,
+        left_length_len: Len, cells: Out, cells_len: Len) -> i64;
 }
 
 fn direct_rotations() -> Vec<i64> {
@@ -90,7 +90,7 @@ fn main() {
     });
 
     let mut map = vec![0; if grid_type == 1 { 9 * n + 1 } else { n + 1 }];
-    let (mut room, mut addresses, mut grg, mut lengths) = (8 * n, vec![], vec![], [0; 3]);
+    let (mut room, mut addresses, mut grg, mut told) = (8 * n, vec![], vec![], [0; 10]);
     let answer = loop {
         addresses.resize(3 * room, 0);
         grg.resize(room, 0);
@@ -98,7 +98,7 @@ fn main() {
             zone_bz_grid_addresses(
                 d.as_ptr(), 3, q.as_ptr(), 9, SHIFT.as_ptr(), 3, LATTICE.as_ptr(), 9, grid_type,
                 addresses.as_mut_ptr(), addresses.len(), map.as_mut_ptr(), map.len(), grg.as_mut_ptr(), grg.len(),
-                lengths.as_mut_ptr(), 3)
+                told.as_mut_ptr(), told.len())
         };
         if answer != WRONG_LENGTH {
             break answer;
@@ -106,6 +106,8 @@ fn main() {
         room *= 2;
     };
     accepted("zone_bz_grid_addresses", answer);
+    // three lengths, and the record that goes with the table
+    let (lengths, table) = told.split_at(3);
     addresses.truncate(lengths[0] as usize);
 
     let (mut map_triplets, mut map_q, mut classes) = (vec![0; n], vec![0; n], [0]);
@@ -121,9 +123,10 @@ fn main() {
     let start = if grid_type == 1 { q0 } else { map[q0 as usize] };
     accepted("zone_bz_triplets_at_q", unsafe {
         zone_bz_triplets_at_q(
-            start, addresses.as_ptr(), addresses.len(), map.as_ptr(), map.len(), map_triplets.as_ptr(), n,
-            d.as_ptr(), 3, q.as_ptr(), 9, LATTICE.as_ptr(), 9, grid_type, triplets.as_mut_ptr(), 3 * k,
-            left.as_mut_ptr(), k, left_length.as_mut_ptr(), k, cells.as_mut_ptr(), 3 * k)
+            start, addresses.as_ptr(), addresses.len(), map.as_ptr(), map.len(), table.as_ptr(), table.len(),
+            map_triplets.as_ptr(), n, d.as_ptr(), 3, q.as_ptr(), 9, LATTICE.as_ptr(), 9, grid_type,
+            triplets.as_mut_ptr(), 3 * k, left.as_mut_ptr(), k, left_length.as_mut_ptr(), k, cells.as_mut_ptr(),
+            3 * k)
     });
 
     print_line("grid", &d);

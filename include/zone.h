@@ -63,6 +63,9 @@
  *                     places, of which the first 8 * N are a doubled mesh: place i stands at the index of its address
  *                     with 2·d for d (of several that fall together the last), and 8 * N where no image falls
  *
+ * The record of a table tells the grid that it is for: d0 d1 d2 ps0 ps1 ps2 type. Keep it with the table, in files too;
+ * each call that reads the table takes it as `table`, and gives 17 where it has not the d, ps and type of the call.
+ *
  * Both types have the same images. Squared lengths are compared up to the tolerance, 0.01 times the largest of
  * |bj|² / dj²; a basis that is far from reduced makes it so large that images are not the shortest.
  *
@@ -73,14 +76,14 @@
  *   3  zone_transform_rotations    the reciprocal list, d, q            the transformed list
  *      zone_ir_grid_map            the transformed list, d, ps          the classes of the points, if wanted
  *      zone_class_weights          the same, a point                    their weights and members, likewise
- *   4  zone_bz_grid_addresses      d, q, ps, lattice, type              addresses, map, grg
+ *   4  zone_bz_grid_addresses      d, q, ps, lattice, type              addresses, map, grg, the record
  *      zone_mark_candidates        d, q, ps, ranges of the cell,        which addresses of a point are the shortest
  *                                  a point                              whatever the cell is, if wanted
  *   5  zone_ir_triplets_at_q       q0, d, the transformed list,         map_triplets, map_q
  *                                  time_reversal, swappable
  *   6  zone_bz_triplets_at_q       q0 or an image of it, addresses,     a triplet of images for each class
- *                                  map, map_triplets, d, q, lattice,
- *                                  type
+ *                                  map, the record, map_triplets, d,
+ *                                  q, lattice, type
  *      zone_class_sheet            map_triplets, the triplets           a line of text for each class, if wanted
  *
  * time_reversal says that q and -q are equivalent, swappable that q1 and q2 may change places. d, q, ps, lattice,
@@ -117,7 +120,7 @@
  *   sheet        a class number and a weight of at most 6 characters, an image index of at most 11
  *
  * A list of matrices has a multiple of 9 places, one of addresses a multiple of 3. Tables that are read may have any
- * length and hold anything.
+ * length and hold anything; their record has seven places with any numbers, which are only compared.
  *
  * REFUSALS stand with each call in the order of their tests; the first that applies is the answer. A length that hangs
  * on a number outside its limits is not tested: then 3 is given. */
@@ -152,6 +155,7 @@ enum zone_refusal {
     ZONE_OUTSIDE_TABLE = 14,               /* an index asked for or read is outside its slice, a number read from an
                                               image map outside 0..2^40, or an address read outside -10^13..10^13 */
     ZONE_BAD_HEADER = 15,                  /* the header of a job file is wrong */
+    ZONE_OTHER_GRID = 17,                  /* a table's record has another diagonal, shift or type than the call */
     ZONE_NOT_GROUP = 18,                   /* the rotations, as given, are no group: the identity is missing, one stands
                                               twice, one has a determinant other than 1 or -1, or the product of two
                                               is not among them */
@@ -163,6 +167,7 @@ enum zone_refusal {
 #define ZONE_MOST_POINTS 65536
 #define ZONE_CANDIDATES 125 /* of a point, whose marks zone_mark_candidates gives */
 #define ZONE_MAP_LENGTH(type, n) ((type) == 1 ? 9 * (n) + 1 : (n) + 1) /* of the image map of n points */
+#define ZONE_RECORD_LENGTH 7 /* of an image table's record, which starts at told + 3 of zone_bz_grid_addresses */
 #define ZONE_MOST_IMAGES INT64_C(2363359232) /* in a table, whatever the lattice */
 #define ZONE_SHEET_LENGTH(k) (46 * ((k) + ((k) + 39) / 40)) /* of the sheet of k classes */
 #define ZONE_JOB_LENGTH 8192                 /* of the longest job file, in bytes */
@@ -268,10 +273,10 @@ int64_t zone_rotate_grid_index(int64_t point, const int64_t *rotation, size_t ro
                                size_t d_len, const int64_t *ps, size_t ps_len, int64_t *told, size_t told_len);
 
 /* The image table of the grid. In: d[3], q[9], ps[3], lattice[9], the type. Out: of M images addresses (3 * M
- * places), map (ZONE_MAP_LENGTH) and grg (M); told[3]: these three lengths. Outputs may be longer and hold -1 past
- * them. M is not known beforehand: a point has at most 8 shortest addresses, and the tolerance seldom adds any, so
- * lend room for 8 * N images, and for twice as many as long as the answer is 13. Refusals: 13 for the inputs and
- * told, 3, 9, 10, 11, 12, 13 for an output that is too short. */
+ * places), map (ZONE_MAP_LENGTH) and grg (M); told[10]: these three lengths, then the record, which is the call's own
+ * d0 d1 d2 ps0 ps1 ps2 type. Outputs may be longer and hold -1 past them. M is not known beforehand: a point has at most
+ * 8 shortest addresses, and the tolerance seldom adds any, so lend room for 8 * N images, and for twice as many as long
+ * as the answer is 13. Refusals: 13 for the inputs and told, 3, 9, 10, 11, 12, 13 for an output that is too short. */
 int64_t zone_bz_grid_addresses(const int64_t *d, size_t d_len, const int64_t *q, size_t q_len, const int64_t *ps,
                                size_t ps_len, const double *lattice, size_t lattice_len, int64_t bz_grid_type,
                                int64_t *addresses, size_t addresses_len, int64_t *map, size_t map_len, int64_t *grg,
@@ -302,24 +307,27 @@ int64_t zone_mark_candidates(const int64_t *d, size_t d_len, const int64_t *q, s
                              size_t highest_len, int64_t point, int64_t *marks, size_t marks_len);
 
 /* Where rotation[9], a matrix of the transformed list, carries image `index` of a table. In: addresses and map as
- * call 4 left them (here and below: at least their told parts), d[3], ps[3], the type. Out: told[2]. told[0] is the
- * image at the rotated address, told[1] is 0. Where the rotated point has no image there, told[1] is 1, and told[0]
- * is the first image of that point (type 2) or map[that point], which means nothing (type 1; it may be 8 * N).
- * Refusals: 13, 3, 9, 14. */
+ * call 4 left them (here and below: at least their told parts), their record table[7], d[3], ps[3], the type. Out:
+ * told[2]. told[0] is the image at the rotated address, told[1] is 0. Where the rotated point has no image there,
+ * told[1] is 1, and told[0] is the first image of that point (type 2) or map[that point], which means nothing (type 1;
+ * it may be 8 * N). Refusals: 13, 3, 9, 17 where the record has not the d, ps and type of the call, 14. */
 int64_t zone_rotate_bz_grid_index(int64_t index, const int64_t *rotation, size_t rotation_len,
                                   const int64_t *addresses, size_t addresses_len, const int64_t *map, size_t map_len,
-                                  const int64_t *d, size_t d_len, const int64_t *ps, size_t ps_len,
-                                  int64_t bz_grid_type, int64_t *told, size_t told_len);
+                                  const int64_t *table, size_t table_len, const int64_t *d, size_t d_len,
+                                  const int64_t *ps, size_t ps_len, int64_t bz_grid_type, int64_t *told,
+                                  size_t told_len);
 
 /* The neighbours of images. In: points, which are image indices of the table; offsets, three numbers each, that are
- * added to their addresses; d[3], the type. Out: a place for each pair, all offsets of the first point first: the
- * image at the sum or, where there is none, the first image of the sum's point. (Type 1 asks the doubled mesh, so
- * its answer may be another image of that point.) Refusals: 13, 3, 9, 14; without points or without offsets neither 9
- * nor 14. */
+ * added to their addresses; addresses, map and their record table[7]; d[3], the type. Out: a place for each pair, all
+ * offsets of the first point first: the image at the sum or, where there is none, the first image of the sum's point.
+ * (Type 1 asks the doubled mesh, so its answer may be another image of that point.) Refusals: 13, 3, 9, 17 where the
+ * record has not the d and type of the call (which has no shift, so that any passes), 14; without points or without
+ * offsets none of the last three. */
 int64_t zone_neighboring_grid_points(const int64_t *points, size_t points_len, const int64_t *offsets,
                                      size_t offsets_len, const int64_t *addresses, size_t addresses_len,
-                                     const int64_t *map, size_t map_len, const int64_t *d, size_t d_len,
-                                     int64_t bz_grid_type, int64_t *out, size_t out_len);
+                                     const int64_t *map, size_t map_len, const int64_t *table, size_t table_len,
+                                     const int64_t *d, size_t d_len, int64_t bz_grid_type, int64_t *out,
+                                     size_t out_len);
 
 /* The classes of triplets at the point q0. In: d[3], the transformed list, to which time reversal joins negatives as
  * in zone_reciprocal_rotations. Out: map_q[N], the class map (as of zone_ir_grid_map with ps = 0) of those matrices
@@ -332,20 +340,22 @@ int64_t zone_ir_triplets_at_q(int64_t q0, const int64_t *d, size_t d_len, const 
                               size_t told_len);
 
 /* For each class, by rising number, a triplet of images of q0, q1 and q2, where q1 is the point of that number and q2
- * is -q0-q1. In: q0, a point for type 1, any image of it for type 2; class_map, which is map_triplets or map_q;
- * d[3], q[9], lattice[9], the type. Out: with k places of class_map that hold their own number out[3 * k], left[k],
- * left_length[k] and cells[3 * k]. left is 1 where the three addresses sum to 0. It is 0 where no choice of images
- * does: then the triplet has the shortest sum, up to the tolerance, and left_length its squared length, |lattice·G|²
- * with G = Q·D⁻¹·sum. left and the three places are -1 where one of the points has no image in the table. left_length
- * is 0 but where left is 0. cells has the cell of the sum, as zone_grid_index_from_address tells it; where left is -1
- * it is -1 -1 -1, which may also be that of a sum. On a table that call 4 left for the same d and type the sum is d
- * times its cell, axis by axis (proved), so that G = Q·cell; on other tables a remainder may be left, which is not told.
- * The choices are tried one after the other until one sums to 0. Refusals: 13, 3, 9, 14. */
+ * is -q0-q1. In: q0, a point for type 1, any image of it for type 2; addresses, map and their record table[7];
+ * class_map, which is map_triplets or map_q; d[3], q[9], lattice[9], the type. Out: with k places of class_map that
+ * hold their own number out[3 * k], left[k], left_length[k] and cells[3 * k]. left is 1 where the three addresses sum
+ * to 0. It is 0 where no choice of images does: then the triplet has the shortest sum, up to the tolerance, and
+ * left_length its squared length, |lattice·G|² with G = Q·D⁻¹·sum. left and the three places are -1 where one of the
+ * points has no image in the table. left_length is 0 but where left is 0. cells has the cell of the sum, as
+ * zone_grid_index_from_address tells it; where left is -1 it is -1 -1 -1, which may also be that of a sum. On a table
+ * that call 4 left for the same d and type the sum is d times its cell, axis by axis (proved), so that G = Q·cell; on
+ * other tables a remainder may be left, which is not told. The choices are tried one after the other until one sums to
+ * 0. Refusals: 13, 3, 9, 17 as for the neighbours, with no class too, 14. */
 int64_t zone_bz_triplets_at_q(int64_t q0, const int64_t *addresses, size_t addresses_len, const int64_t *map,
-                              size_t map_len, const int64_t *class_map, size_t class_map_len, const int64_t *d,
-                              size_t d_len, const int64_t *q, size_t q_len, const double *lattice, size_t lattice_len,
-                              int64_t bz_grid_type, int64_t *out, size_t out_len, int64_t *left, size_t left_len,
-                              double *left_length, size_t left_length_len, int64_t *cells, size_t cells_len);
+                              size_t map_len, const int64_t *table, size_t table_len, const int64_t *class_map,
+                              size_t class_map_len, const int64_t *d, size_t d_len, const int64_t *q, size_t q_len,
+                              const double *lattice, size_t lattice_len, int64_t bz_grid_type, int64_t *out,
+                              size_t out_len, int64_t *left, size_t left_len, double *left_length,
+                              size_t left_length_len, int64_t *cells, size_t cells_len);
 
 /* The class sheet of a finished list, a text to pin beside the camera. In: class_map, as call 6 took it, and triplets,
  * its out; either may hold anything. Out: with k places of class_map that hold their own number, and so 3 * k places of

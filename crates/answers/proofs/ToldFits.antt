@@ -21,6 +21,7 @@ use Rattle.grgrid.proofs.Accepted.{few-points, grid-fits}
 use Rattle.grgrid.proofs.Folding.{index-lt}
 use Rattle.integer.proofs.Test.{and_l, and_r}
 use Rattle.bzgrid.specs.declared.Lengths.{Lengths}
+use Rattle.bzgrid.specs.declared.Built.{Built}
 use Rattle.bzgrid.specs.BzGridAddresses.{has_room, bz_grid_addresses}
 use Rattle.bztable.proofs.AcceptedCall.{call-accepted}
 use Rattle.snf_steps.proofs.Divisions.{few-steps}
@@ -32,9 +33,9 @@ use Rattle.answers.specs.WorstPairs.{PairFits}
 
 -- the lengths are those of slices, for 8 bytes each
 module _ (d : List ℤ) (q : List (List ℤ)) (ps : List ℤ) (lattice : List (List Float)) (t : ℤ) (na nm ng : ℕ) where
-  pub lengths-fit : (a : Result Lengths Refusal) → na * 8 < 0x8000000000000000 → nm * 8 < 0x8000000000000000 → ng * 8 < 0x8000000000000000
-      → a ≡ (bz_grid_addresses d q ps lattice t na nm ng).answer → IfOk a Held
-  lengths-fit (Ok l) ha hm hg e = held l (call-accepted d q ps lattice t na nm ng l (sym e)).room
+  pub lengths-fit : (a : Result Built Refusal) → na * 8 < 0x8000000000000000 → nm * 8 < 0x8000000000000000 → ng * 8 < 0x8000000000000000
+      → a ≡ (bz_grid_addresses d q ps lattice t na nm ng).answer → IfOk a (λ b. Held b.lengths)
+  lengths-fit (Ok b) ha hm hg e = held b.lengths (call-accepted d q ps lattice t na nm ng b (sym e)).room
     where
       held : (l : Lengths) → T (has_room l na nm ng) → Held l
       held l r =

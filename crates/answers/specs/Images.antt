@@ -1,11 +1,13 @@
 -- What the exports of bzgrid and bztable answer and leave in their outputs.
-use Rattle.std.specs.Prelude.{Bool, ◌&&◌, List, [], ◌∷◌, ℕ, ◌<◌, eqb, ℤ, pos, Float, length, Result, cond}
+use Rattle.std.specs.Prelude.{Bool, ◌&&◌, List, [], ◌∷◌, ◌++◌, ℕ, ◌<◌, eqb, ℤ, pos, Float, length, get_or, Result, cond}
 use Rattle.common.specs.declared.Refusal.{Refusal}
 use Rattle.common.specs.Tested.{answer_of, told_of}
-use Rattle.common.specs.Array.{rows, matrix_at}
+use Rattle.common.specs.Array.{rows, row_at, matrix_at}
 use Rattle.answers.specs.Lengths.{wrong_length, unwritten}
 use Rattle.bzsearch.specs.SearchView.{float_nine}
 use Rattle.bzgrid.specs.declared.Lengths.{Lengths}
+use Rattle.bzgrid.specs.declared.TableRecord.{TableRecord}
+use Rattle.bzgrid.specs.declared.Built.{Built}
 use Rattle.bzgrid.specs.BzGridAddresses.{bz_grid_addresses}
 use Rattle.bztable.specs.declared.rotate.Rotated.{Rotated}
 use Rattle.bztable.specs.declared.rotate.Rotated.TheVariants as rotated
@@ -13,9 +15,16 @@ use Rattle.bztable.specs.Rotate.{rotate_bz_grid_index}
 use Rattle.bztable.specs.Neighbours.{neighboring_grid_points_many}
 
 -- ---- image tables
--- the three lengths, in the places of `told`
-abbrev pub images_told : Result Lengths Refusal → List ℤ
-images_told = told_of (λ l. pos l.addresses ∷ pos l.map ∷ pos l.grg ∷ []) 3
+-- the three lengths, then the record: the diagonal, the shift and the type
+abbrev pub built_places : Built → List ℤ
+built_places b = pos b.lengths.addresses ∷ pos b.lengths.map ∷ pos b.lengths.grg ∷ (row_at b.table.d 0 ++ (row_at b.table.ps 0 ++ (b.table.bz_grid_type ∷ [])))
+
+abbrev pub images_told : Result Built Refusal → List ℤ
+images_told = told_of built_places 10
+
+-- a table's record, of seven numbers
+abbrev pub table_at : List ℤ → TableRecord
+table_at l = record { d = row_at l 0; ps = row_at l 3; bz_grid_type = get_or l 6 (pos 0) }
 
 -- they are lengths of slices
 pub record Held (l : Lengths) : Type 0 where
@@ -25,7 +34,7 @@ pub record Held (l : Lengths) : Type 0 where
 
 -- of d, Q, ps, the lattice and `told`
 abbrev pub image_lengths : ℕ → ℕ → ℕ → ℕ → ℕ → Bool
-image_lengths d q ps lattice told = eqb d 3 && ((eqb q 9 && (eqb ps 3 && eqb lattice 9)) && eqb told 3)
+image_lengths d q ps lattice told = eqb d 3 && ((eqb q 9 && (eqb ps 3 && eqb lattice 9)) && eqb told 10)
 
 pub record ZoneBzGridAddresses : Type 0 where
   pub answer : ℤ
@@ -51,19 +60,19 @@ rotated_places (rotated.Fallback i) = i ∷ pos 1 ∷ []
 abbrev pub rotated_told : Result Rotated Refusal → List ℤ
 rotated_told = told_of rotated_places 2
 
--- of the rotation, d, ps and `told`
-abbrev pub rotate_lengths : ℕ → ℕ → ℕ → ℕ → Bool
-rotate_lengths rotation d ps told = eqb rotation 9 && (eqb d 3 && (eqb ps 3 && eqb told 2))
+-- of the rotation, the record, d, ps and `told`
+abbrev pub rotate_lengths : ℕ → ℕ → ℕ → ℕ → ℕ → Bool
+rotate_lengths rotation table d ps told = eqb rotation 9 && (eqb table 7 && (eqb d 3 && (eqb ps 3 && eqb told 2)))
 
 pub record ZoneRotateBzGridIndex : Type 0 where
   pub answer : ℤ
   pub told : List ℤ
 
 -- the output has n places
-abbrev pub zone_rotate_bz_grid_index : ℤ → (rotation addresses map d ps : List ℤ) → ℤ → ℕ → ZoneRotateBzGridIndex
-zone_rotate_bz_grid_index index rotation addresses map d ps t n =
-    let o = rotate_bz_grid_index index (rows (matrix_at rotation 0)) addresses map d ps t in
-    cond (rotate_lengths (length rotation) (length d) (length ps) n)
+abbrev pub zone_rotate_bz_grid_index : ℤ → (rotation addresses map table d ps : List ℤ) → ℤ → ℕ → ZoneRotateBzGridIndex
+zone_rotate_bz_grid_index index rotation addresses map table d ps t n =
+    let o = rotate_bz_grid_index index (rows (matrix_at rotation 0)) addresses map (table_at table) d ps t in
+    cond (rotate_lengths (length rotation) (length table) (length d) (length ps) n)
     (record { answer = answer_of o; told = rotated_told o }) (record { answer = wrong_length; told = unwritten n })
 
 -- ---- neighbours
@@ -72,7 +81,7 @@ pub record ZoneNeighboringGridPoints : Type 0 where
   pub out : List ℤ
 
 -- the output has n places
-abbrev pub zone_neighboring_grid_points : (points offsets addresses map d : List ℤ) → ℤ → ℕ → ZoneNeighboringGridPoints
-zone_neighboring_grid_points points offsets addresses map d t n =
-    let o = neighboring_grid_points_many points offsets addresses map d t n in
-    cond (eqb (length d) 3) (record { answer = answer_of o.answer; out = o.out }) (record { answer = wrong_length; out = unwritten n })
+abbrev pub zone_neighboring_grid_points : (points offsets addresses map table d : List ℤ) → ℤ → ℕ → ZoneNeighboringGridPoints
+zone_neighboring_grid_points points offsets addresses map table d t n =
+    let o = neighboring_grid_points_many points offsets addresses map (table_at table) d t n in
+    cond (eqb (length table) 7 && eqb (length d) 3) (record { answer = answer_of o.answer; out = o.out }) (record { answer = wrong_length; out = unwritten n })

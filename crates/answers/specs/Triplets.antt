@@ -6,6 +6,7 @@ use Rattle.common.specs.Tested.{answer_of}
 use Rattle.common.specs.Array.{rows, matrix_at}
 use Rattle.answers.specs.Lengths.{wrong_length, unwritten}
 use Rattle.answers.specs.Grids.{classes_told}
+use Rattle.answers.specs.Images.{table_at}
 use Rattle.bzsearch.specs.SearchView.{float_nine}
 use Rattle.triplet_grid.specs.IrTriplets.{ir_triplets_at_q}
 use Rattle.bz_triplets.specs.BzTriplets.{bz_triplets_at_q}
@@ -30,9 +31,9 @@ zone_ir_triplets_at_q q0 d rotations time_reversal swappable n m k =
     (record { answer = wrong_length; map_triplets = unwritten n; map_q = unwritten m; told = unwritten k })
 
 -- ---- the triplets
--- of d, Q and the lattice
-abbrev pub triplet_lengths : ℕ → ℕ → ℕ → Bool
-triplet_lengths d q lattice = eqb d 3 && (eqb q 9 && eqb lattice 9)
+-- of the record, d, Q and the lattice
+abbrev pub triplet_lengths : ℕ → ℕ → ℕ → ℕ → Bool
+triplet_lengths table d q lattice = eqb table 7 && (eqb d 3 && (eqb q 9 && eqb lattice 9))
 
 pub record ZoneBzTripletsAtQ : Type 0 where
   pub answer : ℤ
@@ -42,9 +43,9 @@ pub record ZoneBzTripletsAtQ : Type 0 where
   pub cells : List ℤ
 
 -- the outputs have n, m, l and k places
-abbrev pub zone_bz_triplets_at_q : ℤ → (addresses map classes d q : List ℤ) → List Float → ℤ → (n m l k : ℕ) → ZoneBzTripletsAtQ
-zone_bz_triplets_at_q q0 addresses map classes d q lattice t n m l k =
-    let o = bz_triplets_at_q q0 addresses map classes d (rows (matrix_at q 0)) (rows (float_nine lattice)) t n m l k in
-    cond (triplet_lengths (length d) (length q) (length lattice))
+abbrev pub zone_bz_triplets_at_q : ℤ → (addresses map table classes d q : List ℤ) → List Float → ℤ → (n m l k : ℕ) → ZoneBzTripletsAtQ
+zone_bz_triplets_at_q q0 addresses map table classes d q lattice t n m l k =
+    let o = bz_triplets_at_q q0 addresses map (table_at table) classes d (rows (matrix_at q 0)) (rows (float_nine lattice)) t n m l k in
+    cond (triplet_lengths (length table) (length d) (length q) (length lattice))
     (record { answer = answer_of o.answer; out = o.out; left = o.left; left_length = o.left_length; cells = o.cells })
     (record { answer = wrong_length; out = unwritten n; left = unwritten m; left_length = replicate l (of_int binary64 (negsuc 0)); cells = unwritten k })

@@ -3,10 +3,10 @@ ghost use Rattle.std.specs.Prelude.{◌≡◌, length, IfOk};
 ghost use Rattle.common.specs.Tested.{answer_of};
 ghost use Rattle.common.specs.Array.{rows};
 ghost use Rattle.bzsearch.specs.SearchView.{float_nine};
-ghost use Rattle.answers.specs.Images.{image_lengths, images_told, Held, rotate_lengths, rotated_told};
+ghost use Rattle.answers.specs.Images.{image_lengths, table_at, images_told, Held, rotate_lengths, rotated_told};
 
 use crate::tell;
-use bzgrid::Lengths;
+use bzgrid::{Built, TableRecord};
 use bztable::Rotated;
 use common::Refusal;
 
@@ -21,25 +21,58 @@ pub fn lattice_at(l: &[f64]) -> [[f64; 3]; 3]
 pub fn image_lengths(d: usize, q: usize, ps: usize, lattice: usize, told: usize) -> bool
     ensures { result ≡ image_lengths d q ps lattice told }
 {
-    d == 3 && (q == 9 && ps == 3 && lattice == 9) && told == 3
+    d == 3 && (q == 9 && ps == 3 && lattice == 9) && told == 10
 }
 
-pub fn tell_lengths(answer: Result<Lengths, Refusal>, told: &mut [i64]) -> i64
-    requires fact_1 { length told.old ≡ 3 }
-    requires fact_2 { IfOk answer Held }
+// A table's record, of seven numbers.
+pub fn table_at(l: &[i64]) -> TableRecord
+    requires { length l.now ≡ 7 }
+    ensures { result ≡ table_at l.now }
+{
+    TableRecord {
+        d: common::row_at(l, 0),
+        ps: common::row_at(l, 3),
+        bz_grid_type: l[6],
+    }
+}
+
+// The three lengths, then the record.
+pub fn tell_built(answer: Result<Built, Refusal>, told: &mut [i64]) -> i64
+    requires fact_1 { length told.old ≡ 10 }
+    requires fact_2 { IfOk answer (λ b. Held b.lengths) }
     ensures value { result ≡ answer_of answer }
     ensures told_after { told.new ≡ images_told answer }
 {
     match answer {
-        Ok(l) => tell(Ok([l.addresses as i64, l.map as i64, l.grg as i64]), told),
-        Err(r) => tell::<3>(Err(r), told),
+        Ok(b) => {
+            let l = b.lengths;
+            let [dx, dy, dz] = b.table.d;
+            let [sx, sy, sz] = b.table.ps;
+            let t = b.table.bz_grid_type;
+            tell(
+                Ok([
+                    l.addresses as i64,
+                    l.map as i64,
+                    l.grg as i64,
+                    dx,
+                    dy,
+                    dz,
+                    sx,
+                    sy,
+                    sz,
+                    t,
+                ]),
+                told,
+            )
+        }
+        Err(r) => tell::<10>(Err(r), told),
     }
 }
 
-pub fn rotate_lengths(rotation: usize, d: usize, ps: usize, told: usize) -> bool
-    ensures { result ≡ rotate_lengths rotation d ps told }
+pub fn rotate_lengths(rotation: usize, table: usize, d: usize, ps: usize, told: usize) -> bool
+    ensures { result ≡ rotate_lengths rotation table d ps told }
 {
-    rotation == 9 && d == 3 && ps == 3 && told == 2
+    rotation == 9 && table == 7 && d == 3 && ps == 3 && told == 2
 }
 
 // The index, and 1 for a fallback.

@@ -13,10 +13,10 @@ pub fn triplet_class_lengths(d: usize, told: usize) -> bool
     d == 3 && told == 1
 }
 
-pub fn triplet_lengths(d: usize, q: usize, lattice: usize) -> bool
-    ensures { result ≡ triplet_lengths d q lattice }
+pub fn triplet_lengths(table: usize, d: usize, q: usize, lattice: usize) -> bool
+    ensures { result ≡ triplet_lengths table d q lattice }
 {
-    d == 3 && q == 9 && lattice == 9
+    table == 7 && d == 3 && q == 9 && lattice == 9
 }
 
 // Four outputs: see docs/DECISIONS.md, 'Output slices'.

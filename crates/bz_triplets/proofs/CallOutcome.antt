@@ -1,4 +1,4 @@
--- What accepted tests say of the input of `bz_triplets_at_q`, and its outcome from that of the walk over the classes.
+-- What accepted tests say of the input of `triplets_in`, and its outcome from that of the walk over the classes.
 use mathlib.Core.Path.{◌≡◌, refl, sym, ◌∙◌, ap, ap₂}
 use mathlib.Core.Bool.{Bool, true, ◌&&◌, ◌||◌, true≢false}
 use mathlib.Core.List.{List}
@@ -34,7 +34,7 @@ use Rattle.bzgrid.specs.BzGridAddresses.{grid_type_of}
 use Rattle.bzgrid.proofs.Accepted.{passes}
 use Rattle.bzsearch.specs.Lattice.{lattice_fits}
 use Rattle.bztable.specs.Reading.{Read, got, whole_addresses, address_of, list_of}
-use Rattle.bz_triplets.specs.BzTriplets.{State, Walk, walk_of, point_of, triplet_of, triplet_at, read_each, is_dense, input_tests, triplets_read, states_read, triplet_list, cell_list, marks, lengths, BzTriplets, triplet_tests, bz_triplets_at_q}
+use Rattle.bz_triplets.specs.BzTriplets.{State, Walk, walk_of, point_of, triplet_of, triplet_at, read_each, is_dense, input_tests, triplets_read, states_read, triplet_list, cell_list, marks, lengths, BzTriplets, triplet_tests, triplets_in}
 use Rattle.bz_triplets.specs.Code.TripletsView.{RoomFor}
 
 -- ---- an address that was read was asked for by a number that is not negative
@@ -56,6 +56,7 @@ point-below d g Dense h a0 = lt_of_lt_of_le (index-lt d (record { positive = g.p
 
 -- ---- the input of a call, with the type t of its tables and the lengths of its outputs
 pub record Input : Type 0 where
+  pub layout : Result GridType Refusal
   pub q0 : ℤ
   pub addresses : List ℤ
   pub map : List ℤ
@@ -72,7 +73,7 @@ pub record Input : Type 0 where
 pub record InputAccepted (i : Input) (k : GridType) : Type 0 where
   pub room : RoomFor i.classes i.n i.m i.l i.c
   pub grid : T (diagonal_fits i.d)
-  pub known : grid_type_of i.t ≡ Ok k
+  pub known : i.layout ≡ Ok k
 
 -- over the grid g by the walk w, where p is the point of q0
 abbrev each : Input → GridType → Vec ℕ → Walk → Vec ℤ → ℕ → Read (List State)
@@ -80,16 +81,16 @@ each i k g w a0 p = read_each (triplet_of k g i.map w a0 p) (own_points i.classe
 
 module _ (i : Input) where
   abbrev pub inputs : (q0 t : ℤ) → Result GridType Refusal
-  inputs q0 t = input_tests q0 i.addresses i.classes i.d i.q i.lattice t i.n i.m i.l i.c
+  inputs q0 t = input_tests i.layout q0 i.addresses i.classes i.d i.q i.lattice t i.n i.m i.l i.c
 
   abbrev pub read : GridType → Read (List State)
   read k = triplets_read i.q0 i.addresses i.map i.classes i.d i.q i.lattice k
 
   abbrev pub states : List State
-  states = states_read i.q0 i.addresses i.map i.classes i.d i.q i.lattice i.t
+  states = states_read i.layout i.q0 i.addresses i.map i.classes i.d i.q i.lattice
 
   abbrev pub answer : Tested
-  answer = triplet_tests i.q0 i.addresses i.map i.classes i.d i.q i.lattice i.t i.n i.m i.l i.c
+  answer = triplet_tests i.layout i.q0 i.addresses i.map i.classes i.d i.q i.lattice i.t i.n i.m i.l i.c
 
   abbrev pub lengths_fit : ℕ → Bool
   lengths_fit own = whole_addresses i.addresses && (eqb i.n (own * 3) && (eqb i.m own && (eqb i.l own && eqb i.c (own * 3))))
@@ -101,10 +102,10 @@ module _ (i : Input) where
   point_inside q0 r = is_dense r || point_fits q0 (pos (size (sides_of i.d)))
 
   -- ---- the tests of the input
-  pub tested : (q0 t : ℤ) {u v w : Bool} {r : Result GridType Refusal} → u ≡ lengths_fit (own_places i.classes (length i.classes)) → v ≡ limits_fit → w ≡ point_inside q0 (grid_type_of t) → r ≡ grid_type_of t
-      → require u WrongLength (require v OutsideLimits (require w OutsideLimits r)) ≡ inputs q0 t
+  pub tested : (q0 t : ℤ) {u v w : Bool} → u ≡ lengths_fit (own_places i.classes (length i.classes)) → v ≡ limits_fit → w ≡ point_inside q0 (grid_type_of t)
+      → require u WrongLength (require v OutsideLimits (require w OutsideLimits i.layout)) ≡ inputs q0 t
   unfolding input_tests
-  tested q0 t a b c e = λ j. require (a j) WrongLength (require (b j) OutsideLimits (require (c j) OutsideLimits (e j)))
+  tested q0 t a b c = λ j. require (a j) WrongLength (require (b j) OutsideLimits (require (c j) OutsideLimits i.layout))
 
   input-passed : {k : GridType} → inputs i.q0 i.t ≡ Ok k → InputAccepted i k
   unfolding input_tests
@@ -117,7 +118,7 @@ module _ (i : Input) where
       let limits = matrix_within 1000 (matrix_of i.q) && lattice_fits (float_matrix i.lattice) in
       let a = passes (whole_addresses i.addresses && (triplets && (left && (lengths && cells)))) WrongLength _ e in
       let b = passes (diagonal_fits i.d && limits) OutsideLimits _ a.1 in
-      let c = passes (point_inside i.q0 (grid_type_of i.t)) OutsideLimits (grid_type_of i.t) b.1 in
+      let c = passes (point_inside i.q0 (grid_type_of i.t)) OutsideLimits i.layout b.1 in
       let four = and_r (whole_addresses i.addresses) (triplets && (left && (lengths && cells))) (holds a.0) in
       let three = and_r triplets (left && (lengths && cells)) four in
       let two = and_r left (lengths && cells) three in
@@ -181,7 +182,7 @@ module _ (i : Input) where
 
   -- ---- the outcome of the call
   abbrev call : BzTriplets
-  call = bz_triplets_at_q i.q0 i.addresses i.map i.classes i.d i.q i.lattice i.t i.n i.m i.l i.c
+  call = triplets_in i.layout i.q0 i.addresses i.map i.classes i.d i.q i.lattice i.t i.n i.m i.l i.c
 
   abbrev outcome : Tested → BzTriplets
   outcome s = record {
@@ -195,12 +196,12 @@ module _ (i : Input) where
   module _ {out left : List ℤ} {left_length : List Float} {cells : List ℤ} where
     pub chosen : (s : Tested) → s ≡ answer → (s ≡ Accepted → out ≡ triplet_list states) → (s ≡ Accepted → left ≡ marks states) → (s ≡ Accepted → left_length ≡ lengths states)
         → (s ≡ Accepted → cells ≡ cell_list (sides_of i.d) states) → IfOk s (λ _. record { answer = Accepted; out = out; left = left; left_length = left_length; cells = cells } ≡ call)
-    unfolding bz_triplets_at_q
+    unfolding triplets_in
     chosen (Ok _) e f g h k = (λ j. record { answer = Accepted; out = f refl j; left = g refl j; left_length = h refl j; cells = k refl j }) ∙ ap outcome e
     chosen (Err r) e f g h k = tt
 
     pub refused : (s : Tested) → is_err s ≡ true → s ≡ answer → out ≡ replicate i.n (negsuc 0) → left ≡ replicate i.m (negsuc 0) → left_length ≡ replicate i.l (of_int binary64 (negsuc 0))
         → cells ≡ replicate i.c (negsuc 0) → record { answer = s; out = out; left = left; left_length = left_length; cells = cells } ≡ call
-    unfolding bz_triplets_at_q
+    unfolding triplets_in
     refused (Ok _) k e f g h l = absurd (true≢false (sym k))
     refused (Err r) k e f g h l = (λ j. record { answer = Err r; out = f j; left = g j; left_length = h j; cells = l j }) ∙ ap outcome e

@@ -10,7 +10,8 @@ use Rattle.common.specs.Matrix.{identity, map_mat}
 use Rattle.common.specs.Array.{rows}
 use Rattle.grgrid.specs.Grid.{index, cell}
 use Rattle.bzsearch.specs.Lattice.{bz_tolerance}
-use Rattle.bz_triplets.specs.BzTriplets.{squared_distance, lqd_inv, try_at, chosen, triplet_of, input_tests, triplets_read, states_read, cell_list, bz_triplets_at_q}
+use Rattle.bzgrid.specs.declared.TableRecord.{TableRecord}
+use Rattle.bz_triplets.specs.BzTriplets.{squared_distance, lqd_inv, try_at, chosen, triplet_of, input_tests, triplets_read, states_read, cell_list, triplets_in, bz_triplets_at_q}
 
 -- one image of each point
 abbrev addresses : List ℤ
@@ -28,6 +29,10 @@ q = (pos 0 ∷ pos 0 ∷ pos 1 ∷ []) ∷ (pos 1 ∷ pos 0 ∷ pos 0 ∷ []) �
 abbrev lattice : List (List Float)
 lattice = rows (map_mat (of_int binary64) identity)
 
+-- with the shift (0,0,1), which is not compared
+abbrev record_of : ℤ → TableRecord
+record_of t = record { d = d113; ps = pos 0 ∷ pos 0 ∷ pos 1 ∷ []; bz_grid_type = t }
+
 -- a map of images of type t, and the outputs
 pub record Row : Type 0 where
   pub t : ℤ
@@ -38,11 +43,11 @@ pub record Row : Type 0 where
   pub cells : List ℤ
 
 pub record Right (r : Row) : Type 0 where
-  pub answer : (bz_triplets_at_q (pos 1) addresses r.map classes d113 q lattice r.t 6 2 2 6).answer ≡ Accepted
-  pub triplets : (bz_triplets_at_q (pos 1) addresses r.map classes d113 q lattice r.t 6 2 2 6).out ≡ r.triplets
-  pub marks : (bz_triplets_at_q (pos 1) addresses r.map classes d113 q lattice r.t 6 2 2 6).left ≡ r.marks
-  pub lengths : (bz_triplets_at_q (pos 1) addresses r.map classes d113 q lattice r.t 6 2 2 6).left_length ≡ r.lengths
-  pub cells : (bz_triplets_at_q (pos 1) addresses r.map classes d113 q lattice r.t 6 2 2 6).cells ≡ r.cells
+  pub answer : (bz_triplets_at_q (pos 1) addresses r.map (record_of r.t) classes d113 q lattice r.t 6 2 2 6).answer ≡ Accepted
+  pub triplets : (bz_triplets_at_q (pos 1) addresses r.map (record_of r.t) classes d113 q lattice r.t 6 2 2 6).out ≡ r.triplets
+  pub marks : (bz_triplets_at_q (pos 1) addresses r.map (record_of r.t) classes d113 q lattice r.t 6 2 2 6).left ≡ r.marks
+  pub lengths : (bz_triplets_at_q (pos 1) addresses r.map (record_of r.t) classes d113 q lattice r.t 6 2 2 6).left_length ≡ r.lengths
+  pub cells : (bz_triplets_at_q (pos 1) addresses r.map (record_of r.t) classes d113 q lattice r.t 6 2 2 6).cells ≡ r.cells
 
 abbrev AllRight : List Row → Type 0
 AllRight [] = Unit {0}
@@ -75,6 +80,6 @@ abbrev table : List Row
 table = listed (pos 2) (pos 0 ∷ pos 1 ∷ pos 2 ∷ pos 3 ∷ []) ∷ listed (pos 1) (replicate 24 (pos 24) ++ replicate 4 (pos 0)) ∷ empty ∷ []
 
 points : AllRight table
-unfolding bz_triplets_at_q cell_list cell states_read input_tests triplets_read triplet_of chosen try_at squared_distance lqd_inv bz_tolerance index abs_of size round add sub mul div lt le of_int of_bits
+unfolding bz_triplets_at_q triplets_in cell_list cell states_read input_tests triplets_read triplet_of chosen try_at squared_distance lqd_inv bz_tolerance index abs_of size round add sub mul div lt le of_int of_bits
 points =
     (record { answer = refl; triplets = refl; marks = refl; lengths = refl; cells = refl }, (record { answer = refl; triplets = refl; marks = refl; lengths = refl; cells = refl }, (record { answer = refl; triplets = refl; marks = refl; lengths = refl; cells = refl }, tt)))

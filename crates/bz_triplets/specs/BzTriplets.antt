@@ -14,11 +14,13 @@ use Rattle.common.specs.declared.Refusal.TheVariants.{OutsideLimits, WrongLength
 use Rattle.grgrid.specs.Grid.{size, index, cell}
 use Rattle.grgrid.specs.Own.{own_places, own_points}
 use Rattle.bzgrid.specs.declared.GridType.{GridType}
+use Rattle.bzgrid.specs.declared.TableRecord.{TableRecord}
 use Rattle.bzgrid.specs.declared.GridType.TheVariants.{Sparse, Dense}
 use Rattle.bzsearch.specs.Lattice.{bz_tolerance, lattice_fits}
 use Rattle.bzsearch.specs.Search.{length_squared}
 use Rattle.bzgrid.specs.BzGridAddresses.{grid_type_of}
 use Rattle.bztable.specs.Access.{image_places, first_place}
+use Rattle.bztable.specs.Agreement.{agrees_grid, layout_where}
 use Rattle.bztable.specs.Reading.{Read, got, whole_addresses, address_at, address_of, list_of}
 use Rattle.triplet_grid.specs.Partner.{third}
 use Rattle.bz_triplets.specs.Choosing.{Found, start, left, closed, tried, nested}
@@ -145,14 +147,14 @@ is_dense (Ok Sparse) = false
 is_dense (Ok Dense) = true
 is_dense (Err r) = false
 
-module _ (q0 : ℤ) (addresses classes d : List ℤ) (q : List (List ℤ)) (lattice : List (List Float)) (t : ℤ) (n m l c : ℕ) where
-  -- the four outputs have n, m, l and c places; the layout of the tables, where the tests pass
+module _ (k : Result GridType Refusal) (q0 : ℤ) (addresses classes d : List ℤ) (q : List (List ℤ)) (lattice : List (List Float)) (t : ℤ) (n m l c : ℕ) where
+  -- the four outputs have n, m, l and c places; k, the layout of the tables, where the tests pass
   unfoldable pub input_tests : Result GridType Refusal
   input_tests =
       let own = own_places classes (length classes) in
       require (whole_addresses addresses && (eqb n (own * 3) && (eqb m own && (eqb l own && eqb c (own * 3))))) WrongLength
       (require (diagonal_fits d && (matrix_within 1000 (matrix_of q) && lattice_fits (float_matrix lattice))) OutsideLimits
-      (require (is_dense (grid_type_of t) || point_fits q0 (pos (size (sides_of d)))) OutsideLimits (grid_type_of t)))
+      (require (is_dense (grid_type_of t) || point_fits q0 (pos (size (sides_of d)))) OutsideLimits k))
 
 abbrev pub walk_of : (addresses d : List ℤ) → List (List ℤ) → List (List Float) → Walk
 walk_of addresses d q lattice = record {
@@ -177,23 +179,30 @@ pub record BzTriplets : Type 0 where
   pub left_length : List Float
   pub cells : List ℤ
 
-module _ (q0 : ℤ) (addresses map classes d : List ℤ) (q : List (List ℤ)) (lattice : List (List Float)) (t : ℤ) where
+-- of tables of layout k
+module _ (k : Result GridType Refusal) (q0 : ℤ) (addresses map classes d : List ℤ) (q : List (List ℤ)) (lattice : List (List Float)) where
   -- what a call reads whose tests pass
   unfoldable pub states_read : List State
   unfolding triplets_read
-  states_read = list_of (grid_type_of t then triplets_read q0 addresses map classes d q lattice)
+  states_read = list_of (k then triplets_read q0 addresses map classes d q lattice)
 
-  module _ (n m l c : ℕ) where
+  module _ (t : ℤ) (n m l c : ℕ) where
     unfoldable pub triplet_tests : Tested
     unfolding input_tests triplets_read
-    triplet_tests = input_tests q0 addresses classes d q lattice t n m l c then λ k. triplets_read q0 addresses map classes d q lattice k then λ _. Accepted
+    triplet_tests = input_tests k q0 addresses classes d q lattice t n m l c then λ t. triplets_read q0 addresses map classes d q lattice t then λ _. Accepted
 
-    unfoldable pub bz_triplets_at_q : BzTriplets
+    unfoldable pub triplets_in : BzTriplets
     unfolding triplet_tests states_read cell_list
-    bz_triplets_at_q = record {
+    triplets_in = record {
       answer = triplet_tests;
       out = output_of triplet_tests n (triplet_list states_read);
       left = output_of triplet_tests m (marks states_read);
       left_length = filled_or (of_int binary64 (negsuc 0)) triplet_tests l (lengths states_read);
       cells = output_of triplet_tests c (cell_list (sides_of d) states_read);
     }
+
+-- the record of the tables agrees with the call, or refusal 17
+module _ (q0 : ℤ) (addresses map : List ℤ) (r : TableRecord) (classes d : List ℤ) (q : List (List ℤ)) (lattice : List (List Float)) (t : ℤ) (n m l c : ℕ) where
+  unfoldable pub bz_triplets_at_q : BzTriplets
+  unfolding triplets_in
+  bz_triplets_at_q = triplets_in (layout_where (agrees_grid r d t) t) q0 addresses map classes d q lattice t n m l c

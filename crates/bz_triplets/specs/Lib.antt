@@ -1,3 +1,4 @@
 pub mod Choosing
 pub mod BzTriplets
+pub mod Agreeing
 pub mod Code

@@ -17,12 +17,12 @@ ghost use Rattle.grgrid.specs.Sides.{sides};
 ghost use Rattle.bzsearch.specs.Lattice.{bz_tolerance, lattice_fits};
 ghost use Rattle.bzsearch.specs.SearchView.{float_nine};
 ghost use Rattle.bztable.specs.Reading.{whole_addresses};
-ghost use Rattle.bz_triplets.specs.BzTriplets.{lqd_inv, point_of, is_dense, input_tests, triplet_tests, BzTriplets, bz_triplets_at_q};
+ghost use Rattle.bz_triplets.specs.BzTriplets.{lqd_inv, point_of, is_dense, input_tests, triplet_tests, BzTriplets, triplets_in, bz_triplets_at_q};
 ghost use Rattle.bz_triplets.specs.Code.TripletsView.{row_over};
 
-use bzgrid::GridType;
-use bztable::reading;
+use bzgrid::{GridType, TableRecord};
 use bztable::reading::Table;
+use bztable::{agreement, reading};
 use choices::Measure;
 pub use choices::Step;
 use common::Refusal;
@@ -97,6 +97,7 @@ fn is_dense(t: Result<GridType, Refusal>) -> bool
 
 #[tactic(auto, unfolding(crate::specs::BzTriplets::input_tests))]
 fn input_tests(
+    layout: Result<GridType, Refusal>,
     q0: i64,
     addresses: &[i64],
     class_map: &[i64],
@@ -106,7 +107,7 @@ fn input_tests(
     bz_grid_type: i64,
     r: Rooms,
 ) -> Result<GridType, Refusal>
-    ensures { result ≡ input_tests q0 addresses.now class_map.now d q lattice bz_grid_type r.triplets r.left r.lengths r.cells }
+    ensures { result ≡ input_tests layout q0 addresses.now class_map.now d q lattice bz_grid_type r.triplets r.left r.lengths r.cells }
 {
     if !lengths_fit(addresses, grgrid::own_places(class_map), r) {
         return Err(Refusal::WrongLength);
@@ -114,11 +115,10 @@ fn input_tests(
     if !limits_fit(d, q, lattice) {
         return Err(Refusal::OutsideLimits);
     }
-    let t = GridType::try_from(bz_grid_type);
-    if !point_fits(t, q0, d) {
+    if !point_fits(GridType::try_from(bz_grid_type), q0, d) {
         return Err(Refusal::OutsideLimits);
     }
-    t
+    layout
 }
 
 // The grid point of q0, which type 2 has by an image at address a0.
@@ -134,6 +134,7 @@ fn point_of(t: GridType, g: Grid, q0: i64, a0: [i64; 3]) -> usize
 
 // With the tests of the input. A refusal may leave anything in the outputs, which are slices: see docs/DECISIONS.md, 'Output slices'.
 fn triplet_tests(
+    layout: Result<GridType, Refusal>,
     q0: i64,
     addresses: &[i64],
     map: &[i64],
@@ -151,13 +152,13 @@ fn triplet_tests(
         let m = length left.old in
         let l = length left_length.old in
         let k = length cells.old in
-        result ≡ triplet_tests q0 addresses.now map.now class_map.now d q lattice bz_grid_type n m l k }
+        result ≡ triplet_tests layout q0 addresses.now map.now class_map.now d q lattice bz_grid_type n m l k }
     ensures chosen { let n = length out.old in
         let m = length left.old in
         let l = length left_length.old in
         let k = length cells.old in
         let o : BzTriplets = record { answer = Accepted; out = out.new; left = left.new; left_length = left_length.new; cells = cells.new } in
-        IfOk result (λ _. o ≡ bz_triplets_at_q q0 addresses.now map.now class_map.now d q lattice bz_grid_type n m l k) }
+        IfOk result (λ _. o ≡ triplets_in layout q0 addresses.now map.now class_map.now d q lattice bz_grid_type n m l k) }
 {
     let r = Rooms {
         triplets: out.len(),
@@ -165,7 +166,17 @@ fn triplet_tests(
         lengths: left_length.len(),
         cells: cells.len(),
     };
-    let t = input_tests(q0, addresses, class_map, d, q, lattice, bz_grid_type, r)?;
+    let t = input_tests(
+        layout,
+        q0,
+        addresses,
+        class_map,
+        d,
+        q,
+        lattice,
+        bz_grid_type,
+        r,
+    )?;
     let g = grgrid::grid_of(d);
     let table = Table {
         t,
@@ -190,9 +201,9 @@ fn triplet_tests(
     )
 }
 
-// A triplet of images (q0, q1, q2) with q0 + q1 + q2 = G for each class: `class_map` has the classes that `ir_triplets_at_q` left. Beside it stands whether its
-// sum closed, or the squared length that is left over, and the cell of the sum, by the quotients of G by the diagonal.
-pub fn bz_triplets_at_q(
+// In tables of that layout.
+fn triplets_in(
+    layout: Result<GridType, Refusal>,
     q0: i64,
     addresses: &[i64],
     map: &[i64],
@@ -211,9 +222,10 @@ pub fn bz_triplets_at_q(
         let l = length left_length.old in
         let k = length cells.old in
         let o : BzTriplets = record { answer = result; out = out.new; left = left.new; left_length = left_length.new; cells = cells.new } in
-        o ≡ bz_triplets_at_q q0 addresses.now map.now class_map.now d q lattice bz_grid_type n m l k }
+        o ≡ triplets_in layout q0 addresses.now map.now class_map.now d q lattice bz_grid_type n m l k }
 {
     let answer = triplet_tests(
+        layout,
         q0,
         addresses,
         map,
@@ -234,4 +246,47 @@ pub fn bz_triplets_at_q(
         cells.fill(-1);
     }
     answer
+}
+
+// A triplet of images (q0, q1, q2) with q0 + q1 + q2 = G for each class: `class_map` has the classes that `ir_triplets_at_q` left. Beside it stands whether its
+// sum closed, or the squared length that is left over, and the cell of the sum, by the quotients of G by the diagonal.
+pub fn bz_triplets_at_q(
+    q0: i64,
+    addresses: &[i64],
+    map: &[i64],
+    table: TableRecord,
+    class_map: &[i64],
+    d: [i64; 3],
+    q: [[i64; 3]; 3],
+    lattice: [[f64; 3]; 3],
+    bz_grid_type: i64,
+    out: &mut [i64],
+    left: &mut [i64],
+    left_length: &mut [f64],
+    cells: &mut [i64],
+) -> Result<(), Refusal>
+    ensures { let n = length out.old in
+        let m = length left.old in
+        let l = length left_length.old in
+        let k = length cells.old in
+        let o : BzTriplets = record { answer = result; out = out.new; left = left.new; left_length = left_length.new; cells = cells.new } in
+        o ≡ bz_triplets_at_q q0 addresses.now map.now table class_map.now d q lattice bz_grid_type n m l k }
+{
+    let agreed = agreement::agrees_grid(table, d, bz_grid_type);
+    let layout = agreement::layout_where(agreed, bz_grid_type);
+    triplets_in(
+        layout,
+        q0,
+        addresses,
+        map,
+        class_map,
+        d,
+        q,
+        lattice,
+        bz_grid_type,
+        out,
+        left,
+        left_length,
+        cells,
+    )
 }

@@ -17,9 +17,10 @@ use Rattle.common.specs.declared.Refusal.{Refusal}
 use Rattle.common.specs.declared.Refusal.TheVariants.{OutsideLimits, NotUnimodularQ, SingularReciprocalLattice}
 use Rattle.common.proofs.Tests.{refused-not-ok}
 use Rattle.bzgrid.specs.declared.GridType.{GridType}
+use Rattle.bzgrid.specs.declared.TableRecord.{TableRecord}
 use Rattle.bzsearch.specs.Lattice.{singular, lattice_fits}
 use Rattle.bzsearch.specs.Search.{Search, unimodular}
-use Rattle.bzgrid.specs.BzGridAddresses.{grid_type_of, search_of, within_limits, input_tests, unbuilt, built, built_for, bz_grid_addresses}
+use Rattle.bzgrid.specs.BzGridAddresses.{grid_type_of, search_of, within_limits, input_tests, unbuilt, built, built_for, recorded, bz_grid_addresses}
 
 -- ---- a call that gives a value passed each of its tests
 module _ {A : Type 0} {a : A} where
@@ -68,10 +69,13 @@ module _ (d : List ℤ) (q : List (List ℤ)) (ps : List ℤ) (lattice : List (L
 
   -- ---- the call, with outputs of lengths x, y and z
   module _ (t : ℤ) (x y z : ℕ) where
-    pub accepted-call : {k : GridType} → input_tests d q ps lattice t ≡ Ok k → {s : Search} → s ≡ search_of d q ps lattice → built k s x y z ≡ bz_grid_addresses d q ps lattice t x y z
-    unfolding bz_grid_addresses
-    accepted-call h e = λ i. built_for (sym h i) (e i) x y z
+    abbrev table : TableRecord
+    table = record { d = d; ps = ps; bz_grid_type = t }
 
-    pub refused-call : {r : Refusal} → input_tests d q ps lattice t ≡ Err r → unbuilt x y z r ≡ bz_grid_addresses d q ps lattice t x y z
+    pub accepted-call : {k : GridType} → input_tests d q ps lattice t ≡ Ok k → {s : Search} → s ≡ search_of d q ps lattice → recorded table (built k s x y z) ≡ bz_grid_addresses d q ps lattice t x y z
     unfolding bz_grid_addresses
-    refused-call h = ap (λ r. built_for r (search_of d q ps lattice) x y z) (sym h)
+    accepted-call h e = λ i. recorded table (built_for (sym h i) (e i) x y z)
+
+    pub refused-call : {r : Refusal} → input_tests d q ps lattice t ≡ Err r → recorded table (unbuilt x y z r) ≡ bz_grid_addresses d q ps lattice t x y z
+    unfolding bz_grid_addresses
+    refused-call h = ap (λ r. recorded table (built_for r (search_of d q ps lattice) x y z)) (sym h)

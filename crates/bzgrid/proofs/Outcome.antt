@@ -99,7 +99,7 @@ module _ (t : GridType) (s : Search) (x y z : ℕ) where
   tests f h = require f SearchFailed (require h WrongLength Accepted)
 
   -- by the tests' answer
-  abbrev pub outcome : Tested → BzGridAddresses
+  abbrev pub outcome : Tested → BzGridAddresses Lengths
   outcome k = record {
     answer = giving k (lengths_of t s.d g);
     addresses = output_of k x (padded (address_list (table_of t g n)) x);

@@ -13,6 +13,8 @@ use Rattle.grgrid.specs.Grid.{size}
 use Rattle.bzgrid.specs.declared.GridType.{GridType}
 use Rattle.bzgrid.specs.declared.GridType.TheVariants.{Sparse, Dense}
 use Rattle.bzgrid.specs.declared.Lengths.{Lengths}
+use Rattle.bzgrid.specs.declared.TableRecord.{TableRecord}
+use Rattle.bzgrid.specs.declared.Built.{Built}
 use Rattle.bzsearch.specs.Lattice.{lattice_fits, singular}
 use Rattle.bzsearch.specs.Search.{Search, new_search, unimodular}
 use Rattle.bzgrid.specs.Table.{Image, images_at, dense, dense_map, sparse, sparse_map, empty, address_list, point_list}
@@ -66,8 +68,8 @@ input_tests d q ps lattice t =
     (require (not (singular (float_matrix lattice))) SingularReciprocalLattice (Ok k)))
 
 -- ---- the answer, and the outputs, which have a, b and c places: -1 in those past the tables'
-pub record BzGridAddresses : Type 0 where
-  pub answer : Result Lengths Refusal
+pub record BzGridAddresses (A : Type 0) : Type 0 where
+  pub answer : Result A Refusal
   pub addresses : List ℤ
   pub map : List ℤ
   pub grg : List ℤ
@@ -77,7 +79,7 @@ padded l n = l ++ replicate (n - length l) (negsuc 0)
 
 module _ (a b c : ℕ) where
   -- -1 everywhere
-  abbrev pub unbuilt : Refusal → BzGridAddresses
+  abbrev pub unbuilt : Refusal → BzGridAddresses Lengths
   unbuilt r = record { answer = Err r; addresses = replicate a (negsuc 0); map = replicate b (negsuc 0); grg = replicate c (negsuc 0) }
 
 -- the tables of a search
@@ -86,7 +88,7 @@ module _ (t : GridType) (s : Search) (a b c : ℕ) where
   unfolding images_at
   build_tests = require (all_found (images_at s) (size s.d)) SearchFailed (require (has_room (lengths_of t s.d (images_at s)) a b c) WrongLength Accepted)
 
-  unfoldable pub built : BzGridAddresses
+  unfoldable pub built : BzGridAddresses Lengths
   unfolding build_tests images_at
   built =
       let table = table_of t (images_at s) (size s.d) in
@@ -98,10 +100,15 @@ module _ (t : GridType) (s : Search) (a b c : ℕ) where
       }
 
 -- ---- the call
-abbrev pub built_for : Result GridType Refusal → Search → (a b c : ℕ) → BzGridAddresses
+abbrev pub built_for : Result GridType Refusal → Search → (a b c : ℕ) → BzGridAddresses Lengths
 built_for (Ok k) s a b c = built k s a b c
 built_for (Err r) s a b c = unbuilt a b c r
 
-unfoldable pub bz_grid_addresses : List ℤ → List (List ℤ) → List ℤ → List (List Float) → ℤ → (a b c : ℕ) → BzGridAddresses
+-- the record of the tables' grid beside the lengths
+abbrev pub recorded : TableRecord → BzGridAddresses Lengths → BzGridAddresses Built
+recorded r o = record { answer = o.answer then λ l. Ok (record { lengths = l; table = r }); addresses = o.addresses; map = o.map; grg = o.grg }
+
+unfoldable pub bz_grid_addresses : List ℤ → List (List ℤ) → List ℤ → List (List Float) → ℤ → (a b c : ℕ) → BzGridAddresses Built
 unfolding input_tests built
-bz_grid_addresses d q ps lattice t a b c = built_for (input_tests d q ps lattice t) (search_of d q ps lattice) a b c
+bz_grid_addresses d q ps lattice t a b c =
+    recorded (record { d = d; ps = ps; bz_grid_type = t }) (built_for (input_tests d q ps lattice t) (search_of d q ps lattice) a b c)

@@ -45,6 +45,21 @@ pub struct Lengths {
     pub grg: usize,
 }
 
+// Which grid a table is of. Who reads the table hands it over, so that it may hold any numbers.
+#[derive(Clone, Copy, Debug, PartialEq, Eq)]
+pub struct TableRecord {
+    pub d: [i64; 3],
+    pub ps: [i64; 3],
+    pub bz_grid_type: i64,
+}
+
+// What is told of tables that were built.
+#[derive(Clone, Copy)]
+pub struct Built {
+    pub lengths: Lengths,
+    pub table: TableRecord,
+}
+
 fn within_limits(d: [i64; 3], q: [[i64; 3]; 3], ps: [i64; 3], lattice: [[f64; 3]; 3]) -> bool
     ensures { result ≡ within_limits d q ps lattice }
 {
@@ -247,14 +262,22 @@ pub fn bz_grid_addresses(
     addresses: &mut [i64],
     map: &mut [i64],
     grg: &mut [i64],
-) -> Result<Lengths, Refusal>
+) -> Result<Built, Refusal>
     ensures { let o = bz_grid_addresses d q ps lattice bz_grid_type (length addresses.old) (length map.old) (length grg.old) in
         record { answer = result; addresses = addresses.new; map = map.new; grg = grg.new } ≡ o }
 {
     match input_tests(d, q, ps, lattice, bz_grid_type) {
         Ok(t) => {
             let s = BzSearch::new(d, common::shift(ps), Basis { m: q }, lattice);
-            build(s, t, addresses, map, grg)
+            let lengths = build(s, t, addresses, map, grg)?;
+            Ok(Built {
+                lengths,
+                table: TableRecord {
+                    d,
+                    ps,
+                    bz_grid_type,
+                },
+            })
         }
         Err(r) => {
             wipe(addresses, map, grg);

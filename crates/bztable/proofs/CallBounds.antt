@@ -18,7 +18,7 @@ use Rattle.common.proofs.Sized.{half-size}
 use Rattle.grgrid.specs.Grid.{size, address}
 use Rattle.grgrid.proofs.Accepted.{side-small, grid-fits}
 use Rattle.grgrid.proofs.Lists.{◌∈◌}
-use Rattle.bzgrid.specs.declared.Lengths.{Lengths}
+use Rattle.bzgrid.specs.declared.Built.{Built}
 use Rattle.bzsearch.specs.Search.{Search, grid_coordinate, images, distance, range_fits, unimodular}
 use Rattle.bzgrid.specs.BzGridAddresses.{search_of}
 use Rattle.bzsearch.proofs.Sizes.{inverse_within}
@@ -32,7 +32,7 @@ use Rattle.bztable.proofs.AcceptedCall.{CallAccepted, call-sound, call-found}
 inverse-size : (m : Mat ℤ) → T (matrix_within 1000 m) → T (unimodular m) → (j k : Axis) → nat_abs (entry (inverse m) j k) ≤ 2000000
 inverse-size m t u = matrix-sizes 2000000 (inverse m) (inverse_within m t u)
 
-module _ {d : List ℤ} {q : List (List ℤ)} {ps : List ℤ} {lattice : List (List Float)} {t : ℤ} {a b c : ℕ} {l : Lengths} (h : CallAccepted d q ps lattice t a b c l) (p : ℕ) (k : p < size (sides_of d)) where
+module _ {d : List ℤ} {q : List (List ℤ)} {ps : List ℤ} {lattice : List (List Float)} {t : ℤ} {a b c : ℕ} {l : Built} (h : CallAccepted d q ps lattice t a b c l) (p : ℕ) (k : p < size (sides_of d)) where
   abbrev s : Search
   s = search_of d q ps lattice
 

@@ -10,10 +10,8 @@ use lib.ListN.{length}
 use lib.Pointwise.{pointwise}
 use Rattle.std.specs.Prelude.{Option, Some, Err}
 use Rattle.std.specs.Ordering.{int_eq}
-use Rattle.std.proofs.lemmas.Bool.Decides.{same_from_decides, Decides-int_eq}
 use Rattle.integer.specs.Same.{same}
-use Rattle.integer.proofs.Same.{same-eq, same_refl}
-use Rattle.integer.proofs.Test.{holds, is_true}
+use Rattle.integer.proofs.Same.{int-eq-same}
 use Rattle.common.specs.Matrix.{Vec, same_vector}
 use Rattle.common.specs.Array.{vector_of}
 use Rattle.common.specs.declared.Refusal.{Refusal}
@@ -23,11 +21,8 @@ use Rattle.bztable.specs.Reading.{Read, got, address_at, find}
 use Rattle.bztable.specs.Rotate.{among_run, among_images}
 
 -- ---- `==` of two addresses
-same_numbers : (x y : ℤ) → int_eq x y ≡ same x y
-same_numbers x y = same_from_decides (int_eq x y) (same x y) (Decides-int_eq x y) (λ e. same-eq x y (holds e), λ e. is_true (same x y) (rw e (same_refl y)))
-
 three : (x y : List ℤ) → length x ≡ 3 → length y ≡ 3 → pointwise int_eq x y ≡ same_vector (vector_of x) (vector_of y)
-three (x ∷ y ∷ z ∷ []) (p ∷ q ∷ r ∷ []) m n = λ i. same_numbers x p i && (same_numbers y q i && ((ap (λ t. t && true) (same_numbers z r)) ∙ last (same z r)) i)
+three (x ∷ y ∷ z ∷ []) (p ∷ q ∷ r ∷ []) m n = λ i. int-eq-same x p i && (int-eq-same y q i && ((ap (λ t. t && true) (int-eq-same z r)) ∙ last (same z r)) i)
   where
     last : (b : Bool) → b && true ≡ b
     last true = refl

@@ -3,7 +3,9 @@ pub mod ImageTable
 pub mod DoubledMesh
 pub mod AcceptedCall
 pub mod CallBounds
+pub mod Records
 pub mod Finding
 pub mod Turning
 pub mod NeighbourRows
 pub mod NeighbourCall
+pub mod ReadRefusals

@@ -1,4 +1,4 @@
--- What accepted tests say of the input of `neighboring_grid_points_many`, and its outcome from that of the walk.
+-- What accepted tests say of the input of `neighbours_in`, and its outcome from that of the walk.
 use mathlib.Core.Path.{◌≡◌, refl, sym, ◌∙◌, ap}
 use mathlib.Core.Bool.{true, false, true≢false}
 use mathlib.Core.List.{List, [], ◌∷◌}
@@ -17,9 +17,8 @@ use Rattle.common.specs.declared.Refusal.{Refusal}
 use Rattle.common.specs.declared.Refusal.TheVariants.{WrongLength, OutsideLimits}
 use Rattle.common.proofs.Tests.{passed}
 use Rattle.bzgrid.specs.declared.GridType.{GridType}
-use Rattle.bzgrid.specs.BzGridAddresses.{grid_type_of}
 use Rattle.bztable.specs.Reading.{Read, got, whole_addresses, tests_after, list_of}
-use Rattle.bztable.specs.Neighbours.{all_neighbours, read_for, input_tests, neighbours_read, Neighbours, neighbour_tests, neighboring_grid_points_many}
+use Rattle.bztable.specs.Neighbours.{all_neighbours, read_for, input_tests, neighbours_read, Neighbours, neighbour_tests, neighbours_in}
 
 -- ---- the tests of the input
 pub record InputAccepted (points : ℕ) (offsets d : List ℤ) (n : ℕ) : Type 0 where
@@ -38,26 +37,26 @@ input-accepted points offsets addresses d n e =
     record { places = eqb-true n (points * (length offsets / 3)) c.0; grid = holds f.0; steps = holds g.0 }
 
 -- ---- the walk
-module _ (points offsets addresses map d : List ℤ) (t : ℤ) (n : ℕ) where
+module _ (k : Result GridType Refusal) (points offsets addresses map d : List ℤ) (n : ℕ) where
   abbrev read : Read (List ℤ)
-  read = neighbours_read points offsets addresses map d t n
+  read = neighbours_read k points offsets addresses map d n
 
   abbrev all : GridType → Read (List ℤ)
-  all k = all_neighbours k (sides_of d) offsets addresses map points
+  all t = all_neighbours t (sides_of d) offsets addresses map points
 
   pub read-none : n ≡ 0 → read ≡ got []
   unfolding neighbours_read
-  read-none e = ap (λ n. read_for n (grid_type_of t then all)) e
+  read-none e = ap (λ n. read_for n (k then all)) e
 
-  pub read-some : (n ≡ 0 → ⊥) → {r : Result GridType Refusal} → r ≡ grid_type_of t → read ≡ (r then all)
+  pub read-some : (n ≡ 0 → ⊥) → {r : Result GridType Refusal} → r ≡ k → read ≡ (r then all)
   unfolding neighbours_read
   read-some h e = some n h ∙ ap (λ r. r then all) (sym e)
     where
-      some : (n : ℕ) → (n ≡ 0 → ⊥) → read_for n (grid_type_of t then all) ≡ (grid_type_of t then all)
+      some : (n : ℕ) → (n ≡ 0 → ⊥) → read_for n (k then all) ≡ (k then all)
       some zero h = absurd (h refl)
       some (suc n) h = refl
 
-  pub after-tests : {s : Tested} → s ≡ input_tests (length points) offsets addresses d n → tests_after s read ≡ neighbour_tests points offsets addresses map d t n
+  pub after-tests : {s : Tested} → s ≡ input_tests (length points) offsets addresses d n → tests_after s read ≡ neighbour_tests k points offsets addresses map d n
   unfolding neighbour_tests
   after-tests e = ap (λ s. tests_after s read) e
 
@@ -78,16 +77,16 @@ module _ (points offsets addresses map d : List ℤ) (t : ℤ) (n : ℕ) where
   outcome s = record { answer = s; out = output_of s n (list_of read) }
 
   module _ {out : List ℤ} where
-    pub found : Accepted ≡ neighbour_tests points offsets addresses map d t n → out ≡ list_of read → record { answer = Accepted; out = out } ≡ neighboring_grid_points_many points offsets addresses map d t n
-    unfolding neighboring_grid_points_many
+    pub found : Accepted ≡ neighbour_tests k points offsets addresses map d n → out ≡ list_of read → record { answer = Accepted; out = out } ≡ neighbours_in k points offsets addresses map d n
+    unfolding neighbours_in
     found e f = (λ i. record { answer = Accepted; out = f i }) ∙ ap outcome e
 
-    pub found-if : (r : Tested) → r ≡ neighbour_tests points offsets addresses map d t n → (r ≡ Accepted → out ≡ list_of read) → IfOk r (λ _. record { answer = Accepted; out = out } ≡ neighboring_grid_points_many points offsets addresses map d t n)
+    pub found-if : (r : Tested) → r ≡ neighbour_tests k points offsets addresses map d n → (r ≡ Accepted → out ≡ list_of read) → IfOk r (λ _. record { answer = Accepted; out = out } ≡ neighbours_in k points offsets addresses map d n)
     found-if (Ok _) e f = found e (f refl)
     found-if (Err r) e f = tt
 
-    pub refused : (r : Tested) → is_err r ≡ true → r ≡ neighbour_tests points offsets addresses map d t n → out ≡ replicate n (negsuc 0) → record { answer = r; out = out } ≡ neighboring_grid_points_many points offsets addresses map d t n
-    unfolding neighboring_grid_points_many
+    pub refused : (r : Tested) → is_err r ≡ true → r ≡ neighbour_tests k points offsets addresses map d n → out ≡ replicate n (negsuc 0) → record { answer = r; out = out } ≡ neighbours_in k points offsets addresses map d n
+    unfolding neighbours_in
     refused (Ok _) h e f = absurd (true≢false (sym h))
     refused (Err r) h e f = (λ i. record { answer = Err r; out = f i }) ∙ ap outcome e
 

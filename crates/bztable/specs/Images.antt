@@ -3,7 +3,7 @@ use Rattle.std.specs.Prelude.{◌≡◌, List, ℕ, ◌<◌, ℤ, Float, Ok}
 use Rattle.common.specs.Array.{sides_of}
 use Rattle.grgrid.specs.Grid.{size, index}
 use Rattle.bzgrid.specs.declared.GridType.{GridType}
-use Rattle.bzgrid.specs.declared.Lengths.{Lengths}
+use Rattle.bzgrid.specs.declared.Built.{Built}
 use Rattle.bzgrid.specs.BzGridAddresses.{grid_type_of, bz_grid_addresses}
 use Rattle.bztable.specs.Access.{ImageAt}
 use Rattle.bztable.specs.Reading.{got, triple_at, place_at}
@@ -18,6 +18,6 @@ pub record FoldBack (d addresses map points : List ℤ) (kind : GridType) (m : �
   pub once : (i j : ℕ) → i < m → j < m → triple_at addresses i ≡ triple_at addresses j → i ≡ j
 
 abbrev pub EveryImage : Type 0
-EveryImage = (d : List ℤ) (q : List (List ℤ)) (ps : List ℤ) (lattice : List (List Float)) (type : ℤ) (a b c : ℕ) (kind : GridType) (l : Lengths)
+EveryImage = (d : List ℤ) (q : List (List ℤ)) (ps : List ℤ) (lattice : List (List Float)) (type : ℤ) (a b c : ℕ) (kind : GridType) (l : Built)
     → let o = bz_grid_addresses d q ps lattice type a b c in
-    grid_type_of type ≡ Ok kind → o.answer ≡ Ok l → FoldBack d o.addresses o.map o.grg kind l.grg
+    grid_type_of type ≡ Ok kind → o.answer ≡ Ok l → FoldBack d o.addresses o.map o.grg kind l.lengths.grg

@@ -1,16 +1,18 @@
 -- `neighboring_grid_points_many`: its tests, the walk over points and offsets, and its answer with the output, which has n places, as one outcome.
-use Rattle.std.specs.Prelude.{List, [], ◌∷◌, ◌++◌, ℕ, zero, suc, ◌*◌, ◌-◌, ◌/◌, ltb, eqb, ℤ, pos, ◌+ℤ◌, length, get_or, unwrap_or, cond}
+use Rattle.std.specs.Prelude.{List, [], ◌∷◌, ◌++◌, ℕ, zero, suc, ◌*◌, ◌-◌, ◌/◌, ltb, eqb, ℤ, pos, ◌+ℤ◌, length, get_or, unwrap_or, Result, cond}
 use Rattle.common.specs.Matrix.{Vec, side, vector}
 use Rattle.common.specs.Array.{sides_of}
 use Rattle.common.specs.Limits.{all_within, diagonal_fits}
 use Rattle.common.specs.Tested.{require, output_of, Tested, Accepted, ◌then◌}
+use Rattle.common.specs.declared.Refusal.{Refusal}
 use Rattle.common.specs.declared.Refusal.TheVariants.{OutsideLimits, WrongLength}
 use Rattle.grgrid.specs.Grid.{size, index}
 use Rattle.bzgrid.specs.declared.GridType.{GridType}
 use Rattle.bzgrid.specs.declared.GridType.TheVariants.{Sparse, Dense}
 use Rattle.bzgrid.specs.Table.{doubled, empty}
-use Rattle.bzgrid.specs.BzGridAddresses.{grid_type_of}
+use Rattle.bzgrid.specs.declared.TableRecord.{TableRecord}
 use Rattle.bztable.specs.Access.{run_of}
+use Rattle.bztable.specs.Agreement.{agrees_grid, layout_where}
 use Rattle.bztable.specs.Reading.{Read, got, whole_addresses, triple_at, address_of, place_at, find, tests_after, list_of}
 
 abbrev pub moved : Vec ℤ → Vec ℤ → Vec ℤ
@@ -55,7 +57,7 @@ module _ (t : GridType) (d : Vec ℕ) (offsets addresses map : List ℤ) where
   all_neighbours points = read_rows (λ i. address_of addresses (get_or points i (pos 0)) then neighbours_from) (length points)
 
 -- ---- the call
--- without points or without offsets nothing is read, and the table may be of any type
+-- without points or without offsets nothing is read, and the table may be of any type and any record
 abbrev pub read_for : ℕ → Read (List ℤ) → Read (List ℤ)
 read_for zero r = got []
 read_for (suc n) r = r
@@ -72,15 +74,21 @@ pub record Neighbours : Type 0 where
   pub answer : Tested
   pub out : List ℤ
 
-module _ (points offsets addresses map d : List ℤ) (t : ℤ) (n : ℕ) where
+-- of a table of layout k
+module _ (k : Result GridType Refusal) (points offsets addresses map d : List ℤ) (n : ℕ) where
   unfoldable pub neighbours_read : Read (List ℤ)
   unfolding all_neighbours
-  neighbours_read = read_for n (grid_type_of t then λ k. all_neighbours k (sides_of d) offsets addresses map points)
+  neighbours_read = read_for n (k then λ t. all_neighbours t (sides_of d) offsets addresses map points)
 
   unfoldable pub neighbour_tests : Tested
   unfolding input_tests neighbours_read
   neighbour_tests = tests_after (input_tests (length points) offsets addresses d n) neighbours_read
 
-  unfoldable pub neighboring_grid_points_many : Neighbours
+  unfoldable pub neighbours_in : Neighbours
   unfolding neighbour_tests neighbours_read
-  neighboring_grid_points_many = record { answer = neighbour_tests; out = output_of neighbour_tests n (list_of neighbours_read) }
+  neighbours_in = record { answer = neighbour_tests; out = output_of neighbour_tests n (list_of neighbours_read) }
+
+-- the record of the table agrees with the call, or refusal 17
+unfoldable pub neighboring_grid_points_many : (points offsets addresses map : List ℤ) → TableRecord → List ℤ → ℤ → ℕ → Neighbours
+unfolding neighbours_in
+neighboring_grid_points_many points offsets addresses map r d t n = neighbours_in (layout_where (agrees_grid r d t) t) points offsets addresses map d n

@@ -8,12 +8,13 @@ use Rattle.common.specs.declared.Refusal.{Refusal}
 use Rattle.common.specs.declared.Refusal.TheVariants.{OutsideLimits, WrongLength}
 use Rattle.grgrid.specs.Grid.{size, index, double, halve}
 use Rattle.bzgrid.specs.declared.GridType.{GridType}
+use Rattle.bzgrid.specs.declared.TableRecord.{TableRecord}
 use Rattle.bzgrid.specs.declared.GridType.TheVariants.{Sparse, Dense}
 use Rattle.bztable.specs.declared.rotate.Rotated.{Rotated}
 use Rattle.bztable.specs.declared.rotate.Rotated.TheVariants.{Image, Fallback}
-use Rattle.bzgrid.specs.BzGridAddresses.{grid_type_of}
 use Rattle.bztable.specs.Reading.{Read, got, whole_addresses, address_at, address_of, place_at, find}
 use Rattle.bztable.specs.Access.{run_of}
+use Rattle.bztable.specs.Agreement.{agrees, layout_where}
 
 -- double, rotate, halve toward zero
 abbrev pub turned : Mat ℤ → Vec ℤ → Vec ℤ → Vec ℤ
@@ -38,17 +39,22 @@ image_or fallback None = fallback then λ i. got (Fallback (pos i))
 abbrev pub image_of : GridType → Vec ℕ → List ℤ → List ℤ → Vec ℤ → Read Rotated
 image_of t d addresses map a = among_images addresses map a t (index d a) (size d) then image_or (place_at map (index d a))
 
--- ---- the call
-unfoldable pub rotate_tests : List (List ℤ) → (addresses d ps : List ℤ) → ℤ → Result GridType Refusal
-rotate_tests rotation addresses d ps t =
+-- ---- the call, of a table of layout k
+unfoldable pub rotate_tests : List (List ℤ) → (addresses d ps : List ℤ) → Result GridType Refusal → Result GridType Refusal
+rotate_tests rotation addresses d ps k =
     require (whole_addresses addresses) WrongLength
-    (require (diagonal_fits d && (shift_fits ps && matrix_within 100000 (matrix_of rotation))) OutsideLimits (grid_type_of t))
+    (require (diagonal_fits d && (shift_fits ps && matrix_within 100000 (matrix_of rotation))) OutsideLimits k)
 
 unfoldable pub rotate_read : ℤ → List (List ℤ) → (addresses map d ps : List ℤ) → GridType → Read Rotated
 unfolding index
 rotate_read i rotation addresses map d ps t =
     address_of addresses i then λ b. image_of t (sides_of d) addresses map (turned (matrix_of rotation) (vector_of ps) b)
 
-unfoldable pub rotate_bz_grid_index : ℤ → List (List ℤ) → (addresses map d ps : List ℤ) → ℤ → Read Rotated
+unfoldable pub rotate_in : Result GridType Refusal → ℤ → List (List ℤ) → (addresses map d ps : List ℤ) → Read Rotated
 unfolding rotate_tests rotate_read
-rotate_bz_grid_index i rotation addresses map d ps t = rotate_tests rotation addresses d ps t then rotate_read i rotation addresses map d ps
+rotate_in k i rotation addresses map d ps = rotate_tests rotation addresses d ps k then rotate_read i rotation addresses map d ps
+
+-- the record of the table agrees with the call, or refusal 17
+unfoldable pub rotate_bz_grid_index : ℤ → List (List ℤ) → (addresses map : List ℤ) → TableRecord → (d ps : List ℤ) → ℤ → Read Rotated
+unfolding rotate_in
+rotate_bz_grid_index i rotation addresses map r d ps t = rotate_in (layout_where (agrees r d ps t) t) i rotation addresses map d ps

@@ -1,6 +1,7 @@
 // Image tables as they are read: the rotation of an image, neighbours.
 #![tactic(auto)]
 
+pub mod agreement;
 mod neighbours;
 pub mod reading;
 mod rotate;

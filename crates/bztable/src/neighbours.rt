@@ -6,11 +6,11 @@ ghost use Rattle.common.specs.Limits.{all_within};
 ghost use Rattle.grgrid.specs.Sides.{sides};
 ghost use Rattle.bztable.specs.Neighbours.{moved, sparse_neighbour, image_among, dense_neighbour, neighbour};
 ghost use Rattle.bztable.specs.Neighbours.{neighbours_from, all_neighbours, input_tests, neighbour_tests};
-ghost use Rattle.bztable.specs.Neighbours.{neighboring_grid_points_many};
+ghost use Rattle.bztable.specs.Neighbours.{neighbours_in, neighboring_grid_points_many};
 
-use crate::reading;
 use crate::reading::Table;
-use bzgrid::GridType;
+use crate::{agreement, reading};
+use bzgrid::{GridType, TableRecord};
 use common::Refusal;
 use grgrid::Address;
 
@@ -132,18 +132,18 @@ fn neighbour_tests(
     addresses: &[i64],
     map: &[i64],
     d: [i64; 3],
-    bz_grid_type: i64,
+    layout: Result<GridType, Refusal>,
     out: &mut [i64],
 ) -> Result<(), Refusal>
-    ensures value { result ≡ neighbour_tests points.now offsets.now addresses.now map.now d bz_grid_type (length out.old) }
-    ensures found { let o = neighboring_grid_points_many points.now offsets.now addresses.now map.now d bz_grid_type (length out.old) in
+    ensures value { result ≡ neighbour_tests layout points.now offsets.now addresses.now map.now d (length out.old) }
+    ensures found { let o = neighbours_in layout points.now offsets.now addresses.now map.now d (length out.old) in
         IfOk result (λ _. record { answer = Accepted; out = out.new } ≡ o) }
 {
     input_tests(points.len(), offsets, addresses, d, out.len())?;
     if out.is_empty() {
         return Ok(());
     }
-    let t = GridType::try_from(bz_grid_type)?;
+    let t = layout?;
     let table = Table {
         t,
         g: grgrid::grid_of(d),
@@ -153,22 +153,42 @@ fn neighbour_tests(
     fill_rows(&table, points, offsets, out)
 }
 
-// The neighbours of each point along each offset: place i·n + j holds that of point i along offset j of n.
-pub fn neighboring_grid_points_many(
+// In a table of that layout.
+fn neighbours_in(
+    layout: Result<GridType, Refusal>,
     points: &[i64],
     offsets: &[i64],
     addresses: &[i64],
     map: &[i64],
     d: [i64; 3],
-    bz_grid_type: i64,
     out: &mut [i64],
 ) -> Result<(), Refusal>
-    ensures { let o = neighboring_grid_points_many points.now offsets.now addresses.now map.now d bz_grid_type (length out.old) in
+    ensures { let o = neighbours_in layout points.now offsets.now addresses.now map.now d (length out.old) in
         record { answer = result; out = out.new } ≡ o }
 {
-    let answer = neighbour_tests(points, offsets, addresses, map, d, bz_grid_type, out);
+    let answer = neighbour_tests(points, offsets, addresses, map, d, layout, out);
     if answer.is_err() {
         out.fill(-1);
     }
     answer
+}
+
+// The neighbours of each point along each offset: place i·n + j holds that of point i along offset j of n.
+#[tactic(auto, unfolding(crate::specs::Neighbours::neighboring_grid_points_many))]
+pub fn neighboring_grid_points_many(
+    points: &[i64],
+    offsets: &[i64],
+    addresses: &[i64],
+    map: &[i64],
+    table: TableRecord,
+    d: [i64; 3],
+    bz_grid_type: i64,
+    out: &mut [i64],
+) -> Result<(), Refusal>
+    ensures { let o = neighboring_grid_points_many points.now offsets.now addresses.now map.now table d bz_grid_type (length out.old) in
+        record { answer = result; out = out.new } ≡ o }
+{
+    let agreed = agreement::agrees_grid(table, d, bz_grid_type);
+    let layout = agreement::layout_where(agreed, bz_grid_type);
+    neighbours_in(layout, points, offsets, addresses, map, d, out)
 }

@@ -4,11 +4,11 @@ ghost use Rattle.common.specs.Array.{vector_of, items, matrix_of, Sized};
 ghost use Rattle.common.specs.Limits.{matrix_within, diagonal_fits, shift_fits};
 ghost use Rattle.grgrid.specs.Grid.{size};
 ghost use Rattle.grgrid.specs.Sides.{sides};
-ghost use Rattle.bztable.specs.Rotate.{turned, among_run, among_images, image_of, rotate_tests, rotate_read, rotate_bz_grid_index};
+ghost use Rattle.bztable.specs.Rotate.{turned, among_run, among_images, image_of, rotate_tests, rotate_read, rotate_in, rotate_bz_grid_index};
 
-use crate::reading;
 use crate::reading::Table;
-use bzgrid::GridType;
+use crate::{agreement, reading};
+use bzgrid::{GridType, TableRecord};
 use common::{Refusal, Shift};
 use grgrid::{Address, Rotation};
 
@@ -31,9 +31,9 @@ fn rotate_tests(
     addresses: &[i64],
     d: [i64; 3],
     ps: [i64; 3],
-    bz_grid_type: i64,
+    layout: Result<GridType, Refusal>,
 ) -> Result<GridType, Refusal>
-    ensures { result ≡ rotate_tests rotation addresses.now d ps bz_grid_type }
+    ensures { result ≡ rotate_tests rotation addresses.now d ps layout }
 {
     if !reading::whole_addresses(addresses) {
         return Err(Refusal::WrongLength);
@@ -41,7 +41,7 @@ fn rotate_tests(
     if !limits_fit(rotation, d, ps) {
         return Err(Refusal::OutsideLimits);
     }
-    GridType::try_from(bz_grid_type)
+    layout
 }
 
 // The address that a rotation carries address a to.
@@ -102,20 +102,20 @@ fn image_of(table: &Table, a: [i64; 3]) -> Result<Rotated, Refusal>
     }
 }
 
-// Rotate an image and return the place of the image that has the rotated address.
-#[tactic(auto, unfolding(crate::specs::Rotate::rotate_bz_grid_index, crate::specs::Rotate::rotate_read))]
-pub fn rotate_bz_grid_index(
+// In a table of that layout.
+#[tactic(auto, unfolding(crate::specs::Rotate::rotate_in, crate::specs::Rotate::rotate_read))]
+fn rotate_in(
+    layout: Result<GridType, Refusal>,
     bz_grid_index: i64,
     rotation: [[i64; 3]; 3],
     addresses: &[i64],
     map: &[i64],
     d: [i64; 3],
     ps: [i64; 3],
-    bz_grid_type: i64,
 ) -> Result<Rotated, Refusal>
-    ensures { result ≡ rotate_bz_grid_index bz_grid_index rotation addresses.now map.now d ps bz_grid_type }
+    ensures { result ≡ rotate_in layout bz_grid_index rotation addresses.now map.now d ps }
 {
-    let t = rotate_tests(rotation, addresses, d, ps, bz_grid_type)?;
+    let t = rotate_tests(rotation, addresses, d, ps, layout)?;
     let table = Table {
         t,
         g: grgrid::grid_of(d),
@@ -125,4 +125,23 @@ pub fn rotate_bz_grid_index(
     let a = reading::address_of(addresses, bz_grid_index)?;
     let rotation = Rotation { m: rotation };
     image_of(&table, turned(a, rotation, common::shift(ps)))
+}
+
+// Rotate an image and return the place of the image that has the rotated address.
+#[tactic(auto, unfolding(crate::specs::Rotate::rotate_bz_grid_index))]
+pub fn rotate_bz_grid_index(
+    bz_grid_index: i64,
+    rotation: [[i64; 3]; 3],
+    addresses: &[i64],
+    map: &[i64],
+    table: TableRecord,
+    d: [i64; 3],
+    ps: [i64; 3],
+    bz_grid_type: i64,
+) -> Result<Rotated, Refusal>
+    ensures { result ≡ rotate_bz_grid_index bz_grid_index rotation addresses.now map.now table d ps bz_grid_type }
+{
+    let agreed = agreement::agrees(table, d, ps, bz_grid_type);
+    let layout = agreement::layout_where(agreed, bz_grid_type);
+    rotate_in(layout, bz_grid_index, rotation, addresses, map, d, ps)
 }

@@ -10,3 +10,4 @@ pub mod Sized
 pub mod Nine
 pub mod Reading
 mod Examples
+pub mod RefusedBy

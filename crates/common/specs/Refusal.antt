@@ -3,7 +3,8 @@ use Rattle.std.specs.Prelude.{ℕ}
 use Rattle.common.specs.declared.Refusal.{Refusal}
 use Rattle.common.specs.declared.Refusal.TheVariants.{Singular, NotConverged, OutsideLimits, Overflow, SingularQ, SymmetryBroken}
 use Rattle.common.specs.declared.Refusal.TheVariants.{TooManyRotations, TooManyForInversion, BadGridType, NotUnimodularQ}
-use Rattle.common.specs.declared.Refusal.TheVariants.{SingularReciprocalLattice, SearchFailed, WrongLength, OutsideTable, BadHeader, NotGroup, InvertedRange}
+use Rattle.common.specs.declared.Refusal.TheVariants.{SingularReciprocalLattice, SearchFailed, WrongLength, OutsideTable}
+use Rattle.common.specs.declared.Refusal.TheVariants.{BadHeader, OtherGrid, NotGroup, InvertedRange}
 
 abbrev pub number_of : Refusal → ℕ
 -- `snf3x3`: the determinant is 0
@@ -36,6 +37,8 @@ number_of WrongLength = 13
 number_of OutsideTable = 14
 -- job file: wrong header
 number_of BadHeader = 15
+-- a table's record has another diagonal, shift or type than the call
+number_of OtherGrid = 17
 -- the reciprocal step of the chain: identity missing, a repeat, a determinant other than 1 or -1, or a product not in the list
 number_of NotGroup = 18
 -- `mark_candidates`: a lowest inner product above its highest

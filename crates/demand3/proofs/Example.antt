@@ -29,12 +29,12 @@ use Rattle.snf_steps.specs.Finalize.{make_diag_positive, finalize_sort, finalize
 use Rattle.snf3x3.specs.Snf3x3.{diagonalised, round as snf_round, rounds, snf3x3}
 use Rattle.transform_rotations.specs.Transform.{transform_d, is_whole, rounded}
 use Rattle.transform_rotations.specs.TransformRotations.{transform_rotations}
-use Rattle.bzgrid.specs.declared.Lengths.{Lengths}
+use Rattle.bzgrid.specs.declared.Built.{Built}
 use Rattle.bzsearch.specs.Lattice.{bz_tolerance, lattice_det, dual_lengths_of}
 use Rattle.bzgrid.specs.declared.GridType.TheVariants.{Sparse, Dense}
 use Rattle.bzgrid.specs.BzGridAddresses.{bz_grid_addresses}
 use Rattle.triplet_grid.specs.IrTriplets.{ir_triplets_at_q}
-use Rattle.bz_triplets.specs.BzTriplets.{lqd_inv, squared_distance, bz_triplets_at_q}
+use Rattle.bz_triplets.specs.BzTriplets.{lqd_inv, squared_distance, triplets_in, bz_triplets_at_q}
 use Rattle.demand3.specs.FinishedList.{Given, as-it-stands, as-returned, Calls}
 
 -- ---- what comes from outside
@@ -100,19 +100,19 @@ dense = pos 0 ∷ pos 1 ∷ pos 2 ∷ pos 3 ∷ []
 abbrev sparse : List ℤ
 sparse = (pos 0 ∷ replicate 3 (pos 24)) ++ (pos 1 ∷ replicate 15 (pos 24)) ++ (pos 2 ∷ replicate 3 (pos 24)) ++ replicate 4 (pos 0)
 
-abbrev dense-lengths : Lengths
-dense-lengths = record { addresses = 9; map = 4; grg = 3 }
+abbrev dense-built : Built
+dense-built = record { lengths = record { addresses = 9; map = 4; grg = 3 }; table = record { d = items d; ps = shift; bz_grid_type = pos 2 } }
 
-abbrev sparse-lengths : Lengths
-sparse-lengths = record { addresses = 9; map = 28; grg = 3 }
+abbrev sparse-built : Built
+sparse-built = record { lengths = record { addresses = 9; map = 28; grg = 3 }; table = record { d = items d; ps = shift; bz_grid_type = pos 1 } }
 
-abbrev Built : ℤ → List ℤ → Lengths → Type 0
-Built type map l =
-    ((bz_grid_addresses (items d) (rows q) shift lattice type 9 l.map 3).answer ≡ Ok l)
-    × (addresses ≡ (bz_grid_addresses (items d) (rows q) shift lattice type 9 l.map 3).addresses)
-    × (map ≡ (bz_grid_addresses (items d) (rows q) shift lattice type 9 l.map 3).map)
+abbrev Builds : ℤ → List ℤ → Built → Type 0
+Builds type map b =
+    ((bz_grid_addresses (items d) (rows q) shift lattice type 9 b.lengths.map 3).answer ≡ Ok b)
+    × (addresses ≡ (bz_grid_addresses (items d) (rows q) shift lattice type 9 b.lengths.map 3).addresses)
+    × (map ≡ (bz_grid_addresses (items d) (rows q) shift lattice type 9 b.lengths.map 3).map)
 
-builds : Built (pos 2) dense dense-lengths × Built (pos 1) sparse sparse-lengths
+builds : Builds (pos 2) dense dense-built × Builds (pos 1) sparse sparse-built
 unfolding bz_grid_addresses index bz_tolerance lattice_det dual_lengths_of nint_of round_of floor_of ceil_of abs_of sqrt_of root size round add sub mul div neg lt le eq of_int of_bits to_signed
 builds = ((refl, refl, refl), (refl, refl, refl))
 
@@ -133,14 +133,14 @@ triplets = pos 1 ∷ pos 0 ∷ pos 2 ∷ pos 1 ∷ pos 1 ∷ pos 1 ∷ []
 abbrev cells : List ℤ
 cells = pos 0 ∷ pos 0 ∷ pos 0 ∷ pos 0 ∷ pos 0 ∷ pos 1 ∷ []
 
-abbrev Chosen : ℤ → List ℤ → Type 0
-Chosen type map =
-    ((bz_triplets_at_q (pos 1) addresses map classes (items d) (rows q) lattice type 6 2 2 6).answer ≡ Accepted)
-    × (triplets ≡ (bz_triplets_at_q (pos 1) addresses map classes (items d) (rows q) lattice type 6 2 2 6).out)
-    × (cells ≡ (bz_triplets_at_q (pos 1) addresses map classes (items d) (rows q) lattice type 6 2 2 6).cells)
+abbrev Chosen : ℤ → List ℤ → Built → Type 0
+Chosen type map b =
+    ((bz_triplets_at_q (pos 1) addresses map b.table classes (items d) (rows q) lattice type 6 2 2 6).answer ≡ Accepted)
+    × (triplets ≡ (bz_triplets_at_q (pos 1) addresses map b.table classes (items d) (rows q) lattice type 6 2 2 6).out)
+    × (cells ≡ (bz_triplets_at_q (pos 1) addresses map b.table classes (items d) (rows q) lattice type 6 2 2 6).cells)
 
-chooses : Chosen (pos 2) dense × Chosen (pos 1) sparse
-unfolding bz_triplets_at_q cell lqd_inv squared_distance bz_tolerance abs_of round add sub mul div lt le of_int of_bits
+chooses : Chosen (pos 2) dense dense-built × Chosen (pos 1) sparse sparse-built
+unfolding bz_triplets_at_q triplets_in cell lqd_inv squared_distance bz_tolerance abs_of round add sub mul div lt le of_int of_bits
 chooses = ((refl, refl, refl), (refl, refl, refl))
 
 -- ---- the calls
@@ -170,7 +170,7 @@ job = record {
   addresses = addresses;
   map = dense;
   rooms = record { x = 9; y = 4; z = 3 };
-  lengths = dense-lengths;
+  built = dense-built;
   builds = builds.0.0;
   builds-addresses = builds.0.1;
   builds-map = builds.0.2;
@@ -217,7 +217,7 @@ sparse-job = record {
   addresses = addresses;
   map = sparse;
   rooms = record { x = 9; y = 28; z = 3 };
-  lengths = sparse-lengths;
+  built = sparse-built;
   builds = builds.1.0;
   builds-addresses = builds.1.1;
   builds-map = builds.1.2;

@@ -53,8 +53,8 @@ module _ (c : Calls) where
   walk = walk_of c.addresses (items c.d) (rows c.q) c.lattice
 
   -- ---- the tables
-  pub built : CallAccepted (items c.d) (rows c.q) c.shift c.lattice c.type c.rooms.x c.rooms.y c.rooms.z c.lengths
-  built = call-accepted (items c.d) (rows c.q) c.shift c.lattice c.type c.rooms.x c.rooms.y c.rooms.z c.lengths c.builds
+  pub built : CallAccepted (items c.d) (rows c.q) c.shift c.lattice c.type c.rooms.x c.rooms.y c.rooms.z c.built
+  built = call-accepted (items c.d) (rows c.q) c.shift c.lattice c.type c.rooms.x c.rooms.y c.rooms.z c.built c.builds
 
   -- the layout that the call found
   same-kind : built.kind ≡ c.kind
@@ -69,14 +69,14 @@ module _ (c : Calls) where
   abbrev grg-left : List ℤ
   grg-left = (bz_grid_addresses (items c.d) (rows c.q) c.shift c.lattice c.type c.rooms.x c.rooms.y c.rooms.z).grg
 
-  pub stands : Stands c.kind (points c) (images (search c)) c.addresses c.map grg-left c.lengths.grg
+  pub stands : Stands c.kind (points c) (images (search c)) c.addresses c.map grg-left c.built.lengths.grg
   stands =
-      subst (λ l. Stands c.kind (points c) (images (search c)) l c.map grg-left c.lengths.grg) (sym c.builds-addresses)
-      (subst (λ l. Stands c.kind (points c) (images (search c)) addresses-left l grg-left c.lengths.grg) (sym c.builds-map)
-      (subst (λ t. Stands t (points c) (images (search c)) addresses-left map-left grg-left c.lengths.grg) same-kind (call-stands built)))
+      subst (λ l. Stands c.kind (points c) (images (search c)) l c.map grg-left c.built.lengths.grg) (sym c.builds-addresses)
+      (subst (λ l. Stands c.kind (points c) (images (search c)) addresses-left l grg-left c.built.lengths.grg) (sym c.builds-map)
+      (subst (λ t. Stands t (points c) (images (search c)) addresses-left map-left grg-left c.built.lengths.grg) same-kind (call-stands built)))
 
-  pub images-room : c.lengths.grg ≤ c.rooms.z
-  images-room = leb→le c.lengths.grg c.rooms.z (and_r (leb c.lengths.map c.rooms.y) _ (and_r (leb c.lengths.addresses c.rooms.x) _ built.room))
+  pub images-room : c.built.lengths.grg ≤ c.rooms.z
+  images-room = leb→le c.built.lengths.grg c.rooms.z (and_r (leb c.built.lengths.map c.rooms.y) _ (and_r (leb c.built.lengths.addresses c.rooms.x) _ built.room))
 
   sound : Sound (search c)
   sound = call-sound built
@@ -94,7 +94,7 @@ module _ (c : Calls) where
   start-folds : index (grid c) (triple_at c.addresses c.start) ≡ c.q0
   start-folds = place-folds stands (call-folded built) c.q0 q0-inside (started c.kind stands c.starts)
     where
-      started : (t : GridType) (w : Stands t (points c) (images (search c)) c.addresses c.map grg-left c.lengths.grg) → Starts t c.map (points c) c.q0 c.start → c.start ∈ w.places c.q0
+      started : (t : GridType) (w : Stands t (points c) (images (search c)) c.addresses c.map grg-left c.built.lengths.grg) → Starts t c.map (points c) c.q0 c.start → c.start ∈ w.places c.q0
       started Sparse w e = subst (λ i. i ∈ w.places c.q0) (sym e) (first-stands c.map (points c) c.q0 Sparse (w.counted c.q0 q0-inside) (some-place w c.q0 q0-inside (call-found built c.q0 q0-inside)) refl)
       started Dense w m = stands-at w c.q0 q0-inside m
 
@@ -110,7 +110,7 @@ module _ (c : Calls) where
     trio-inside Z = partner-inside (grid c) sound.sides c.q0 q0-inside q1
 
     -- image indices lie in the tables
-    pub best-inside : {i : Vec ℕ} {g : Vec ℤ} → Best c q1 i g → (k : Axis) → side i k < c.lengths.grg
+    pub best-inside : {i : Vec ℕ} {g : Vec ℤ} → Best c q1 i g → (k : Axis) → side i k < c.built.lengths.grg
     best-inside b k = stands.inside (side (trio c q1) k) (trio-inside k) (stands-at stands (side (trio c q1) k) (trio-inside k) (b.stands k))
 
     abbrev lists : Vec (List ℕ)
@@ -213,9 +213,9 @@ module _ (c : Calls) where
         chosen-best (subst (λ q2. chosen c.kind (points c) c.map walk c.q0 q1 q2 ≡ got s) third-is r.2)
 
   -- ---- the whole list
-  accepted : TripletsAccepted (pos c.start) c.addresses c.map c.classes (items c.d) (rows c.q) c.lattice c.type c.triplet-rooms.x c.triplet-rooms.y c.triplet-rooms.z c.cell-room
+  accepted : TripletsAccepted (pos c.start) c.addresses c.map c.built.table c.classes (items c.d) (rows c.q) c.lattice c.type c.triplet-rooms.x c.triplet-rooms.y c.triplet-rooms.z c.cell-room
   accepted =
-      triplets-accepted (pos c.start) c.addresses c.map c.classes (items c.d) (rows c.q) c.lattice c.type c.triplet-rooms.x c.triplet-rooms.y c.triplet-rooms.z c.cell-room
+      triplets-accepted (pos c.start) c.addresses c.map c.built.table c.classes (items c.d) (rows c.q) c.lattice c.type c.triplet-rooms.x c.triplet-rooms.y c.triplet-rooms.z c.cell-room
       c.chooses
 
   reads : triplets_read (pos c.start) c.addresses c.map c.classes (items c.d) (rows c.q) c.lattice c.kind ≡ got accepted.states

@@ -14,12 +14,12 @@ use Rattle.float.specs.Sqrt.{root, sqrt_of}
 use Rattle.grgrid.specs.Grid.{index, cell}
 use Rattle.grgrid.specs.MatrixGroup.{MatrixGroup}
 use Rattle.recip_rotations.specs.PointGroup.{with_negatives}
-use Rattle.bzgrid.specs.declared.Lengths.{Lengths}
+use Rattle.bzgrid.specs.declared.Built.{Built}
 use Rattle.bzgrid.specs.declared.GridType.TheVariants.{Sparse}
 use Rattle.bzsearch.specs.Lattice.{bz_tolerance, lattice_det, dual_lengths_of}
 use Rattle.bzgrid.specs.BzGridAddresses.{bz_grid_addresses}
 use Rattle.triplet_grid.specs.IrTriplets.{ir_triplets_at_q}
-use Rattle.bz_triplets.specs.BzTriplets.{lqd_inv, squared_distance, bz_triplets_at_q}
+use Rattle.bz_triplets.specs.BzTriplets.{lqd_inv, squared_distance, triplets_in, bz_triplets_at_q}
 use Rattle.demand3.specs.FinishedList.{as-it-stands, Calls, FinishedList}
 use Rattle.demand3.proofs.Example.{matrix, lattice, d, p, q, diagonalises, returned, transforms, conditions}
 use Rattle.demand3.proofs.FinishedList.{finished-list}
@@ -36,10 +36,10 @@ map =
     (pos 0 ∷ replicate 3 (pos 24)) ++ (pos 3 ∷ replicate 11 (pos 24)) ++ (pos 1 ∷ replicate 3 (pos 24)) ++ (pos 2 ∷ replicate 3 (pos 24))
     ++ (pos 0 ∷ pos 0 ∷ pos 1 ∷ pos 1 ∷ [])
 
-abbrev lengths : Lengths
-lengths = record { addresses = 12; map = 28; grg = 4 }
+abbrev built : Built
+built = record { lengths = record { addresses = 12; map = 28; grg = 4 }; table = record { d = items d; ps = half-step; bz_grid_type = pos 1 } }
 
-builds : ((bz_grid_addresses (items d) (rows q) half-step lattice (pos 1) 12 28 4).answer ≡ Ok lengths)
+builds : ((bz_grid_addresses (items d) (rows q) half-step lattice (pos 1) 12 28 4).answer ≡ Ok built)
     × (addresses ≡ (bz_grid_addresses (items d) (rows q) half-step lattice (pos 1) 12 28 4).addresses)
     × (map ≡ (bz_grid_addresses (items d) (rows q) half-step lattice (pos 1) 12 28 4).map)
 unfolding bz_grid_addresses index bz_tolerance lattice_det dual_lengths_of nint_of round_of floor_of ceil_of abs_of sqrt_of root size round add sub mul div neg lt le eq of_int of_bits to_signed
@@ -58,10 +58,10 @@ triplets = pos 0 ∷ pos 0 ∷ pos 0 ∷ pos 0 ∷ pos 3 ∷ pos 2 ∷ []
 abbrev cells : List ℤ
 cells = replicate 6 (pos 0)
 
-chooses : ((bz_triplets_at_q (pos 0) addresses map classes (items d) (rows q) lattice (pos 1) 6 2 2 6).answer ≡ Accepted)
-    × (triplets ≡ (bz_triplets_at_q (pos 0) addresses map classes (items d) (rows q) lattice (pos 1) 6 2 2 6).out)
-    × (cells ≡ (bz_triplets_at_q (pos 0) addresses map classes (items d) (rows q) lattice (pos 1) 6 2 2 6).cells)
-unfolding bz_triplets_at_q cell lqd_inv squared_distance bz_tolerance abs_of round add sub mul div lt le of_int of_bits
+chooses : ((bz_triplets_at_q (pos 0) addresses map built.table classes (items d) (rows q) lattice (pos 1) 6 2 2 6).answer ≡ Accepted)
+    × (triplets ≡ (bz_triplets_at_q (pos 0) addresses map built.table classes (items d) (rows q) lattice (pos 1) 6 2 2 6).out)
+    × (cells ≡ (bz_triplets_at_q (pos 0) addresses map built.table classes (items d) (rows q) lattice (pos 1) 6 2 2 6).cells)
+unfolding bz_triplets_at_q triplets_in cell lqd_inv squared_distance bz_tolerance abs_of round add sub mul div lt le of_int of_bits
 chooses = (refl, refl, refl)
 
 pub kept-job : Calls
@@ -90,7 +90,7 @@ kept-job = record {
   addresses = addresses;
   map = map;
   rooms = record { x = 12; y = 28; z = 4 };
-  lengths = lengths;
+  built = built;
   builds = builds.0;
   builds-addresses = builds.1;
   builds-map = builds.2;

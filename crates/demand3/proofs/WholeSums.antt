@@ -13,7 +13,8 @@ use Rattle.grgrid.specs.Own.{own_places, own_points}
 use Rattle.grgrid.proofs.Folding.{Sides, index-lt}
 use Rattle.grgrid.proofs.Own.{length-own}
 use Rattle.bzgrid.specs.declared.GridType.{GridType}
-use Rattle.bzgrid.specs.declared.Lengths.{Lengths}
+use Rattle.bzgrid.specs.declared.TableRecord.{TableRecord}
+use Rattle.bzgrid.specs.declared.Built.{Built}
 use Rattle.bzgrid.specs.BzGridAddresses.{search_of, bz_grid_addresses}
 use Rattle.bzsearch.specs.Search.{Search, images}
 use Rattle.bzgrid.specs.declared.GridType.TheVariants.{Sparse, Dense}
@@ -100,9 +101,9 @@ module _ {t : GridType} {d : Vec ℕ} {g : ℕ → List (Vec ℤ)} {map points :
       chosen-told a0 a.0 p0 q1 (start-folds t stands q0 e x.1) (ap (index d) (sym b.2) ∙ place-folds stands f q1 l1 b.1) (stands.within p0 x.1) l1 a.2
 
 -- ---- the call, on the tables of an accepted image call
-module _ {d : List ℤ} {q : List (List ℤ)} {ps : List ℤ} {lattice : List (List Float)} {type : ℤ} {a b c : ℕ} {l : Lengths} (built : CallAccepted d q ps lattice type a b c l)
-    {q0 : ℤ} {addresses map classes : List ℤ} {change : List (List ℤ)} {basis : List (List Float)} {n m k o : ℕ}
-    (t : TripletsAccepted q0 addresses map classes d change basis type n m k o)
+module _ {d : List ℤ} {q : List (List ℤ)} {ps : List ℤ} {lattice : List (List Float)} {type : ℤ} {a b c : ℕ} {l : Built} (built : CallAccepted d q ps lattice type a b c l)
+    {q0 : ℤ} {addresses map : List ℤ} {table : TableRecord} {classes : List ℤ} {change : List (List ℤ)} {basis : List (List Float)} {n m k o : ℕ}
+    (t : TripletsAccepted q0 addresses map table classes d change basis type n m k o)
     (ea : addresses ≡ (bz_grid_addresses d q ps lattice type a b c).addresses) (em : map ≡ (bz_grid_addresses d q ps lattice type a b c).map) where
   abbrev points_left : List ℤ
   points_left = (bz_grid_addresses d q ps lattice type a b c).grg
@@ -113,21 +114,21 @@ module _ {d : List ℤ} {q : List (List ℤ)} {ps : List ℤ} {lattice : List (L
   same-kind : t.kind ≡ built.kind
   same-kind = same-ok (sym t.known ∙ built.input.known)
 
-  stands : Stands t.kind (size (sides_of d)) (images s) addresses map points_left l.grg
+  stands : Stands t.kind (size (sides_of d)) (images s) addresses map points_left l.lengths.grg
   stands =
-      subst (λ x. Stands t.kind (size (sides_of d)) (images s) x map points_left l.grg) (sym ea)
-      (subst (λ x. Stands t.kind (size (sides_of d)) (images s) (bz_grid_addresses d q ps lattice type a b c).addresses x points_left l.grg) (sym em)
-      (subst (λ k. Stands k (size (sides_of d)) (images s) (bz_grid_addresses d q ps lattice type a b c).addresses (bz_grid_addresses d q ps lattice type a b c).map points_left l.grg)
+      subst (λ x. Stands t.kind (size (sides_of d)) (images s) x map points_left l.lengths.grg) (sym ea)
+      (subst (λ x. Stands t.kind (size (sides_of d)) (images s) (bz_grid_addresses d q ps lattice type a b c).addresses x points_left l.lengths.grg) (sym em)
+      (subst (λ k. Stands k (size (sides_of d)) (images s) (bz_grid_addresses d q ps lattice type a b c).addresses (bz_grid_addresses d q ps lattice type a b c).map points_left l.lengths.grg)
       (sym same-kind) (call-stands built)))
 
   abbrev lowest : List ℕ
   lowest = own_points classes (length classes)
 
   abbrev out : List ℤ
-  out = (bz_triplets_at_q q0 addresses map classes d change basis type n m k o).out
+  out = (bz_triplets_at_q q0 addresses map table classes d change basis type n m k o).out
 
   abbrev cells : List ℤ
-  cells = (bz_triplets_at_q q0 addresses map classes d change basis type n m k o).cells
+  cells = (bz_triplets_at_q q0 addresses map table classes d change basis type n m k o).cells
 
   started : (a0 : Vec ℤ) × (address_of addresses q0 ≡ got a0) × (read_each (triplet_at q0 addresses map classes d change basis t.kind a0) lowest ≡ got t.states)
   unfolding triplets_read
@@ -146,6 +147,6 @@ module _ {d : List ℤ} {q : List (List ℤ)} {ps : List ℤ} {lattice : List (L
       record { i = w.0; places = e ∙ w.1; whole = λ x. w.2 x ∙ ap (λ v. side v x *ℤ pos (side (sides_of d) x)) (sym f) }
 
 pub every-sum : EverySum
-every-sum d q ps lattice type a b c l q0 classes change basis n m k o built chooses =
+every-sum d q ps lattice type a b c l q0 table classes change basis n m k o built chooses =
     let t = bz_grid_addresses d q ps lattice type a b c in
-    sum-told (call-accepted d q ps lattice type a b c l built) (triplets-accepted q0 t.addresses t.map classes d change basis type n m k o chooses) refl refl
+    sum-told (call-accepted d q ps lattice type a b c l built) (triplets-accepted q0 t.addresses t.map table classes d change basis type n m k o chooses) refl refl

@@ -18,7 +18,7 @@ use Rattle.snf3x3.specs.Snf3x3.{snf3x3, diagonalised}
 use Rattle.transform_rotations.specs.TransformRotations.{transform_rotations}
 use Rattle.bzgrid.specs.declared.GridType.{GridType}
 use Rattle.bzgrid.specs.declared.GridType.TheVariants.{Sparse, Dense}
-use Rattle.bzgrid.specs.declared.Lengths.{Lengths}
+use Rattle.bzgrid.specs.declared.Built.{Built}
 use Rattle.bzsearch.specs.Lattice.{bz_tolerance}
 use Rattle.bzsearch.specs.Search.{Search, images}
 use Rattle.bzgrid.specs.BzGridAddresses.{grid_type_of, search_of, bz_grid_addresses}
@@ -72,8 +72,8 @@ pub record Calls : Type 0 where
   pub addresses : List ℤ
   pub map : List ℤ
   pub rooms : Vec ℕ
-  pub lengths : Lengths
-  pub builds : (bz_grid_addresses (items d) (rows q) shift lattice type rooms.x rooms.y rooms.z).answer ≡ Ok lengths
+  pub built : Built
+  pub builds : (bz_grid_addresses (items d) (rows q) shift lattice type rooms.x rooms.y rooms.z).answer ≡ Ok built
   pub builds-addresses : addresses ≡ (bz_grid_addresses (items d) (rows q) shift lattice type rooms.x rooms.y rooms.z).addresses
   pub builds-map : map ≡ (bz_grid_addresses (items d) (rows q) shift lattice type rooms.x rooms.y rooms.z).map
   -- classes
@@ -90,11 +90,11 @@ pub record Calls : Type 0 where
   pub cells : List ℤ
   pub triplet-rooms : Vec ℕ
   pub cell-room : ℕ
-  pub chooses : (bz_triplets_at_q (pos start) addresses map classes (items d) (rows q) lattice type
+  pub chooses : (bz_triplets_at_q (pos start) addresses map built.table classes (items d) (rows q) lattice type
       triplet-rooms.x triplet-rooms.y triplet-rooms.z cell-room).answer ≡ Accepted
-  pub chooses-to : triplets ≡ (bz_triplets_at_q (pos start) addresses map classes (items d) (rows q) lattice type
+  pub chooses-to : triplets ≡ (bz_triplets_at_q (pos start) addresses map built.table classes (items d) (rows q) lattice type
       triplet-rooms.x triplet-rooms.y triplet-rooms.z cell-room).out
-  pub tells-cells : cells ≡ (bz_triplets_at_q (pos start) addresses map classes (items d) (rows q) lattice type
+  pub tells-cells : cells ≡ (bz_triplets_at_q (pos start) addresses map built.table classes (items d) (rows q) lattice type
       triplet-rooms.x triplet-rooms.y triplet-rooms.z cell-room).cells
 
 -- ---- the finished list

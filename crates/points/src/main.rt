@@ -44,7 +44,7 @@ fn images(rt: &impl Print) -> io::Result<()> {
     let mut addresses = [0i64; 9];
     let mut map = [0i64; 3];
     let mut grg = [0i64; 3];
-    let mut told = [0i64; 3];
+    let mut told = [0i64; 10];
     let answer = zone_c::zone_bz_grid_addresses(
         &[2, 1, 1],
         &[1, 0, 0, 0, 1, 0, 0, 0, 1],
@@ -71,6 +71,7 @@ fn triplets(rt: &impl Print) -> io::Result<()> {
         1,
         &[0, 0, 0, 0, 0, 1, 0, 0, -1],
         &[0, 1, 2, 3],
+        &[1, 1, 3, 0, 0, 0, 2],
         &[0, 1, 0],
         &[1, 1, 3],
         &[0, 0, 1, 1, 0, 0, 0, 1, 0],

@@ -2,12 +2,13 @@
 use vectors::compared::Compared;
 use vectors::{UNWRITTEN, Verdict, slices};
 
-// The index, five slices, the type, the answer and two numbers told.
+// The index, six slices, the type, the answer and two numbers told.
 pub fn rotate_bz_grid_index(line: &[i64]) -> Option<Verdict> {
     let (index, line) = line.split_first()?;
     let (rotation, line) = slices::split(line);
     let (addresses, line) = slices::split(line);
     let (map, line) = slices::split(line);
+    let (table, line) = slices::split(line);
     let (d, line) = slices::split(line);
     let (ps, line) = slices::split(line);
     let (bz_grid_type, line) = line.split_first()?;
@@ -17,6 +18,7 @@ pub fn rotate_bz_grid_index(line: &[i64]) -> Option<Verdict> {
         rotation,
         addresses,
         map,
+        table,
         d,
         ps,
         *bz_grid_type,
@@ -25,12 +27,13 @@ pub fn rotate_bz_grid_index(line: &[i64]) -> Option<Verdict> {
     Some(Compared::with(line).number(answer).numbers(&told).verdict())
 }
 
-// Five slices, the type, the answer and the output, which is lent with the length that the line has.
+// Six slices, the type, the answer and the output, which is lent with the length that the line has.
 pub fn neighboring_grid_points(line: &[i64]) -> Option<Verdict> {
     let (points, line) = slices::split(line);
     let (offsets, line) = slices::split(line);
     let (addresses, line) = slices::split(line);
     let (map, line) = slices::split(line);
+    let (table, line) = slices::split(line);
     let (d, line) = slices::split(line);
     let (bz_grid_type, line) = line.split_first()?;
     let mut out = [UNWRITTEN; 4096];
@@ -40,6 +43,7 @@ pub fn neighboring_grid_points(line: &[i64]) -> Option<Verdict> {
         offsets,
         addresses,
         map,
+        table,
         d,
         *bz_grid_type,
         out,

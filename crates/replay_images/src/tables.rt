@@ -3,7 +3,7 @@ use vectors::compared::Compared;
 use vectors::{UNWRITTEN, Verdict, floats, slices};
 
 // Three slices, the lattice, the type, the answer, the tables, which are lent with the lengths that the line
-// has, and three numbers told.
+// has, and ten numbers told.
 pub fn bz_grid_addresses(line: &[i64]) -> Option<Verdict> {
     let (d, line) = slices::split(line);
     let (q, line) = slices::split(line);
@@ -20,7 +20,7 @@ pub fn bz_grid_addresses(line: &[i64]) -> Option<Verdict> {
     let map = slices::lent(second, &mut map);
     let mut grg = [UNWRITTEN; 2048];
     let grg = slices::lent(third, &mut grg);
-    let mut told = [UNWRITTEN; 3];
+    let mut told = [UNWRITTEN; 10];
     let answer = zone_c::zone_bz_grid_addresses(
         d,
         q,

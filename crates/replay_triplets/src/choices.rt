@@ -3,12 +3,13 @@
 use vectors::compared::Compared;
 use vectors::{UNWRITTEN, UNWRITTEN_FLOAT, Verdict, floats, slices};
 
-// The point, five slices, the lattice, the type, the answer, two outputs, the lengths left over and the cells.
+// The point, six slices, the lattice, the type, the answer, two outputs, the lengths left over and the cells.
 // They are lent with the lengths that the line has.
 pub fn bz_triplets_at_q(line: &[i64]) -> Option<Verdict> {
     let (q0, line) = line.split_first()?;
     let (addresses, line) = slices::split(line);
     let (map, line) = slices::split(line);
+    let (table, line) = slices::split(line);
     let (class_map, line) = slices::split(line);
     let (d, line) = slices::split(line);
     let (q, line) = slices::split(line);
@@ -31,6 +32,7 @@ pub fn bz_triplets_at_q(line: &[i64]) -> Option<Verdict> {
         *q0,
         addresses,
         map,
+        table,
         class_map,
         d,
         q,

@@ -77,7 +77,7 @@ where
     F: Drop,
     requires { F.IsAlwaysCallable judge }
 {
-    let mut text = [0u8; 65536];
+    let mut text = [0u8; 131072];
     let lines = read_vectors(rt, file, &mut text);
     let told = tally(lines, false, numbers, &judge);
     let altered = tally(lines, true, numbers, &judge);

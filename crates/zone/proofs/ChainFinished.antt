@@ -22,7 +22,8 @@ use Rattle.rotation_group.proofs.Accepted.{accepted-joined, accepted-call}
 use Rattle.transform_rotations.specs.TransformRotations.{transform_tests, transform_rotations}
 use Rattle.bzgrid.specs.declared.GridType.{GridType}
 use Rattle.bzgrid.specs.declared.GridType.TheVariants.{Sparse, Dense}
-use Rattle.bzgrid.specs.declared.Lengths.{Lengths}
+use Rattle.bzgrid.specs.declared.TableRecord.{TableRecord}
+use Rattle.bzgrid.specs.declared.Built.{Built}
 use Rattle.bzgrid.specs.BzGridAddresses.{grid_type_of, bz_grid_addresses}
 use Rattle.bztable.specs.Reading.{got, address_of}
 use Rattle.bztable.specs.Access.{image_places}
@@ -33,7 +34,7 @@ use Rattle.triplet_grid.specs.IrTriplets.{ir_triplets_at_q}
 use Rattle.bz_triplets.specs.BzTriplets.{bz_triplets_at_q, triplets_read}
 use Rattle.bz_triplets.proofs.CallOutcome.{asked-for}
 use Rattle.demand3.specs.FinishedList.{Given, as-returned, Starts, Calls}
-use Rattle.zone_steps.specs.Steps.{Rooms, Setting, Lists, group, transformed, rotation_tests, start_of, points_of, classified, class_map_of, count, start, chosen, list_tests, lists_of, images, listed}
+use Rattle.zone_steps.specs.Steps.{Rooms, Setting, Lists, group, transformed, rotation_tests, start_of, table_of, points_of, classified, class_map_of, count, start, chosen, list_tests, lists_of, images, table, listed}
 use Rattle.zone.specs.Chain.{Job, rooms_agree, sides_in, change_in, diagonal, outcome_of, grid_of, chain_finished, chain_tests, finished_list}
 use Rattle.zone.specs.declared.Finished.{Finished}
 use Rattle.zone_steps.specs.StepsView.{grid}
@@ -81,6 +82,9 @@ module _ (j : Job) (r : Rooms) (d : Vec ℤ) (p q : Mat ℤ) (rounds : ℕ) (dia
   abbrev m : List ℤ
   m = (images g j.shift r).map
 
+  abbrev t : TableRecord
+  t = table g j.shift r
+
   module _ (rotations-accepted : rotation_tests j.rotations j.time_reversal (items d) (rows q) ≡ Accepted) (grid-accepted : (listed g j.shift r).answer ≡ Accepted) where
     abbrev told : ℕ
     told = length (point_group (matrices j.rotations) j.time_reversal true)
@@ -109,13 +113,13 @@ module _ (j : Job) (r : Rooms) (d : Vec ℤ) (p q : Mat ℤ) (rounds : ℕ) (dia
     transforms-to = refl
 
     -- ---- images
-    after-room : after (without_value (images g j.shift r).answer) (list_tests g a m) ≡ Accepted
+    after-room : after (without_value (images g j.shift r).answer) (list_tests g a m t) ≡ Accepted
     unfolding listed
-    after-room = (passed (leb (points_of g) r.classes) WrongLength (after (without_value (images g j.shift r).answer) (list_tests g a m)) grid-accepted).1
+    after-room = (passed (leb (points_of g) r.classes) WrongLength (after (without_value (images g j.shift r).answer) (list_tests g a m t)) grid-accepted).1
 
-    builds : (l : Lengths) × ((bz_grid_addresses (items d) (rows q) j.shift j.lattice j.type r.addresses r.map r.grg).answer ≡ Ok l)
+    builds : (l : Built) × ((bz_grid_addresses (items d) (rows q) j.shift j.lattice j.type r.addresses r.map r.grg).answer ≡ Ok l)
     unfolding images
-    builds = given-by (images g j.shift r).answer (both-accepted (without_value (images g j.shift r).answer) (list_tests g a m) after-room).0
+    builds = given-by (images g j.shift r).answer (both-accepted (without_value (images g j.shift r).answer) (list_tests g a m t) after-room).0
 
     call : CallAccepted (items d) (rows q) j.shift j.lattice j.type r.addresses r.map r.grg builds.0
     call = call-accepted (items d) (rows q) j.shift j.lattice j.type r.addresses r.map r.grg builds.0 builds.1
@@ -125,9 +129,9 @@ module _ (j : Job) (r : Rooms) (d : Vec ℤ) (p q : Mat ℤ) (rounds : ℕ) (dia
     images-are = refl
 
     -- ---- classes
-    lists : (without_value (classified g).answer ≡ Accepted) × ((chosen g a m).answer ≡ Accepted)
+    lists : (without_value (classified g).answer ≡ Accepted) × ((chosen g a m t).answer ≡ Accepted)
     unfolding list_tests
-    lists = both-accepted (without_value (classified g).answer) (chosen g a m).answer (both-accepted (without_value (images g j.shift r).answer) (list_tests g a m) after-room).1
+    lists = both-accepted (without_value (classified g).answer) (chosen g a m t).answer (both-accepted (without_value (images g j.shift r).answer) (list_tests g a m t) after-room).1
 
     q0-is : j.q0 ≡ pos (nat_abs j.q0)
     q0-is = whole j.q0 (class-input g lists.0).sign
@@ -143,15 +147,20 @@ module _ (j : Job) (r : Rooms) (d : Vec ℤ) (p q : Mat ℤ) (rounds : ℕ) (dia
     counts = given-by (classified g).answer lists.0
 
     -- ---- triplets
-    start_is : start g a m ≡ pos (nat_abs (start g a m))
+    start_is : start g a m t ≡ pos (nat_abs (start g a m t))
     unfolding chosen triplets_read
     start_is =
-        let t = triplets-accepted (start g a m) a m (class_map_of g) (items d) (rows q) j.lattice j.type (count g * 3) (count g) (count g) (count g * 3) lists.1 in
-        whole (start g a m) (asked-for a (start g a m) (sym (passes-first (address_of a (start g a m)) _ t.read).1))
+        let k = triplets-accepted (start g a m t) a m t (class_map_of g) (items d) (rows q) j.lattice j.type (count g * 3) (count g) (count g) (count g * 3) lists.1 in
+        whole (start g a m t) (asked-for a (start g a m t) (sym (passes-first (address_of a (start g a m t)) _ k.read).1))
 
-    triplets-are : chosen g a m ≡ bz_triplets_at_q (pos (nat_abs (start g a m))) a m (class_map_of g) (items d) (rows q) j.lattice j.type (count g * 3) (count g) (count g) (count g * 3)
+    -- the record is what the image call left
+    table-left : t ≡ builds.0.table
+    unfolding images
+    table-left = ap table_of builds.1
+
+    triplets-are : chosen g a m t ≡ bz_triplets_at_q (pos (nat_abs (start g a m t))) a m builds.0.table (class_map_of g) (items d) (rows q) j.lattice j.type (count g * 3) (count g) (count g) (count g * 3)
     unfolding chosen
-    triplets-are = ap (λ z. bz_triplets_at_q z a m (class_map_of g) (items d) (rows q) j.lattice j.type (count g * 3) (count g) (count g) (count g * 3)) start_is
+    triplets-are = λ i. bz_triplets_at_q (start_is i) a m (table-left i) (class_map_of g) (items d) (rows q) j.lattice j.type (count g * 3) (count g) (count g) (count g * 3)
 
     abbrev map-written : List ℤ
     map-written = (bz_grid_addresses (items d) (rows q) j.shift j.lattice j.type r.addresses r.map r.grg).map
@@ -162,7 +171,7 @@ module _ (j : Job) (r : Rooms) (d : Vec ℤ) (p q : Mat ℤ) (rounds : ℕ) (dia
     abbrev kind : GridType
     kind = call.kind
 
-    starts : Starts kind m (points_of g) (nat_abs j.q0) (nat_abs (start g a m))
+    starts : Starts kind m (points_of g) (nat_abs j.q0) (nat_abs (start g a m t))
     starts =
         subst (λ z. Starts kind m (points_of g) (nat_abs j.q0) (nat_abs (start_of (grid_type_of j.type) m z))) (sym q0-is)
         (subst (λ t. Starts kind m (points_of g) (nat_abs j.q0) (nat_abs (start_of t m (pos (nat_abs j.q0))))) (sym call.input.known)
@@ -196,7 +205,7 @@ module _ (j : Job) (r : Rooms) (d : Vec ℤ) (p q : Mat ℤ) (rounds : ℕ) (dia
       addresses = a;
       map = m;
       rooms = record { x = r.addresses; y = r.map; z = r.grg };
-      lengths = builds.0;
+      built = builds.0;
       builds = builds.1;
       builds-addresses = ap (λ o. o.addresses) images-are;
       builds-map = ap (λ o. o.map) images-are;
@@ -206,13 +215,13 @@ module _ (j : Job) (r : Rooms) (d : Vec ℤ) (p q : Mat ℤ) (rounds : ℕ) (dia
       count = counts.0;
       classifies = sym (ap (λ o. o.answer) classes-are) ∙ counts.1;
       classifies-to = ap (λ o. o.map_triplets) classes-are;
-      start = nat_abs (start g a m);
+      start = nat_abs (start g a m t);
       starts = starts;
-      triplets = (chosen g a m).out;
+      triplets = (chosen g a m t).out;
       triplet-rooms = record { x = count g * 3; y = count g; z = count g };
       chooses = sym (ap (λ o. o.answer) triplets-are) ∙ lists.1;
       chooses-to = ap (λ o. o.out) triplets-are;
-      cells = (chosen g a m).cells;
+      cells = (chosen g a m t).cells;
       cell-room = count g * 3;
       tells-cells = ap (λ o. o.cells) triplets-are;
     }
@@ -222,7 +231,7 @@ module _ (j : Job) (r : Rooms) (d : Vec ℤ) (p q : Mat ℤ) (rounds : ℕ) (dia
       pub sides-are : calls.d ≡ d
       pub room-is : calls.rooms.z ≡ r.grg
       pub classes-are : calls.classes ≡ class_map_of g
-      pub triplets-are : calls.triplets ≡ (chosen g a m).out
+      pub triplets-are : calls.triplets ≡ (chosen g a m t).out
 
     pub calls-left : Left
     unfolding calls

@@ -1,3 +1,4 @@
 pub mod Chain
 pub mod ChainView
 pub mod ChainFinished
+pub mod NeverOther

@@ -26,15 +26,26 @@ pub extern "C" fn zone_rotate_bz_grid_index(
     rotation: &[i64],
     addresses: &[i64],
     map: &[i64],
+    table: &[i64],
     d: &[i64],
     ps: &[i64],
     bz_grid_type: i64,
     told: &mut [i64],
 ) -> i64
     ensures { record { answer = result; told = told.new }
-        ≡ zone_rotate_bz_grid_index index rotation.now addresses.now map.now d.now ps.now bz_grid_type (length told.old) }
+        ≡ zone_rotate_bz_grid_index index rotation.now addresses.now map.now table.now d.now ps.now bz_grid_type (length told.old) }
 {
-    zone_c::zone_rotate_bz_grid_index(index, rotation, addresses, map, d, ps, bz_grid_type, told)
+    zone_c::zone_rotate_bz_grid_index(
+        index,
+        rotation,
+        addresses,
+        map,
+        table,
+        d,
+        ps,
+        bz_grid_type,
+        told,
+    )
 }
 
 #[unsafe(no_mangle)]
@@ -43,12 +54,22 @@ pub extern "C" fn zone_neighboring_grid_points(
     offsets: &[i64],
     addresses: &[i64],
     map: &[i64],
+    table: &[i64],
     d: &[i64],
     bz_grid_type: i64,
     out: &mut [i64],
 ) -> i64
     ensures { record { answer = result; out = out.new }
-        ≡ zone_neighboring_grid_points points.now offsets.now addresses.now map.now d.now bz_grid_type (length out.old) }
+        ≡ zone_neighboring_grid_points points.now offsets.now addresses.now map.now table.now d.now bz_grid_type (length out.old) }
 {
-    zone_c::zone_neighboring_grid_points(points, offsets, addresses, map, d, bz_grid_type, out)
+    zone_c::zone_neighboring_grid_points(
+        points,
+        offsets,
+        addresses,
+        map,
+        table,
+        d,
+        bz_grid_type,
+        out,
+    )
 }

@@ -33,6 +33,7 @@ pub extern "C" fn zone_bz_triplets_at_q(
     q0: i64,
     addresses: &[i64],
     map: &[i64],
+    table: &[i64],
     class_map: &[i64],
     d: &[i64],
     q: &[i64],
@@ -48,12 +49,13 @@ pub extern "C" fn zone_bz_triplets_at_q(
         let l = length left_length.old in
         let k = length cells.old in
         record { answer = result; out = out.new; left = left.new; left_length = left_length.new; cells = cells.new }
-        ≡ zone_bz_triplets_at_q q0 addresses.now map.now class_map.now d.now q.now lattice.now bz_grid_type n m l k }
+        ≡ zone_bz_triplets_at_q q0 addresses.now map.now table.now class_map.now d.now q.now lattice.now bz_grid_type n m l k }
 {
     zone_c::zone_bz_triplets_at_q(
         q0,
         addresses,
         map,
+        table,
         class_map,
         d,
         q,

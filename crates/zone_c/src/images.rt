@@ -19,7 +19,7 @@ pub fn zone_bz_grid_addresses(
     if !answers::image_lengths(d.len(), q.len(), ps.len(), lattice.len(), told.len()) {
         return answers::refuse_four(addresses, map, grg, told);
     }
-    answers::tell_lengths(
+    answers::tell_built(
         bzgrid::bz_grid_addresses(
             common::row_at(d, 0),
             common::matrix_at(q, 0),
@@ -39,15 +39,16 @@ pub fn zone_rotate_bz_grid_index(
     rotation: &[i64],
     addresses: &[i64],
     map: &[i64],
+    table: &[i64],
     d: &[i64],
     ps: &[i64],
     bz_grid_type: i64,
     told: &mut [i64],
 ) -> i64
     ensures { record { answer = result; told = told.new }
-        ≡ zone_rotate_bz_grid_index index rotation.now addresses.now map.now d.now ps.now bz_grid_type (length told.old) }
+        ≡ zone_rotate_bz_grid_index index rotation.now addresses.now map.now table.now d.now ps.now bz_grid_type (length told.old) }
 {
-    if !answers::rotate_lengths(rotation.len(), d.len(), ps.len(), told.len()) {
+    if !answers::rotate_lengths(rotation.len(), table.len(), d.len(), ps.len(), told.len()) {
         return answers::refuse(told);
     }
     answers::tell_rotated(
@@ -56,6 +57,7 @@ pub fn zone_rotate_bz_grid_index(
             common::matrix_at(rotation, 0),
             addresses,
             map,
+            answers::table_at(table),
             common::row_at(d, 0),
             common::row_at(ps, 0),
             bz_grid_type,
@@ -69,14 +71,15 @@ pub fn zone_neighboring_grid_points(
     offsets: &[i64],
     addresses: &[i64],
     map: &[i64],
+    table: &[i64],
     d: &[i64],
     bz_grid_type: i64,
     out: &mut [i64],
 ) -> i64
     ensures { record { answer = result; out = out.new }
-        ≡ zone_neighboring_grid_points points.now offsets.now addresses.now map.now d.now bz_grid_type (length out.old) }
+        ≡ zone_neighboring_grid_points points.now offsets.now addresses.now map.now table.now d.now bz_grid_type (length out.old) }
 {
-    if d.len() != 3 {
+    if table.len() != 7 || d.len() != 3 {
         return answers::refuse(out);
     }
     answers::number(bztable::neighboring_grid_points_many(
@@ -84,6 +87,7 @@ pub fn zone_neighboring_grid_points(
         offsets,
         addresses,
         map,
+        answers::table_at(table),
         common::row_at(d, 0),
         bz_grid_type,
         out,

@@ -36,6 +36,7 @@ pub fn zone_bz_triplets_at_q(
     q0: i64,
     addresses: &[i64],
     map: &[i64],
+    table: &[i64],
     class_map: &[i64],
     d: &[i64],
     q: &[i64],
@@ -51,15 +52,16 @@ pub fn zone_bz_triplets_at_q(
         let l = length left_length.old in
         let k = length cells.old in
         record { answer = result; out = out.new; left = left.new; left_length = left_length.new; cells = cells.new }
-        ≡ zone_bz_triplets_at_q q0 addresses.now map.now class_map.now d.now q.now lattice.now bz_grid_type n m l k }
+        ≡ zone_bz_triplets_at_q q0 addresses.now map.now table.now class_map.now d.now q.now lattice.now bz_grid_type n m l k }
 {
-    if !answers::triplet_lengths(d.len(), q.len(), lattice.len()) {
+    if !answers::triplet_lengths(table.len(), d.len(), q.len(), lattice.len()) {
         return answers::refuse_triplets(out, left, left_length, cells);
     }
     answers::number(bz_triplets::bz_triplets_at_q(
         q0,
         addresses,
         map,
+        answers::table_at(table),
         class_map,
         common::row_at(d, 0),
         common::matrix_at(q, 0),

@@ -19,6 +19,7 @@ use Rattle.recip_rotations.proofs.Room.{count_small}
 use Rattle.rotation_group.specs.ReciprocalGroup.{reciprocal_group}
 use Rattle.rotation_group.proofs.Outcome.{tests-accepted, tests-refused, same_answer, same-written}
 use Rattle.transform_rotations.specs.TransformRotations.{transform_tests, transform_rotations}
+use Rattle.bzgrid.specs.declared.TableRecord.{TableRecord}
 use Rattle.bzgrid.specs.BzGridAddresses.{grid_type_of}
 use Rattle.triplet_grid.specs.IrTriplets.{ir_triplets_at_q}
 use Rattle.bz_triplets.specs.BzTriplets.{bz_triplets_at_q}
@@ -109,12 +110,12 @@ module _ (g : Setting) where
         }
 
   -- ---- triplets, in the front of four outputs
-  module _ (addresses map : List ℤ) {start : ℤ} {classes : List ℤ} (es : start ≡ start_of (grid_type_of g.type) map g.q0) (ec : classes ≡ class_map_of g)
+  module _ (addresses map : List ℤ) (table : TableRecord) {start : ℤ} {classes : List ℤ} (es : start ≡ start_of (grid_type_of g.type) map g.q0) (ec : classes ≡ class_map_of g)
       (triplets left : List ℤ) (lengths : List Float) (cells : List ℤ)
       (room : (length classes * 3 ≤ length triplets) × (length classes ≤ length left) × (length classes ≤ length lengths) × (length classes * 3 ≤ length cells)) where
     pub triplets-chosen : {k : ℕ} → k ≡ own_places classes (length classes) → k ≤ length classes → {i u : ℤ} {r : Tested} {x y : List ℤ} {z : List Float} {w : List ℤ} → i ≡ start → u ≡ g.type
-        → record { answer = r; out = x; left = y; left_length = z; cells = w } ≡ bz_triplets_at_q i addresses map classes g.d g.q g.lattice u (length (take (k * 3 - 0) triplets)) (length (take (k - 0) left)) (length (take (k - 0) lengths)) (length (take (k * 3 - 0) cells))
-        → record { answer = r; out = x ++ drop (k * 3 - 0) triplets; left = y ++ drop (k - 0) left; left_length = z ++ drop (k - 0) lengths; cells = w ++ drop (k * 3 - 0) cells } ≡ in_front (chosen g addresses map) (count g) triplets left lengths cells
+        → record { answer = r; out = x; left = y; left_length = z; cells = w } ≡ bz_triplets_at_q i addresses map table classes g.d g.q g.lattice u (length (take (k * 3 - 0) triplets)) (length (take (k - 0) left)) (length (take (k - 0) lengths)) (length (take (k * 3 - 0) cells))
+        → record { answer = r; out = x ++ drop (k * 3 - 0) triplets; left = y ++ drop (k - 0) left; left_length = z ++ drop (k - 0) lengths; cells = w ++ drop (k * 3 - 0) cells } ≡ in_front (chosen g addresses map table) (count g) triplets left lengths cells
     unfolding chosen
     triplets-chosen {k} own few ei eu e =
         let ek : k ≡ count g = own ∙ ap (λ l. own_places l (length l)) ec in
@@ -122,7 +123,7 @@ module _ (g : Setting) where
         let b = front_length k left (omega arith) ∙ ek in
         let c = front_length k lengths (omega arith) ∙ ek in
         let d = front_length (k * 3) cells (omega arith) ∙ ap (λ k. k * 3) ek in
-        let o = e ∙ (λ j. bz_triplets_at_q ((ei ∙ es) j) addresses map (ec j) g.d g.q g.lattice (eu j) (a j) (b j) (c j) (d j)) in
+        let o = e ∙ (λ j. bz_triplets_at_q ((ei ∙ es) j) addresses map table (ec j) g.d g.q g.lattice (eu j) (a j) (b j) (c j) (d j)) in
         λ j. record {
           answer = (o j).answer;
           out = (o j).out ++ (front-drop (k * 3) triplets ∙ ap (λ k. drop (k * 3) triplets) ek) j;

@@ -13,6 +13,7 @@ use Rattle.common.specs.declared.Refusal.{Refusal}
 use Rattle.common.specs.Tested.{after, giving, Tested, Accepted, without_value}
 use Rattle.common.proofs.Tests.{not-accepted, both-accepted}
 use Rattle.grgrid.proofs.Numbers.{own-few}
+use Rattle.bzgrid.specs.declared.TableRecord.{TableRecord}
 use Rattle.bzgrid.proofs.Runs.{drop-same}
 use Rattle.triplet_grid.specs.IrTriplets.{triplet_tests}
 use Rattle.triplet_grid.proofs.Outcome.{InputAccepted, input-accepted}
@@ -43,15 +44,15 @@ module _ (g : Setting) where
       go (Ok _) k e = refl
       go (Err r) k e = absurd (not-accepted e)
 
-  module _ (addresses map : List ℤ) where
+  module _ (addresses map : List ℤ) (table : TableRecord) where
     module _ {s : Tested} (e : s ≡ without_value (classified g).answer) where
-      pub list-refused : {r : Refusal} → s ≡ Err r → Err r ≡ list_tests g addresses map
+      pub list-refused : {r : Refusal} → s ≡ Err r → Err r ≡ list_tests g addresses map table
       unfolding list_tests
-      list-refused f = sym (ap (λ t. after t (chosen g addresses map).answer) (sym e ∙ f))
+      list-refused f = sym (ap (λ t. after t (chosen g addresses map table).answer) (sym e ∙ f))
 
-      pub list-tested : s ≡ Accepted → {v : Tested} → v ≡ (chosen g addresses map).answer → v ≡ list_tests g addresses map
+      pub list-tested : s ≡ Accepted → {v : Tested} → v ≡ (chosen g addresses map table).answer → v ≡ list_tests g addresses map table
       unfolding list_tests
-      list-tested f h = h ∙ sym (ap (λ t. after t (chosen g addresses map).answer) (sym e ∙ f))
+      list-tested f h = h ∙ sym (ap (λ t. after t (chosen g addresses map table).answer) (sym e ∙ f))
 
   -- ---- in outputs of m points
   module _ {n : ℕ} (en : n ≡ points_of g) (m : ℕ) (fits : n ≤ m) {x x' : List ℤ} (bx : x ≡ replicate m (negsuc 0)) (wx : x' ≡ class_map_of g ++ drop n x) (kx : length x' ≡ m) where
@@ -68,13 +69,13 @@ module _ (g : Setting) where
         whole : n - 0 ≡ n
         whole = omega arith
 
-    pub lists-left : {y y' : List ℤ} → y ≡ replicate m (negsuc 0) → y' ≡ (classified g).map_q ++ drop n y → (addresses map : List ℤ) {v : Tested} {t l t' l' : List ℤ} {f f' : List Float} {c c' : List ℤ}
-        → record { answer = v; out = t'; left = l'; left_length = f'; cells = c' } ≡ in_front (chosen g addresses map) (count g) t l f c
+    pub lists-left : {y y' : List ℤ} → y ≡ replicate m (negsuc 0) → y' ≡ (classified g).map_q ++ drop n y → (addresses map : List ℤ) (table : TableRecord) {v : Tested} {t l t' l' : List ℤ} {f f' : List Float} {c c' : List ℤ}
+        → record { answer = v; out = t'; left = l'; left_length = f'; cells = c' } ≡ in_front (chosen g addresses map table) (count g) t l f c
         → t ≡ replicate (m * 3) (negsuc 0) → l ≡ replicate m (negsuc 0) → f ≡ replicate m (of_int binary64 (negsuc 0)) → c ≡ replicate (m * 3) (negsuc 0)
-        → length y' ≡ m → length t' ≡ m * 3 → length l' ≡ m → length f' ≡ m → length c' ≡ m * 3 → lists x' y' t' l' f' c' ≡ lists_of g addresses map m
+        → length y' ≡ m → length t' ≡ m * 3 → length l' ≡ m → length f' ≡ m → length c' ≡ m * 3 → lists x' y' t' l' f' c' ≡ lists_of g addresses map table m
     unfolding lists_of
-    lists-left by wy addresses map call bt bl bf bc ky kt kl kf kc =
-        let o = chosen g addresses map in
+    lists-left by wy addresses map table call bt bl bf bc ky kt kl kf kc =
+        let o = chosen g addresses map table in
         let h : count g * 3 ≤ m * 3 = (let h = few in omega arith) in
         let ex = front-padded (negsuc 0) (class_map_of g) n m bx wx kx fits in
         let ey = front-padded (negsuc 0) (classified g).map_q n m by wy ky fits in

@@ -18,13 +18,13 @@ use Rattle.rotation_group.specs.ReciprocalGroup.{reciprocal_tests}
 use Rattle.transform_rotations.specs.TransformRotations.{transform_tests}
 use Rattle.transform_rotations.proofs.Accepted.{input-accepted}
 use Rattle.transform_rotations.proofs.ExactCall.{tests-input}
-use Rattle.bzgrid.specs.declared.Lengths.{Lengths}
+use Rattle.bzgrid.specs.declared.Built.{Built}
 use Rattle.bzgrid.specs.BzGridAddresses.{bz_grid_addresses}
-use Rattle.zone_steps.specs.Steps.{Rooms, Setting, Lists, group, rotation_tests, points_of, list_tests, lists_of, images, listed}
+use Rattle.zone_steps.specs.Steps.{Rooms, Setting, Lists, group, rotation_tests, points_of, table_of, list_tests, lists_of, images, listed}
 
 module _ (g : Setting) (shift : List ℤ) (r : Rooms) where
   abbrev rest : Tested
-  rest = let i = images g shift r in after (without_value i.answer) (list_tests g i.addresses i.map)
+  rest = let i = images g shift r in after (without_value i.answer) (list_tests g i.addresses i.map (table_of i.answer))
 
   pub no_room : {n : ℕ} → n ≡ points_of g → r.classes < n → Err WrongLength ≡ (listed g shift r).answer
   unfolding listed
@@ -36,29 +36,29 @@ module _ (g : Setting) (shift : List ℤ) (r : Rooms) where
     with-room = sym (ap (λ b. require b WrongLength rest) (le-leb (points_of g) r.classes (omega arith)))
 
     -- images by a number u that stands for the type
-    module _ {u : ℤ} (eu : u ≡ g.type) {t : Result Lengths Refusal} {a b c : List ℤ} (o : record { answer = t; addresses = a; map = b; grg = c } ≡ bz_grid_addresses g.d g.q shift g.lattice u r.addresses r.map r.grg) where
+    module _ {u : ℤ} (eu : u ≡ g.type) {t : Result Built Refusal} {a b c : List ℤ} (o : record { answer = t; addresses = a; map = b; grg = c } ≡ bz_grid_addresses g.d g.q shift g.lattice u r.addresses r.map r.grg) where
       built : record { answer = t; addresses = a; map = b; grg = c } ≡ images g shift r
       unfolding images
       built = o ∙ ap (λ u. bz_grid_addresses g.d g.q shift g.lattice u r.addresses r.map r.grg) eu
 
-      then-listed : after (without_value t) (list_tests g a b) ≡ (listed g shift r).answer
-      then-listed = ap (λ o. after (without_value o.answer) (list_tests g o.addresses o.map)) built ∙ with-room
+      then-listed : after (without_value t) (list_tests g a b (table_of t)) ≡ (listed g shift r).answer
+      then-listed = ap (λ o. after (without_value o.answer) (list_tests g o.addresses o.map (table_of o.answer))) built ∙ with-room
 
       pub images-refused : {x : Refusal} → t ≡ Err x → Err x ≡ (listed g shift r).answer
-      images-refused f = ap (λ t. after (without_value t) (list_tests g a b)) (sym f) ∙ then-listed
+      images-refused f = ap (λ t. after (without_value t) (list_tests g a b (table_of t))) (sym f) ∙ then-listed
 
-      module _ {k : Lengths} (f : t ≡ Ok k) {v : Tested} (ev : v ≡ list_tests g a b) where
+      module _ {k : Built} (f : t ≡ Ok k) {v : Tested} (ev : v ≡ list_tests g a b k.table) where
         pub grid-tested : v ≡ (listed g shift r).answer
-        grid-tested = ev ∙ ap (λ t. after (without_value t) (list_tests g a b)) (sym f) ∙ then-listed
+        grid-tested = ev ∙ ap (λ t. after (without_value t) (list_tests g a b (table_of t))) (sym f) ∙ then-listed
 
-        pub grid-listed : v ≡ Accepted → {l : Lists} → l ≡ lists_of g a b r.classes → record { answer = Accepted; addresses = a; map = b; grg = c; lists = l } ≡ listed g shift r
+        pub grid-listed : v ≡ Accepted → {l : Lists} → l ≡ lists_of g a b k.table r.classes → record { answer = Accepted; addresses = a; map = b; grg = c; lists = l } ≡ listed g shift r
         unfolding listed
         grid-listed ea el = λ i. record {
           answer = (sym ea ∙ grid-tested) i;
           addresses = (built i).addresses;
           map = (built i).map;
           grg = (built i).grg;
-          lists = (el ∙ ap (λ o. lists_of g o.addresses o.map r.classes) built) i;
+          lists = (el ∙ ap (λ t. lists_of g a b (table_of t) r.classes) (sym f) ∙ ap (λ o. lists_of g o.addresses o.map (table_of o.answer) r.classes) built) i;
         }
 
 -- ---- the rotations

@@ -14,6 +14,8 @@ use Rattle.rotation_group.specs.ReciprocalGroup.{reciprocal_tests}
 use Rattle.transform_rotations.specs.TransformRotations.{transform_tests, transform_rotations}
 use Rattle.bzgrid.specs.declared.GridType.{GridType}
 use Rattle.bzgrid.specs.declared.GridType.TheVariants.{Sparse, Dense}
+use Rattle.bzgrid.specs.declared.TableRecord.{TableRecord}
+use Rattle.bzgrid.specs.declared.Built.{Built}
 use Rattle.bzgrid.specs.BzGridAddresses.{grid_type_of, padded, BzGridAddresses, bz_grid_addresses}
 use Rattle.triplet_grid.specs.IrTriplets.{IrTriplets, ir_triplets_at_q}
 use Rattle.bz_triplets.specs.BzTriplets.{BzTriplets, bz_triplets_at_q}
@@ -81,6 +83,11 @@ start_of (Ok Sparse) map q0 = q0
 start_of (Ok Dense) map q0 = get_or map (nat_abs q0) (pos 0)
 start_of (Err r) map q0 = q0
 
+-- the record that the image call left, or -1 in every place
+abbrev pub table_of : Result Built Refusal → TableRecord
+table_of (Ok b) = b.table
+table_of (Err r) = let none = replicate 3 (negsuc 0) in record { d = none; ps = none; bz_grid_type = negsuc 0 }
+
 -- -1 in the places past the list
 abbrev pub padded_lengths : List Float → ℕ → List Float
 padded_lengths l n = l ++ replicate (n - length l) (of_int binary64 (negsuc 0))
@@ -102,14 +109,14 @@ module _ (g : Setting) where
   abbrev pub count : ℕ
   count = own_places class_map_of (length class_map_of)
 
-  -- ---- from a table of images
-  module _ (addresses map : List ℤ) where
+  -- ---- from a table of images, and its record
+  module _ (addresses map : List ℤ) (table : TableRecord) where
     abbrev pub start : ℤ
     start = start_of (grid_type_of g.type) map g.q0
 
     unfoldable pub chosen : BzTriplets
     unfolding classified bz_triplets_at_q
-    chosen = bz_triplets_at_q start addresses map class_map_of g.d g.q g.lattice g.type (count * 3) count count (count * 3)
+    chosen = bz_triplets_at_q start addresses map table class_map_of g.d g.q g.lattice g.type (count * 3) count count (count * 3)
 
     unfoldable pub list_tests : Tested
     unfolding classified chosen
@@ -129,17 +136,20 @@ module _ (g : Setting) where
 
   -- ---- the table of images
   module _ (shift : List ℤ) (r : Rooms) where
-    unfoldable pub images : BzGridAddresses
+    unfoldable pub images : BzGridAddresses Built
     unfolding bz_grid_addresses
     images = bz_grid_addresses g.d g.q shift g.lattice g.type r.addresses r.map r.grg
+
+    abbrev pub table : TableRecord
+    table = table_of images.answer
 
     -- its tests, and what passing them leaves; the points must find room
     unfoldable pub listed : Outcome ⊤
     unfolding images list_tests lists_of
     listed = record {
-      answer = require (leb points_of r.classes) WrongLength (after (without_value images.answer) (list_tests images.addresses images.map));
+      answer = require (leb points_of r.classes) WrongLength (after (without_value images.answer) (list_tests images.addresses images.map table));
       addresses = images.addresses;
       map = images.map;
       grg = images.grg;
-      lists = lists_of images.addresses images.map r.classes;
+      lists = lists_of images.addresses images.map table r.classes;
     }

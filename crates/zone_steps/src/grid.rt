@@ -10,7 +10,7 @@ ghost use Rattle.bzgrid.specs.BzGridAddresses.{grid_type_of};
 ghost use Rattle.zone_steps.specs.Steps.{start_of, classified, class_map_of, count, chosen, list_tests, lists_of};
 ghost use Rattle.zone_steps.specs.StepsView.{input_grid, lists, Roomy, numbered, in_front};
 
-use bzgrid::GridType;
+use bzgrid::{GridType, TableRecord};
 use common::Refusal;
 
 // A grid, and what is asked of it. The rotations have nine numbers each.
@@ -66,6 +66,7 @@ fn choose_triplets(
     start: i64,
     addresses: &[i64],
     map: &[i64],
+    table: TableRecord,
     classes: &[i64],
     input: &Input,
     triplets: &mut [i64],
@@ -78,7 +79,7 @@ fn choose_triplets(
     requires room { (length classes.now * 3 ≤ length triplets.old) × (length classes.now ≤ length left.old)
         × (length classes.now ≤ length lengths.old) × (length classes.now * 3 ≤ length cells.old) }
     ensures { let g = input_grid input.now in
-        let o = in_front (chosen g addresses.now map.now) (count g) triplets.old left.old lengths.old cells.old in
+        let o = in_front (chosen g addresses.now map.now table) (count g) triplets.old left.old lengths.old cells.old in
         record { answer = result; out = triplets.new; left = left.new; left_length = lengths.new; cells = cells.new } ≡ o }
 {
     let k = grgrid::own_places(classes);
@@ -86,6 +87,7 @@ fn choose_triplets(
         start,
         addresses,
         map,
+        table,
         classes,
         input.d,
         input.q,
@@ -128,6 +130,7 @@ pub fn list_classes(
     input: &Input,
     addresses: &[i64],
     map: &[i64],
+    table: TableRecord,
     n: usize,
     classes: &mut [i64],
     points: &mut [i64],
@@ -138,8 +141,8 @@ pub fn list_classes(
 ) -> Result<(), Refusal>
     requires fact_1 { n ≡ size (sides_of input.now.d) }
     requires fact_2 { Roomy n (length classes.old) (length points.old) (length triplets.old) (length left.old) (length lengths.old) (length cells.old) }
-    ensures value { result ≡ list_tests (input_grid input.now) addresses.now map.now }
-    ensures lengths_after { let l = lists_of (input_grid input.now) addresses.now map.now (length classes.old) in
+    ensures value { result ≡ list_tests (input_grid input.now) addresses.now map.now table }
+    ensures lengths_after { let l = lists_of (input_grid input.now) addresses.now map.now table (length classes.old) in
         result ≡ Accepted → lists classes.new points.new triplets.new left.new lengths.new cells.new ≡ l }
 {
     wipe_lists(
@@ -156,6 +159,7 @@ pub fn list_classes(
         start,
         addresses,
         map,
+        table,
         &classes[0..n],
         input,
         triplets,

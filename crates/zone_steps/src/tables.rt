@@ -36,7 +36,7 @@ fn list_grid(
     if classes.len() < n {
         return Err(Refusal::WrongLength);
     }
-    bzgrid::bz_grid_addresses(
+    let built = bzgrid::bz_grid_addresses(
         input.d,
         input.q,
         ps,
@@ -47,7 +47,17 @@ fn list_grid(
         &mut *grg,
     )?;
     grid::list_classes(
-        input, addresses, map, n, classes, points, triplets, left, lengths, cells,
+        input,
+        addresses,
+        map,
+        built.table,
+        n,
+        classes,
+        points,
+        triplets,
+        left,
+        lengths,
+        cells,
     )
 }
 

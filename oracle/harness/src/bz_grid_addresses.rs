@@ -9,11 +9,13 @@ use crate::inputs::images::Images;
 use crate::inputs::lattices;
 use crate::inputs::lent_images::ImagesInput;
 use crate::inputs::matrices::is_within;
+use crate::inputs::records;
 use crate::limits::Q_ENTRY;
 use crate::panics::watched;
 use crate::port;
 use crate::refusals::{BAD_GRID_TYPE, NOT_UNIMODULAR_Q, REFUSED_PLACE, SINGULAR_LATTICE};
 use crate::tests::{fixed, lattice, length, limit, matrix, points, shift_fits};
+use crate::vectors::FILE_BYTES;
 
 /// The three tables of a grid.
 #[derive(Clone, Debug, PartialEq)]
@@ -92,22 +94,27 @@ pub fn given(input: &ImagesInput) -> Result<Images, i64> {
     Ok(given)
 }
 
+/// Three lengths, and the seven numbers of the record.
+const TOLD: usize = 10;
+
 /// A line of the vectors: the slices d, q and ps, each as its length and its items;
 /// the lattice as its length and two 32-bit words for each float, the high one
 /// first; the type; the answer; the outputs addresses, map and grg, each as its
-/// length and its items, or its length and a sum if it has over 432 places; the
-/// three numbers told.
+/// length and its items, or its length and a sum if it has over 432 places; the ten
+/// numbers told, the three lengths and the record.
 pub struct BzGridAddresses;
 
 impl Function for BzGridAddresses {
-    const VECTORS: usize = 512;
+    const VECTORS: usize = 288;
+
+    const ROOM: usize = FILE_BYTES;
 
     const HELD: &'static [usize] = &[2_048, 4_096, 2_048];
 
     type Input = ImagesInput;
 
     fn outputs(input: &ImagesInput) -> Outputs {
-        Outputs::slices(&input.places, 3)
+        Outputs::slices(&input.places, TOLD)
     }
 
     fn port(input: &ImagesInput, outputs: &mut Outputs) -> i64 {
@@ -123,18 +130,15 @@ impl Function for BzGridAddresses {
     /// The length of `told` is known beforehand, those of the tables are not.
     fn oracle(input: &ImagesInput, outputs: &mut Outputs) -> i64 {
         outputs.answer(|slices, told| {
-            length(told.len() == 3)?;
-            let tables = tables(&given(input)?)?;
+            length(told.len() == TOLD)?;
+            let given = given(input)?;
+            let tables = tables(&given)?;
             let lengths = tables.lengths();
-            let room = slices.iter().map(Vec::len);
-            length(
-                lengths
-                    .iter()
-                    .zip(room)
-                    .all(|(&length, room)| length <= room),
-            )?;
+            let mut tables_and_room = lengths.iter().zip(&*slices);
+            length(tables_and_room.all(|(&length, slice)| length <= slice.len()))?;
             tables.write(slices);
-            told.copy_from_slice(&lengths.map(|length| length as i64));
+            told[..3].copy_from_slice(&lengths.map(|length| length as i64));
+            told[3..].copy_from_slice(&records::of(given.d, given.ps, given.bz_grid_type));
             Ok(())
         })
     }
@@ -186,13 +190,13 @@ mod tests {
         let addresses = vec![0, 0, 0, -1, 0, 0, 1, 0, 0];
         let Outputs { slices, told } = outputs(DENSE);
         assert_eq!(slices, [addresses.clone(), vec![0, 1, 3], vec![0, 1, 1]]);
-        assert_eq!(told, [9, 3, 3]);
+        assert_eq!(told, [9, 3, 3, 2, 1, 1, 0, 0, 0, 2]);
         let Outputs { slices, told } = outputs(SPARSE);
         let mut map = vec![16; 16];
         [map[0], map[1], map[3]] = [0, 2, 1];
         map.extend([0, 0, 1]);
         assert_eq!(slices, [addresses, map, vec![0, 1, 1]]);
-        assert_eq!(told, [9, 19, 3]);
+        assert_eq!(told, [9, 19, 3, 2, 1, 1, 0, 0, 0, 1]);
     }
 
     /// Places past the told lengths hold -1; one place less is too short.
@@ -251,7 +255,7 @@ mod tests {
         };
         let mut expect = |number, change: &dyn Fn(&mut ImagesInput)| {
             let (answer, outputs) = asked(&input);
-            assert_eq!((answer, outputs.told), (number, vec![-1; 3]));
+            assert_eq!((answer, outputs.told), (number, vec![-1; TOLD]));
             change(&mut input);
         };
         expect(13, &|input| input.d.push(0));
@@ -272,8 +276,9 @@ mod tests {
         });
         expect(13, &|input| input.places = [12, 19, 4]);
         let (answer, outputs) = asked(&input);
-        assert_eq!((answer, outputs.told), (0, vec![12, 19, 4]));
-        let mut outputs = Outputs::slices(&[12, 19, 4], 2);
+        let told = vec![12, 19, 4, 1, 2, 1, 1, 1, 1, 1];
+        assert_eq!((answer, outputs.told), (0, told));
+        let mut outputs = Outputs::slices(&[12, 19, 4], 3);
         input.d = vec![0; 3];
         assert_eq!(BzGridAddresses::oracle(&input, &mut outputs), 13);
     }
@@ -415,7 +420,8 @@ mod tests {
                 return answer;
             }
             let tables = built!(bzgrid_reordered, &given(input).unwrap()).unwrap();
-            outputs.told = tables.lengths().map(|length| length as i64).to_vec();
+            let lengths = tables.lengths().map(|length| length as i64);
+            outputs.told[..3].copy_from_slice(&lengths);
             answer
         }
 
@@ -437,7 +443,7 @@ mod tests {
         let one = "1072693248 0";
         let lattice = format!("9 {one} 0 0 0 0 0 0 {one} 0 0 0 0 0 0 {one}");
         let ins = format!("3 2 1 1 9 1 0 0 0 1 0 0 0 1 3 0 0 0 {lattice} 2");
-        let outs = "9 0 0 0 -1 0 0 1 0 0 3 0 1 3 3 0 1 1 9 3 3";
+        let outs = "9 0 0 0 -1 0 0 1 0 0 3 0 1 3 3 0 1 1 9 3 3 2 1 1 0 0 0 2";
         assert_eq!(lines[0], format!("{ins} 0 {outs}"));
         let inputs = ImagesInput::at_limits();
         assert!(lines.len() > inputs.len());

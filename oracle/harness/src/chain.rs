@@ -128,7 +128,8 @@ fn chain<S: Side>(steps: &mut Steps, input: &ChainInput) -> Result<Option<bool>,
     } else {
         point
     };
-    let last = TripletsInput::new(q0, &tables, class_map, q, input.lattice);
+    let mut last = TripletsInput::new(q0, &tables, class_map, q, input.lattice);
+    last.table = images.told[3..].to_vec();
     let triplets = steps.make::<S, BzTripletsAtQ>(&last)?;
     if !is_group(&list) {
         return Ok(None);

@@ -14,13 +14,13 @@ const DAMAGED_OUTPUTS: usize = 50;
 /// Runs the cases at the limits, then random ones, so many in all; counts those
 /// in which the answer or a place of an output differs.
 pub fn run<F: Function>(cases: u64, seed: u64) -> u64 {
-    let mut random = Random::new(seed);
+    let [mut random, mut records] = [seed, !seed].map(Random::new);
     let mut at_limits = F::Input::at_limits().into_iter();
     let mut differences = 0;
     for _ in 0..cases {
         let input = match at_limits.next() {
             Some(input) => input,
-            None => F::Input::random(&mut random),
+            None => any(&mut random, &mut records),
         };
         let mut outputs = F::outputs(&input);
         if F::LENT && random.one_in(DAMAGED_OUTPUTS) {
@@ -37,6 +37,13 @@ pub fn run<F: Function>(cases: u64, seed: u64) -> u64 {
         }
     }
     differences
+}
+
+/// Any input, and the record that it is lent.
+pub fn any<I: Input>(random: &mut Random, records: &mut Random) -> I {
+    let mut input = I::random(random);
+    input.other_record(records);
+    input
 }
 
 /// What the port and the Rust answer, and what they leave in such outputs.

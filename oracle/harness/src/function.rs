@@ -4,6 +4,7 @@ use std::fmt::{Debug, Write};
 
 use crate::random::Random;
 use crate::refusals::{ACCEPTED, REFUSED_PLACE};
+use crate::vectors;
 
 /// The ins of one call.
 pub trait Input: Debug + Sized {
@@ -12,6 +13,10 @@ pub trait Input: Debug + Sized {
 
     /// Any input: valid, at the limits or damaged.
     fn random(random: &mut Random) -> Self;
+
+    /// Takes another record for the one that goes with a table, in some cases. A generator
+    /// of its own decides, so that a seed gives the same cases else.
+    fn other_record(&mut self, _: &mut Random) {}
 
     /// An accepted input of everyday size, for the bench.
     fn typical(random: &mut Random) -> Self;
@@ -26,8 +31,11 @@ pub trait Function {
     const LENT: bool = true;
 
     /// Cases of its vectors: those at the limits, filled up with random ones as
-    /// far as the file has room.
+    /// far as there is room.
     const VECTORS: usize = 64;
+
+    /// Bytes that its file may be filled up to.
+    const ROOM: usize = vectors::ROOM;
 
     /// Places of its slices that the program which replays the vectors holds.
     const HELD: &'static [usize] = &[8_192; 3];

@@ -7,12 +7,14 @@ use phonors::{bzgrid, bzgrid_watched};
 use crate::bench::{call, Call, Timed};
 use crate::function::{Function, Outputs};
 use crate::inputs::lent_neighbours::NeighboursInput;
+use crate::inputs::records::Record;
 use crate::limits::OFFSET;
 use crate::panics::watched;
 use crate::port;
 use crate::refusals::BAD_GRID_TYPE;
 use crate::rotate_bz_grid_index::{address_fits, map_value_fits};
-use crate::tests::{addresses, fixed, length, limit, points};
+use crate::tests::{addresses, fixed, length, limit, points, same_grid};
+use crate::vectors::FILE_BYTES;
 
 /// A call whose lengths are right.
 struct Given<'a> {
@@ -20,6 +22,7 @@ struct Given<'a> {
     offsets: &'a [Vec3I],
     addresses: &'a [Vec3I],
     map: &'a [i64],
+    table: Record,
     d: Vec3I,
     bz_grid_type: i64,
 }
@@ -57,6 +60,7 @@ impl Given<'_> {
             offsets: addresses(&input.offsets)?,
             addresses: addresses(&input.addresses)?,
             map: &input.map,
+            table: fixed(&input.table)?,
             d: fixed(&input.d)?,
             bz_grid_type: input.bz_grid_type,
         };
@@ -90,6 +94,14 @@ impl Given<'_> {
         called!(bzgrid_watched, self, out, addresses, map).map_err(number!(bzgrid_watched))
     }
 
+    /// Without points or offsets nothing is asked of the record.
+    fn grid(&self) -> Result<(), i64> {
+        if self.points.is_empty() || self.offsets.is_empty() {
+            return Ok(());
+        }
+        same_grid(self.table, self.d, None, self.bz_grid_type)
+    }
+
     /// A list of no offsets is accepted, where the Rust panics.
     fn neighbours(&self) -> Result<Vec<i64>, i64> {
         let places = self.points.len() * self.offsets.len();
@@ -104,13 +116,15 @@ impl Given<'_> {
     }
 }
 
-/// A line of the vectors: the slices points, offsets, addresses, map and d, each as
-/// its length and its items; the type; the answer; the output as its length and its
+/// A line of the vectors: the slices points, offsets, addresses, map, table and d, each
+/// as its length and its items; the type; the answer; the output as its length and its
 /// items, or its length and a sum if it has over 432 places.
 pub struct NeighboringGridPoints;
 
 impl Function for NeighboringGridPoints {
-    const VECTORS: usize = 512;
+    const VECTORS: usize = 576;
+
+    const ROOM: usize = FILE_BYTES;
 
     const HELD: &'static [usize] = &[4_096];
 
@@ -126,6 +140,7 @@ impl Function for NeighboringGridPoints {
             &input.offsets,
             &input.addresses,
             &input.map,
+            &input.table,
             &input.d,
             input.bz_grid_type,
             &mut outputs.slices[0],
@@ -136,6 +151,7 @@ impl Function for NeighboringGridPoints {
         outputs.answer(|slices, _| {
             let given = Given::of(input, slices[0].len())?;
             given.limits()?;
+            given.grid()?;
             slices[0].copy_from_slice(&given.neighbours()?);
             Ok(())
         })
@@ -188,7 +204,7 @@ mod tests {
         assert_eq!(out(SPARSE), [2, 1, 0, 0, 0, 0, 2, 1, 0, 0, 1, 1]);
     }
 
-    /// No points or no offsets: any type, and any points, but 13 and 3.
+    /// No points or no offsets: any type, any points and any record, but 13 and 3.
     #[test]
     fn empty_lists() {
         for bz_grid_type in [SPARSE, DENSE, 0, i64::MAX] {
@@ -196,7 +212,11 @@ mod tests {
             let none = NeighboursInput::new(&[], &[[0; 3]], &tables);
             assert_eq!(asked(&none), (0, vec![]));
             let mut none = NeighboursInput::new(&[-1, 7], &[], &tables);
+            none.table.fill(i64::MIN);
             assert_eq!(asked(&none), (0, vec![]));
+            none.table.push(0);
+            assert_eq!(asked(&none), (13, vec![]));
+            none.table.truncate(7);
             none.d[1] = 257;
             assert_eq!(asked(&none), (3, vec![]));
             none.places = 1;
@@ -212,6 +232,7 @@ mod tests {
             offsets: vec![1_001; 4],
             addresses: vec![ADDRESS + 1; 5].into(),
             map: vec![].into(),
+            table: vec![1; 8],
             d: vec![0; 2],
             bz_grid_type: 4,
             places: 3,
@@ -223,10 +244,12 @@ mod tests {
         expect(13, &|input| input.offsets.truncate(3));
         expect(13, &|input| input.addresses = vec![ADDRESS + 1; 6].into());
         expect(13, &|input| input.d.push(0));
+        expect(13, &|input| input.table.truncate(7));
         expect(13, &|input| input.places = 2);
         expect(3, &|input| input.offsets.fill(-1_000));
         expect(3, &|input| input.d.fill(1));
         expect(9, &|input| input.bz_grid_type = 2);
+        expect(17, &|input| input.table[6] = 2);
         expect(14, &|input| input.points[1] = 1);
         expect(14, &|input| input.addresses = vec![ADDRESS; 6].into());
         expect(14, &|input| input.map = vec![MAP_VALUE + 1, 0].into());
@@ -238,10 +261,10 @@ mod tests {
     /// doubled mesh or an image there; the image that fits or the first.
     #[test]
     fn every_kind_is_met() {
-        let mut random = Random::new(1);
+        let [mut random, mut records] = [1, 2].map(Random::new);
         let mut met = Vec::new();
         for _ in 0..10_000 {
-            let input = NeighboursInput::random(&mut random);
+            let input: NeighboursInput = compare::any(&mut random, &mut records);
             let (answer, out) = asked(&input);
             if answer != 0 || input.points.is_empty() || input.offsets.is_empty() {
                 met.push((answer, 0, out.is_empty() && answer == 0));
@@ -268,6 +291,7 @@ mod tests {
             ((9, 0, false), 50),
             ((13, 0, false), 150),
             ((14, 0, false), 500),
+            ((17, 0, false), 500),
         ] {
             let count = met.iter().filter(|&&met| met == kind).count();
             assert!(count > least, "{kind:?}: {count}");
@@ -347,7 +371,7 @@ mod tests {
         let inputs = NeighboursInput::at_limits();
         assert!(lines.len() > inputs.len());
         let met: Vec<i64> = inputs.iter().map(|input| asked(input).0).collect();
-        for (answer, least) in [(0, 150), (3, 20), (9, 10), (13, 30), (14, 80)] {
+        for (answer, least) in [(0, 150), (3, 20), (9, 10), (13, 30), (14, 80), (17, 30)] {
             let count = met.iter().filter(|&&met| met == answer).count();
             assert!(count >= least, "{answer}: {count}");
         }

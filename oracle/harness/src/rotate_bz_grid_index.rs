@@ -8,11 +8,13 @@ use crate::bench::{call, Call, Timed};
 use crate::function::{Function, Outputs};
 use crate::inputs::lent_rotations::RotateInput;
 use crate::inputs::matrices::is_within;
+use crate::inputs::records::Record;
 use crate::limits::{ADDRESS, MAP_VALUE, ROTATION_ENTRY};
 use crate::panics::watched;
 use crate::port;
 use crate::refusals::BAD_GRID_TYPE;
-use crate::tests::{addresses, fixed, length, limit, matrix, points, shift_fits};
+use crate::tests::{addresses, fixed, length, limit, matrix, points, same_grid, shift_fits};
+use crate::vectors::FILE_BYTES;
 
 pub fn address_fits(address: &Vec3I) -> bool {
     address.iter().all(|n| (-ADDRESS..=ADDRESS).contains(n))
@@ -28,6 +30,7 @@ struct Given<'a> {
     rotation: MatI,
     addresses: &'a [Vec3I],
     map: &'a [i64],
+    table: Record,
     d: Vec3I,
     ps: Vec3I,
     bz_grid_type: i64,
@@ -40,6 +43,7 @@ impl Given<'_> {
             rotation: matrix(&input.rotation)?,
             addresses: addresses(&input.addresses)?,
             map: &input.map,
+            table: fixed(&input.table)?,
             d: fixed(&input.d)?,
             ps: fixed(&input.ps)?,
             bz_grid_type: input.bz_grid_type,
@@ -50,6 +54,10 @@ impl Given<'_> {
         points(self.d)?;
         limit(shift_fits(self.ps))?;
         limit(is_within(&self.rotation, ROTATION_ENTRY))
+    }
+
+    fn grid(&self) -> Result<(), i64> {
+        same_grid(self.table, self.d, Some(self.ps), self.bz_grid_type)
     }
 
     fn call(&self) -> Result<i64, bzgrid::RotateBzGridError> {
@@ -91,12 +99,14 @@ impl Given<'_> {
     }
 }
 
-/// A line of the vectors: the index; the slices rotation, addresses, map, d and ps,
-/// each as its length and its items; the type; the answer; the two numbers told.
+/// A line of the vectors: the index; the slices rotation, addresses, map, table, d and
+/// ps, each as its length and its items; the type; the answer; the two numbers told.
 pub struct RotateBzGridIndex;
 
 impl Function for RotateBzGridIndex {
     const VECTORS: usize = 512;
+
+    const ROOM: usize = FILE_BYTES;
 
     type Input = RotateInput;
 
@@ -110,6 +120,7 @@ impl Function for RotateBzGridIndex {
             &input.rotation,
             &input.addresses,
             &input.map,
+            &input.table,
             &input.d,
             &input.ps,
             input.bz_grid_type,
@@ -122,6 +133,7 @@ impl Function for RotateBzGridIndex {
             length(told.len() == 2)?;
             let given = Given::of(input)?;
             given.limits()?;
+            given.grid()?;
             let mut fallback = false;
             let index = watched(|| given.watched(&mut fallback), || given.rust())?;
             told.copy_from_slice(&[index, fallback.into()]);
@@ -214,6 +226,7 @@ mod tests {
             rotation: vec![100_001; 8],
             addresses: vec![ADDRESS + 1; 4].into(),
             map: vec![].into(),
+            table: vec![0; 6],
             d: vec![0; 4],
             ps: vec![2; 2],
             bz_grid_type: 0,
@@ -226,12 +239,14 @@ mod tests {
         expect(13, &|input| input.addresses = vec![ADDRESS + 1; 3].into());
         expect(13, &|input| input.d.truncate(3));
         expect(13, &|input| input.ps.push(2));
+        expect(13, &|input| input.table.push(2));
         expect(3, &|input| {
             input.rotation = diag([-100_000; 3]).as_flattened().to_vec()
         });
         expect(3, &|input| input.d.fill(1));
         expect(3, &|input| input.ps.fill(0));
         expect(9, &|input| input.bz_grid_type = 2);
+        expect(17, &|input| input.table[..3].fill(1));
         expect(14, &|input| input.index = 0);
         expect(14, &|input| input.addresses = vec![ADDRESS; 3].into());
         expect(14, &|input| input.map = vec![0, -1].into());
@@ -295,10 +310,10 @@ mod tests {
     /// the fallback, also to 8·N.
     #[test]
     fn every_kind_is_met() {
-        let mut random = Random::new(1);
+        let [mut random, mut records] = [1, 2].map(Random::new);
         let mut met = Vec::new();
         for _ in 0..20_000 {
-            let input = RotateInput::random(&mut random);
+            let input: RotateInput = compare::any(&mut random, &mut records);
             let (answer, told) = asked(&input);
             let points: i64 = input.d.iter().take(3).fold(1, |n, d| n.saturating_mul(*d));
             let to_mesh = told[0] == points.saturating_mul(8);
@@ -320,6 +335,7 @@ mod tests {
             ((9, 0, 0, false), 100),
             ((13, 0, 0, false), 300),
             ((14, 0, 0, false), 1_000),
+            ((17, 0, 0, false), 1_500),
         ] {
             let count = met.iter().filter(|&&met| met == kind).count();
             assert!(count > least, "{kind:?}: {count}");
@@ -372,7 +388,7 @@ mod tests {
             let both = inputs.iter().zip(&met);
             both.filter(|(input, met)| holds(input, met)).count()
         };
-        for (answer, least) in [(0, 150), (3, 15), (9, 10), (13, 20), (14, 80)] {
+        for (answer, least) in [(0, 150), (3, 15), (9, 10), (13, 20), (14, 80), (17, 50)] {
             assert!(count(&|_, met| met.0 == answer) >= least, "{answer}");
         }
         for bz_grid_type in [SPARSE, DENSE] {

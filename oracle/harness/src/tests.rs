@@ -4,9 +4,11 @@
 use phonors::common::{MatD, MatI, Vec3I};
 
 use crate::demand::is_group;
+use crate::inputs::images::TYPES;
 use crate::inputs::matrices::is_within;
+use crate::inputs::records::Record;
 use crate::limits::{DIAGONAL, POINTS, ROTATIONS};
-use crate::refusals::{NOT_GROUP, OUTSIDE_LIMITS, WRONG_LENGTH};
+use crate::refusals::{NOT_GROUP, OTHER_GRID, OUTSIDE_LIMITS, WRONG_LENGTH};
 
 /// Lengths that are wrong.
 pub fn length(holds: bool) -> Result<(), i64> {
@@ -74,6 +76,15 @@ pub fn shift_fits(ps: Vec3I) -> bool {
     ps.iter().all(|number| [0, 1].contains(number))
 }
 
+/// A table's record beside the call's own numbers, of which only the rotation has a shift.
+/// What is no type is refused before, by the Rust.
+pub fn same_grid(table: Record, d: Vec3I, ps: Option<Vec3I>, bz_grid_type: i64) -> Result<(), i64> {
+    let [x, y, z, u, v, w, t] = table;
+    let agrees = [x, y, z] == d && ps.is_none_or(|ps| [u, v, w] == ps) && t == bz_grid_type;
+    let no_type = !TYPES.contains(&bz_grid_type);
+    (agrees || no_type).then_some(()).ok_or(OTHER_GRID)
+}
+
 #[cfg(test)]
 mod tests {
     use super::*;
@@ -98,6 +109,23 @@ mod tests {
         assert_eq!(points([256, 256, 2]), Err(3));
         assert_eq!(points([257, 1, 1]), Err(3));
         assert_eq!(points([i64::MAX, i64::MAX, 0]), Err(3));
+    }
+
+    /// Each of the seven numbers decides, the shift only beside a shift.
+    #[test]
+    fn grids_of_records() {
+        let (table, d, ps) = ([5, 6, 7, 0, 1, 0, 2], [5, 6, 7], [0, 1, 0]);
+        assert_eq!(same_grid(table, d, Some(ps), 2), Ok(()));
+        for place in 0..7 {
+            let mut other = table;
+            other[place] = !other[place];
+            assert_eq!(same_grid(other, d, Some(ps), 2), Err(17));
+            assert_eq!(
+                same_grid(other, d, None, 2).is_ok(),
+                (3..6).contains(&place)
+            );
+            assert_eq!(same_grid(other, d, Some(ps), 3), Ok(()));
+        }
     }
 
     #[test]

@@ -8,7 +8,10 @@ use crate::random::Random;
 /// What the replaying program holds: a line, so that it has under 4,096 numbers; a
 /// file, which is shorter than this.
 const LINE_BYTES: usize = 8_000;
-const FILE_BYTES: usize = 65_536;
+pub const FILE_BYTES: usize = 131_072;
+
+/// Most files are filled up to half of that.
+pub const ROOM: usize = FILE_BYTES / 2;
 
 /// What that program lends outputs filled with, so that no answer may have it.
 const UNWRITTEN: i64 = -7_777_777_777_777;
@@ -28,21 +31,23 @@ pub fn text(seed: u64, lines: &[String]) -> String {
 
 pub fn lines<F: Function>(seed: u64) -> Vec<String> {
     let at_limits = F::Input::at_limits();
-    filled(seed, F::VECTORS, &at_limits, F::Input::random, line::<F>)
+    let [cases, room] = [F::VECTORS, F::ROOM];
+    filled(seed, cases, room, &at_limits, F::Input::random, line::<F>)
 }
 
 /// The lines of cases at the limits, filled up with random ones to a number of
-/// cases, or as far as the file has room.
+/// cases, or as far as there is room.
 pub fn filled<I>(
     seed: u64,
     cases: usize,
+    room: usize,
     at_limits: &[I],
     input: fn(&mut Random) -> I,
     line: fn(&I) -> Option<String>,
 ) -> Vec<String> {
     let mut random = Random::new(seed);
     let mut lines: Vec<String> = at_limits.iter().filter_map(line).collect();
-    let mut room = FILE_BYTES - HEAD_BYTES;
+    let mut room = room - HEAD_BYTES;
     lines.iter().for_each(|line| room -= line.len() + 1);
     for _ in lines.len()..cases {
         let line = loop {

@@ -26,9 +26,9 @@ use crate::refusals::{ACCEPTED, WRONG_HEADER};
 use crate::snf3x3::{MatrixInput, Snf3x3};
 use crate::tests::{fixed, length, matrices, matrix};
 use crate::transform_rotations::TransformRotations;
-use crate::vectors;
+use crate::vectors::{self, ROOM};
 
-/// Cases of the vectors, as far as the file has room.
+/// Cases of the vectors, as far as there is room.
 const VECTORS: usize = 512;
 
 /// Places of the doubled mesh and the counts, for the most points.
@@ -124,7 +124,8 @@ impl Job {
             _ => self.q0,
         };
         let class_map = &classes.slices[0];
-        let last = TripletsInput::new(q0, &tables, class_map, q, self.lattice);
+        let mut last = TripletsInput::new(q0, &tables, class_map, q, self.lattice);
+        last.table = told[3..].to_vec();
         let triplets = steps.make::<Rust, BzTripletsAtQ>(&last)?;
 
         let mut text = line("grid", &d);
@@ -154,7 +155,7 @@ pub fn listing(job: &[u8]) -> Result<String, i64> {
 /// Lines of jobs, with what the program `zonelist` answers and prints.
 pub fn vectors(seed: u64) -> Vec<String> {
     let at_limits = jobs_at_limits::inputs();
-    vectors::filled(seed, VECTORS, &at_limits, JobInput::random, vector)
+    vectors::filled(seed, VECTORS, ROOM, &at_limits, JobInput::random, vector)
 }
 
 /// A line of the vectors: the job as runs, the answer, and the text as its length and

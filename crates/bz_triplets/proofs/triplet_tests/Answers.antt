@@ -14,42 +14,42 @@ use Rattle.bz_triplets.proofs.triplet_tests.Goals as goal
 pub returns-in_err-t-clause-value : goal.returns-in_err-t-clause-value
 returns-in_err-t-clause-value c =
     let s = c.args in
-    let i : Input = record { q0 = s.q0; addresses = s.addresses.now; map = s.map.now; classes = s.class_map.now; d = s.d; q = s.q; lattice = s.lattice; t = s.bz_grid_type; n = length s.out.now; m = length s.left.now; l = length s.left_length.now; c = length s.cells.now } in
+    let i : Input = record { layout = s.layout; q0 = s.q0; addresses = s.addresses.now; map = s.map.now; classes = s.class_map.now; d = s.d; q = s.q; lattice = s.lattice; t = s.bz_grid_type; n = length s.out.now; m = length s.left.now; l = length s.left_length.now; c = length s.cells.now } in
     let p = err_from_is_err_and c.from_residual.result c.from_residual.ensures.1 in
     rw (p.1, p.2) (tests-read i (to_z-of_z c.ranges.q0) (to_z-of_z c.ranges.bz_grid_type) c.in_err-t.ensures)
 
 pub grid_of-g-requires : goal.grid_of-g-requires
 grid_of-g-requires c =
     let s = c.args in
-    let i : Input = record { q0 = s.q0; addresses = s.addresses.now; map = s.map.now; classes = s.class_map.now; d = s.d; q = s.q; lattice = s.lattice; t = s.bz_grid_type; n = length s.out.now; m = length s.left.now; l = length s.left_length.now; c = length s.cells.now } in
+    let i : Input = record { layout = s.layout; q0 = s.q0; addresses = s.addresses.now; map = s.map.now; classes = s.class_map.now; d = s.d; q = s.q; lattice = s.lattice; t = s.bz_grid_type; n = length s.out.now; m = length s.left.now; l = length s.left_length.now; c = length s.cells.now } in
     let a = input-accepted i (to_z-of_z c.ranges.q0) (to_z-of_z c.ranges.bz_grid_type) c.in_ok-t.ensures in
     a.grid
 
 pub invariant_of-table : goal.invariant_of-table
 invariant_of-table c =
     let s = c.args in
-    let i : Input = record { q0 = s.q0; addresses = s.addresses.now; map = s.map.now; classes = s.class_map.now; d = s.d; q = s.q; lattice = s.lattice; t = s.bz_grid_type; n = length s.out.now; m = length s.left.now; l = length s.left_length.now; c = length s.cells.now } in
+    let i : Input = record { layout = s.layout; q0 = s.q0; addresses = s.addresses.now; map = s.map.now; classes = s.class_map.now; d = s.d; q = s.q; lattice = s.lattice; t = s.bz_grid_type; n = length s.out.now; m = length s.left.now; l = length s.left_length.now; c = length s.cells.now } in
     let a = input-accepted i (to_z-of_z c.ranges.q0) (to_z-of_z c.ranges.bz_grid_type) c.in_ok-t.ensures in
     record { fits = mesh-fits s.d a.grid c.grid_of-g.ensures }
 
 pub measure_of-requires : goal.measure_of-requires
 measure_of-requires c =
     let s = c.args in
-    let i : Input = record { q0 = s.q0; addresses = s.addresses.now; map = s.map.now; classes = s.class_map.now; d = s.d; q = s.q; lattice = s.lattice; t = s.bz_grid_type; n = length s.out.now; m = length s.left.now; l = length s.left_length.now; c = length s.cells.now } in
+    let i : Input = record { layout = s.layout; q0 = s.q0; addresses = s.addresses.now; map = s.map.now; classes = s.class_map.now; d = s.d; q = s.q; lattice = s.lattice; t = s.bz_grid_type; n = length s.out.now; m = length s.left.now; l = length s.left_length.now; c = length s.cells.now } in
     let a = input-accepted i (to_z-of_z c.ranges.q0) (to_z-of_z c.ranges.bz_grid_type) c.in_ok-t.ensures in
     a.grid
 
 pub returns-in_err-a0-clause-value : goal.returns-in_err-a0-clause-value
 returns-in_err-a0-clause-value c =
     let s = c.args in
-    let i : Input = record { q0 = s.q0; addresses = s.addresses.now; map = s.map.now; classes = s.class_map.now; d = s.d; q = s.q; lattice = s.lattice; t = s.bz_grid_type; n = length s.out.now; m = length s.left.now; l = length s.left_length.now; c = length s.cells.now } in
+    let i : Input = record { layout = s.layout; q0 = s.q0; addresses = s.addresses.now; map = s.map.now; classes = s.class_map.now; d = s.d; q = s.q; lattice = s.lattice; t = s.bz_grid_type; n = length s.out.now; m = length s.left.now; l = length s.left_length.now; c = length s.cells.now } in
     let p = err_from_is_err_and c.from_residual-in_err-a0.result c.from_residual-in_err-a0.ensures.1 in
     rw (p.1, p.2) (ap (λ x. x then λ _. Accepted) (read-from i c.in_ok-t.t (to_z-of_z c.ranges.q0) c.in_err-a0.ensures) ∙ tests-read i (to_z-of_z c.ranges.q0) (to_z-of_z c.ranges.bz_grid_type) c.in_ok-t.ensures)
 
 pub invariant_of-point : goal.invariant_of-point
 invariant_of-point c =
     let s = c.args in
-    let i : Input = record { q0 = s.q0; addresses = s.addresses.now; map = s.map.now; classes = s.class_map.now; d = s.d; q = s.q; lattice = s.lattice; t = s.bz_grid_type; n = length s.out.now; m = length s.left.now; l = length s.left_length.now; c = length s.cells.now } in
+    let i : Input = record { layout = s.layout; q0 = s.q0; addresses = s.addresses.now; map = s.map.now; classes = s.class_map.now; d = s.d; q = s.q; lattice = s.lattice; t = s.bz_grid_type; n = length s.out.now; m = length s.left.now; l = length s.left_length.now; c = length s.cells.now } in
     let a = input-accepted i (to_z-of_z c.ranges.q0) (to_z-of_z c.ranges.bz_grid_type) c.in_ok-t.ensures in
     record {
       fits = rw c.point_of.ensures
@@ -59,14 +59,14 @@ invariant_of-point c =
 pub fill_triplets-requires : goal.fill_triplets-requires
 fill_triplets-requires c =
     let s = c.args in
-    let i : Input = record { q0 = s.q0; addresses = s.addresses.now; map = s.map.now; classes = s.class_map.now; d = s.d; q = s.q; lattice = s.lattice; t = s.bz_grid_type; n = length s.out.now; m = length s.left.now; l = length s.left_length.now; c = length s.cells.now } in
+    let i : Input = record { layout = s.layout; q0 = s.q0; addresses = s.addresses.now; map = s.map.now; classes = s.class_map.now; d = s.d; q = s.q; lattice = s.lattice; t = s.bz_grid_type; n = length s.out.now; m = length s.left.now; l = length s.left_length.now; c = length s.cells.now } in
     let a = input-accepted i (to_z-of_z c.ranges.q0) (to_z-of_z c.ranges.bz_grid_type) c.in_ok-t.ensures in
     a.room
 
 pub returns : goal.returns
 returns c =
     let s = c.args in
-    let i : Input = record { q0 = s.q0; addresses = s.addresses.now; map = s.map.now; classes = s.class_map.now; d = s.d; q = s.q; lattice = s.lattice; t = s.bz_grid_type; n = length s.out.now; m = length s.left.now; l = length s.left_length.now; c = length s.cells.now } in
+    let i : Input = record { layout = s.layout; q0 = s.q0; addresses = s.addresses.now; map = s.map.now; classes = s.class_map.now; d = s.d; q = s.q; lattice = s.lattice; t = s.bz_grid_type; n = length s.out.now; m = length s.left.now; l = length s.left_length.now; c = length s.cells.now } in
     let w = walked i c.in_ok-t.t (to_z-of_z c.ranges.q0) c.in_ok-a0.ensures c.grid_of-g.ensures (measured s.addresses.now s.d s.q s.lattice c.measure_of.result c.measure_of.ensures.lqd_value c.measure_of.ensures.tolerance_value) c.point_of.ensures in
     let a = input-accepted i (to_z-of_z c.ranges.q0) (to_z-of_z c.ranges.bz_grid_type) c.in_ok-t.ensures in
     let f = c.fill_triplets in

@@ -5,7 +5,7 @@
 //! before 100 rounds. 5 and 10: the Q that it returns has the determinant 1 or -1. 7
 //! and 8: no finite group of whole matrices has over 48 members, nor over 24 without
 //! the inversion. 14: the tables are those of the image call, and q0 is tested (3)
-//! before it is read.
+//! before it is read. Nor is document 02's 17: the record is that call's own.
 
 use phonors::common::{MatD, MatI, IDENTITY};
 

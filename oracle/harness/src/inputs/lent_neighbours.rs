@@ -8,6 +8,7 @@ use crate::function::{Input, Line};
 use crate::inputs::images::{DENSE, NO_TYPES, SPARSE, TYPES};
 use crate::inputs::lattices::REGULAR;
 use crate::inputs::lent_images::sheared;
+use crate::inputs::records::{self, Change, Recorded};
 use crate::inputs::tables::{self, both, LentTables, TYPICAL};
 use crate::inputs::{grids, lent, numbers};
 use crate::limits::{ADDRESS, MAP_VALUE, OFFSET};
@@ -19,6 +20,7 @@ pub struct NeighboursInput {
     pub offsets: Vec<i64>,
     pub addresses: Arc<Vec<i64>>,
     pub map: Arc<Vec<i64>>,
+    pub table: Vec<i64>,
     pub d: Vec<i64>,
     pub bz_grid_type: i64,
     /// Places of the output that is lent.
@@ -38,6 +40,7 @@ impl NeighboursInput {
             offsets: offsets.as_flattened().to_vec(),
             addresses: tables.addresses.clone(),
             map: tables.map.clone(),
+            table: records::of(tables.d, [0; 3], tables.bz_grid_type).to_vec(),
             d: tables.d.to_vec(),
             bz_grid_type: tables.bz_grid_type,
             places: points.len() * offsets.len(),
@@ -61,6 +64,17 @@ impl NeighboursInput {
         let mut about = cube();
         random.shuffle(&mut about);
         NeighboursInput::new(&points, &about[..TYPICAL_OFFSETS], tables)
+    }
+}
+
+impl Recorded for NeighboursInput {
+    fn record(&mut self) -> &mut Vec<i64> {
+        &mut self.table
+    }
+
+    fn own(&self) -> Vec<i64> {
+        let shift = self.table.get(3..6).unwrap_or_default();
+        records::lent(&self.d, shift, self.bz_grid_type)
     }
 }
 
@@ -312,16 +326,41 @@ fn long_lists(random: &mut Random, tables: &LentTables) -> (Vec<i64>, Vec<Vec3I>
     (points, any_offsets(random, offsets))
 }
 
+/// Another record, and what is refused before it or after it. Without points or offsets it
+/// is not compared, but its length is tested.
+fn other_records() -> Vec<NeighboursInput> {
+    let changes: [Change<NeighboursInput>; 11] = [
+        |input| input.d[0] = 0,
+        |input| input.offsets[0] = OFFSET + 1,
+        |input| input.bz_grid_type = 3,
+        |input| (input.bz_grid_type, input.table[6]) = (0, 0),
+        |input| input.points[0] = -1,
+        |input| input.addresses = Arc::new(vec![]),
+        |input| input.map = Arc::new(vec![]),
+        |input| (input.points, input.places) = (vec![], 0),
+        |input| (input.offsets, input.places) = (vec![], 0),
+        |input| (input.points, input.places, input.d[2]) = (vec![], 0, 257),
+        |input| (input.points, input.places, input.table) = (vec![], 0, vec![1; 6]),
+    ];
+    let of = |tables| {
+        let mut plain = NeighboursInput::new(&[1], &[[0, 1, 0]], tables);
+        plain.table[3..6].copy_from_slice(&[1, 0, 1]);
+        records::at_limits(&plain, &changes)
+    };
+    both([1, 2, 1], REGULAR[0]).iter().flat_map(of).collect()
+}
+
 impl Input for NeighboursInput {
     fn at_limits() -> Vec<NeighboursInput> {
         let kinds = [small(), long(), empty(), values(), indices(), refused()];
-        kinds.into_iter().flatten().collect()
+        let agreeing = kinds.into_iter().flatten().map(Recorded::agreeing);
+        agreeing.chain(other_records()).collect()
     }
 
     fn random(random: &mut Random) -> NeighboursInput {
-        let mut tables = match random.below(8) {
-            0 => tables::made_up(random),
-            _ => tables::accepted(random).0,
+        let (mut tables, ps) = match random.below(8) {
+            0 => (tables::made_up(random), [0; 3]),
+            _ => tables::accepted(random),
         };
         if random.one_in(8) {
             tables.damage(random);
@@ -350,7 +389,12 @@ impl Input for NeighboursInput {
             5 => input.places = random.pick(&[0, input.places + 1, 2 * input.places]),
             _ => {}
         }
-        input
+        input.table[3..6].copy_from_slice(&ps);
+        input.agreeing()
+    }
+
+    fn other_record(&mut self, random: &mut Random) {
+        records::change(random, &mut self.table);
     }
 
     /// Every image of a grid of 16 by 16 by 16, with tables of either type.
@@ -359,12 +403,13 @@ impl Input for NeighboursInput {
         NeighboursInput::of_typical(random, chosen)
     }
 
-    /// The slices points, offsets, addresses, map and d; the type.
+    /// The slices points, offsets, addresses, map, table and d; the type.
     fn write(&self, line: &mut Line) {
         line.slice(&self.points);
         line.slice(&self.offsets);
         line.slice(&self.addresses);
         line.slice(&self.map);
+        line.slice(&self.table);
         line.slice(&self.d);
         line.number(self.bz_grid_type);
     }

@@ -11,6 +11,7 @@ use crate::inputs::lattices::REGULAR;
 use crate::inputs::lent_images::sheared;
 use crate::inputs::lent_transforms::EXCHANGE;
 use crate::inputs::matrices::{self, diag};
+use crate::inputs::records::{self, Change, Recorded};
 use crate::inputs::tables::{self, both, LentTables, TYPICAL};
 use crate::inputs::{grids, lent};
 use crate::limits::{ADDRESS, MAP_VALUE, ROTATION_ENTRY};
@@ -23,6 +24,7 @@ pub struct RotateInput {
     pub rotation: Vec<i64>,
     pub addresses: Arc<Vec<i64>>,
     pub map: Arc<Vec<i64>>,
+    pub table: Vec<i64>,
     pub d: Vec<i64>,
     pub ps: Vec<i64>,
     pub bz_grid_type: i64,
@@ -35,6 +37,7 @@ impl RotateInput {
             rotation: rotation.as_flattened().to_vec(),
             addresses: tables.addresses.clone(),
             map: tables.map.clone(),
+            table: records::of(tables.d, ps, tables.bz_grid_type).to_vec(),
             d: tables.d.to_vec(),
             ps: ps.to_vec(),
             bz_grid_type: tables.bz_grid_type,
@@ -55,6 +58,16 @@ impl RotateInput {
         let tables = &tables[chosen];
         let index = random.below(tables.images()) as i64;
         RotateInput::new(index, random.pick(rotations), tables, [0; 3])
+    }
+}
+
+impl Recorded for RotateInput {
+    fn record(&mut self) -> &mut Vec<i64> {
+        &mut self.table
+    }
+
+    fn own(&self) -> Vec<i64> {
+        records::lent(&self.d, &self.ps, self.bz_grid_type)
     }
 }
 
@@ -337,10 +350,30 @@ fn refused() -> Vec<RotateInput> {
     inputs
 }
 
+/// Another record, and what is refused before it or after it.
+fn other_records() -> Vec<RotateInput> {
+    let changes: [Change<RotateInput>; 8] = [
+        |input| input.d[0] = 0,
+        |input| input.ps[2] = 2,
+        |input| input.rotation[4] = ROTATION_ENTRY + 1,
+        |input| input.bz_grid_type = 3,
+        |input| (input.bz_grid_type, input.table[6]) = (0, 0),
+        |input| input.index = -1,
+        |input| input.addresses = Arc::new(vec![]),
+        |input| input.map = Arc::new(vec![]),
+    ];
+    let of = |tables| {
+        let plain = RotateInput::new(1, IDENTITY, tables, [1, 0, 1]);
+        records::at_limits(&plain, &changes)
+    };
+    both([1, 2, 1], REGULAR[0]).iter().flat_map(of).collect()
+}
+
 impl Input for RotateInput {
     fn at_limits() -> Vec<RotateInput> {
         let kinds = [small(), values(), indices(), refused()];
-        kinds.into_iter().flatten().collect()
+        let agreeing = kinds.into_iter().flatten().map(Recorded::agreeing);
+        agreeing.chain(other_records()).collect()
     }
 
     fn random(random: &mut Random) -> RotateInput {
@@ -370,7 +403,11 @@ impl Input for RotateInput {
             6 => lent::damage(random, &mut input.ps),
             _ => {}
         }
-        input
+        input.agreeing()
+    }
+
+    fn other_record(&mut self, random: &mut Random) {
+        records::change(random, &mut self.table);
     }
 
     /// A rotation that keeps a grid of 16 by 16 by 16, with tables of either type.
@@ -379,12 +416,13 @@ impl Input for RotateInput {
         RotateInput::of_typical(random, chosen)
     }
 
-    /// The index; the slices rotation, addresses, map, d and ps; the type.
+    /// The index; the slices rotation, addresses, map, table, d and ps; the type.
     fn write(&self, line: &mut Line) {
         line.number(self.index);
         line.slice(&self.rotation);
         line.slice(&self.addresses);
         line.slice(&self.map);
+        line.slice(&self.table);
         line.slice(&self.d);
         line.slice(&self.ps);
         line.number(self.bz_grid_type);

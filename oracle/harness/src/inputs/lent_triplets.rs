@@ -11,6 +11,7 @@ use crate::function::{Input, Line};
 use crate::inputs::floats::words;
 use crate::inputs::images::{self, Images, DENSE, NO_TYPES, SPARSE};
 use crate::inputs::lattices::{self, SKEWED};
+use crate::inputs::records::{self, Recorded};
 use crate::inputs::tables::{self, LentTables, TYPICAL};
 use crate::inputs::{grids, groups, lent, matrices, transforms, triplets_at_limits};
 use crate::limits::{LATTICE_ENTRY, MAP_VALUE, Q_ENTRY};
@@ -22,6 +23,7 @@ pub struct TripletsInput {
     pub q0: i64,
     pub addresses: Arc<Vec<i64>>,
     pub map: Arc<Vec<i64>>,
+    pub table: Vec<i64>,
     pub class_map: Arc<Vec<i64>>,
     pub d: Vec<i64>,
     pub q: Vec<i64>,
@@ -86,6 +88,7 @@ impl TripletsInput {
             q0,
             addresses: tables.addresses.clone(),
             map: tables.map.clone(),
+            table: records::of(tables.d, [0; 3], tables.bz_grid_type).to_vec(),
             class_map: Arc::new(class_map.to_vec()),
             d: tables.d.to_vec(),
             q: q.as_flattened().to_vec(),
@@ -152,6 +155,17 @@ impl TripletsInput {
     }
 }
 
+impl Recorded for TripletsInput {
+    fn record(&mut self) -> &mut Vec<i64> {
+        &mut self.table
+    }
+
+    fn own(&self) -> Vec<i64> {
+        let shift = self.table.get(3..6).unwrap_or_default();
+        records::lent(&self.d, shift, self.bz_grid_type)
+    }
+}
+
 /// A grid with operations of it, or with any that are as many as the class call takes.
 fn grid(random: &mut Random) -> (Images, Vec<MatI>) {
     let given = match random.below(4) {
@@ -188,7 +202,8 @@ fn chained_on(
     };
     let flags = [random.coin(), random.coin()];
     let class_map = classes(point, given.d, rotations, flags);
-    let input = TripletsInput::new(q0, &tables, &class_map, given.q, given.lattice);
+    let mut input = TripletsInput::new(q0, &tables, &class_map, given.q, given.lattice);
+    input.table[3..6].copy_from_slice(&given.ps);
     Some((input, tables))
 }
 
@@ -326,9 +341,13 @@ impl Input for TripletsInput {
                 _ => {}
             }
             if input.choices() <= CHOICES {
-                return input;
+                return input.agreeing();
             }
         }
+    }
+
+    fn other_record(&mut self, random: &mut Random) {
+        records::change(random, &mut self.table);
     }
 
     fn typical(random: &mut Random) -> TripletsInput {
@@ -336,13 +355,14 @@ impl Input for TripletsInput {
         TripletsInput::of_typical(random, chosen)
     }
 
-    /// The point; the slices addresses, map, class_map, d and q; the lattice as its length
-    /// and two words for each of its floats; the type.
+    /// The point; the slices addresses, map, table, class_map, d and q; the lattice as its
+    /// length and two words for each of its floats; the type.
     fn write(&self, line: &mut Line) {
         line.number(self.q0);
-        for slice in [&self.addresses, &self.map, &self.class_map] {
-            line.slice(slice);
-        }
+        line.slice(&self.addresses);
+        line.slice(&self.map);
+        line.slice(&self.table);
+        line.slice(&self.class_map);
         line.slice(&self.d);
         line.slice(&self.q);
         line.number(self.lattice.len() as i64);

@@ -22,6 +22,7 @@ pub mod lent_triplets;
 pub mod lent_weights;
 pub mod matrices;
 pub mod numbers;
+pub mod records;
 pub mod tables;
 pub mod tolerance;
 pub mod transforms;

@@ -9,12 +9,15 @@ use crate::inputs::images::{Images, NO_TYPES, SPARSE, TYPES};
 use crate::inputs::lattices::REGULAR;
 use crate::inputs::lent_images::sheared;
 use crate::inputs::lent_triplets::{classes, TripletsInput};
+use crate::inputs::records::{self, Change, Recorded};
 use crate::inputs::tables::{self, LentTables};
 use crate::limits::{ADDRESS, LATTICE_ENTRY, MAP_VALUE, Q_ENTRY};
 use crate::tests::points;
 
 pub fn all() -> Vec<TripletsInput> {
-    [small(), values(), moved(), refused()].concat()
+    let kinds = [small(), values(), moved(), refused()];
+    let agreeing = kinds.into_iter().flatten().map(Recorded::agreeing);
+    agreeing.chain(other_records()).collect()
 }
 
 /// Up to three points, or images, of small grids, one by one and under the inversion with swapping.
@@ -189,4 +192,31 @@ fn refused() -> Vec<TripletsInput> {
         }
     }
     inputs
+}
+
+/// Another record, and what is refused before it or after it: also before the address at
+/// q0 is read, and without classes.
+fn other_records() -> Vec<TripletsInput> {
+    let changes: [Change<TripletsInput>; 10] = [
+        |input| input.d[0] = 0,
+        |input| input.q[1] = Q_ENTRY + 1,
+        |input| input.lattice[2] = f64::NAN,
+        |input| input.q0 = 3,
+        |input| input.bz_grid_type = 3,
+        |input| (input.bz_grid_type, input.table[6]) = (0, 0),
+        |input| input.addresses = Arc::new(vec![]),
+        |input| input.map = Arc::new(vec![]),
+        |input| (input.class_map, input.places) = (Arc::new(vec![]), [0; 4]),
+        |input| {
+            (input.class_map, input.places) = (Arc::new(vec![]), [0; 4]);
+            input.addresses = Arc::new(vec![]);
+        },
+    ];
+    let of = |tables| {
+        let mut plain = TripletsInput::new(1, tables, &[0, 0], IDENTITY, REGULAR[0]);
+        plain.table[3..6].copy_from_slice(&[1, 0, 1]);
+        records::at_limits(&plain, &changes)
+    };
+    let tables = tables::both([1, 2, 1], REGULAR[0]);
+    tables.iter().flat_map(of).collect()
 }

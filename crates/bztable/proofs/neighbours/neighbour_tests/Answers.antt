@@ -1,9 +1,7 @@
-use mir.Facts.{to_z-of_z}
 use Rattle.std.specs.Prelude.{Err}
 use Rattle.std.proofs.Common.{◌≡◌, sym, ◌∙◌, ap, length, rules}
 use Rattle.std.proofs.lemmas.Result.{err_from_is_err_and}
 use Rattle.common.specs.Tested.{Accepted, ◌then◌}
-use Rattle.bzgrid.specs.BzGridAddresses.{grid_type_of}
 use Rattle.bzgrid.proofs.Outcome.{mesh-fits}
 use Rattle.bztable.specs.Reading.{list_of}
 use Rattle.bztable.specs.Neighbours.{all_neighbours}
@@ -14,15 +12,15 @@ pub returns-in_err-input_tests-clause-value : goal.returns-in_err-input_tests-cl
 returns-in_err-input_tests-clause-value c =
     let s = c.args in
     let p = err_from_is_err_and c.from_residual.result c.from_residual.ensures.1 in
-    rw (p.1, p.2) (after-tests s.points.now s.offsets.now s.addresses.now s.map.now s.d s.bz_grid_type (length s.out.now) c.in_err-input_tests.ensures)
+    rw (p.1, p.2) (after-tests s.layout s.points.now s.offsets.now s.addresses.now s.map.now s.d (length s.out.now) c.in_err-input_tests.ensures)
 
 pub returns-then-is_empty : goal.returns-then-is_empty
 returns-then-is_empty c =
     let s = c.args in
     let n = length s.out.now in
-    let none-read = read-none s.points.now s.offsets.now s.addresses.now s.map.now s.d s.bz_grid_type n (search rules) in
-    let e = ap (λ x. x then λ _. Accepted) (sym none-read) ∙ after-tests s.points.now s.offsets.now s.addresses.now s.map.now s.d s.bz_grid_type n c.in_ok-input_tests.ensures in
-    record { value = e; found = found s.points.now s.offsets.now s.addresses.now s.map.now s.d s.bz_grid_type n e (none s.out.now (search rules) ∙ ap list_of (sym none-read)) }
+    let none-read = read-none s.layout s.points.now s.offsets.now s.addresses.now s.map.now s.d n (search rules) in
+    let e = ap (λ x. x then λ _. Accepted) (sym none-read) ∙ after-tests s.layout s.points.now s.offsets.now s.addresses.now s.map.now s.d n c.in_ok-input_tests.ensures in
+    record { value = e; found = found s.layout s.points.now s.offsets.now s.addresses.now s.map.now s.d n e (none s.out.now (search rules) ∙ ap list_of (sym none-read)) }
 
 pub grid_of-requires : goal.grid_of-requires
 grid_of-requires c =
@@ -54,8 +52,8 @@ returns-in_err-t-clause-value c =
     let n = length s.out.now in
     let e : c.from_residual-in_err-t.result ≡ Err c.in_err-t.field-0.0 = search rules in
     e
-    ∙ ap (λ x. x then λ _. Accepted) (sym (read-some s.points.now s.offsets.now s.addresses.now s.map.now s.d s.bz_grid_type n (some n (sym c.is_empty.ensures ∙ c.if-is_empty.false)) (c.in_err-t.ensures ∙ ap grid_type_of (to_z-of_z c.ranges.bz_grid_type))))
-    ∙ after-tests s.points.now s.offsets.now s.addresses.now s.map.now s.d s.bz_grid_type n c.in_ok-input_tests.ensures
+    ∙ ap (λ x. x then λ _. Accepted) (sym (read-some s.layout s.points.now s.offsets.now s.addresses.now s.map.now s.d n (some n (sym c.is_empty.ensures ∙ c.if-is_empty.false)) (sym c.in_err-t.was)))
+    ∙ after-tests s.layout s.points.now s.offsets.now s.addresses.now s.map.now s.d n c.in_ok-input_tests.ensures
 
 pub returns : goal.returns
 returns c =
@@ -65,10 +63,10 @@ returns c =
     -- the walk read what the definition reads
     let w = r.ensures
     ∙ ap (λ v. all_neighbours c.in_ok-t.t v s.offsets.now s.addresses.now s.map.now s.points.now) c.grid_of.ensures
-    ∙ sym (read-some s.points.now s.offsets.now s.addresses.now s.map.now s.d s.bz_grid_type n (some n (sym c.is_empty.ensures ∙ c.if-is_empty.false)) (c.in_ok-t.ensures ∙ ap grid_type_of (to_z-of_z c.ranges.bz_grid_type))) in
-    let e = walk-answer s.points.now s.offsets.now s.addresses.now s.map.now s.d s.bz_grid_type n r.result r.new.out w
-    ∙ after-tests s.points.now s.offsets.now s.addresses.now s.map.now s.d s.bz_grid_type n c.in_ok-input_tests.ensures in
+    ∙ sym (read-some s.layout s.points.now s.offsets.now s.addresses.now s.map.now s.d n (some n (sym c.is_empty.ensures ∙ c.if-is_empty.false)) (sym c.in_ok-t.was)) in
+    let e = walk-answer s.layout s.points.now s.offsets.now s.addresses.now s.map.now s.d n r.result r.new.out w
+    ∙ after-tests s.layout s.points.now s.offsets.now s.addresses.now s.map.now s.d n c.in_ok-input_tests.ensures in
     record {
       value = e;
-      found = found-if s.points.now s.offsets.now s.addresses.now s.map.now s.d s.bz_grid_type n r.result e (walk-output s.points.now s.offsets.now s.addresses.now s.map.now s.d s.bz_grid_type n r.result r.new.out w);
+      found = found-if s.layout s.points.now s.offsets.now s.addresses.now s.map.now s.d n r.result e (walk-output s.layout s.points.now s.offsets.now s.addresses.now s.map.now s.d n r.result r.new.out w);
     }

@@ -1,6 +1,7 @@
 use mathlib.Core.Path.{◌∙◌, ap}
 use mir.Facts.{to_z-of_z}
 use borrow.Author.Rules.{rules}
+use Rattle.bzgrid.specs.declared.Built.{Built}
 use Rattle.bzgrid.specs.BzGridAddresses.{BzGridAddresses}
 use Rattle.answers.proofs.Entries.{three-entries}
 use Rattle.answers.proofs.ToldFits.{lengths-fit}
@@ -12,9 +13,9 @@ row_at-requires-2 c = search rules
 pub lattice_at-requires : goal.lattice_at-requires
 lattice_at-requires c = search rules
 
-pub tell_lengths-requires-clause-fact_2 : goal.tell_lengths-requires-clause-fact_2
-tell_lengths-requires-clause-fact_2 c =
-    lengths-fit _ _ _ _ _ _ _ _ _ (search rules) (search rules) (search rules) (ap (λ (o : BzGridAddresses). o.answer) c.bz_grid_addresses.ensures)
+pub tell_built-requires-clause-fact_2 : goal.tell_built-requires-clause-fact_2
+tell_built-requires-clause-fact_2 c =
+    lengths-fit _ _ _ _ _ _ _ _ _ (search rules) (search rules) (search rules) (ap (λ (o : BzGridAddresses Built). o.answer) c.bz_grid_addresses.ensures)
 
 pub returns : goal.returns
 returns c =

@@ -9,5 +9,5 @@ returns c =
     let s = c.args in
     let d = c.row_at.ensures ∙ three-entries s.d.now (search rules) in
     let ps = c.row_at-2.ensures ∙ three-entries s.ps.now (search rules) in
-    let o = rw (to_z-of_z c.ranges.index, to_z-of_z c.ranges.bz_grid_type, c.matrix_at.ensures, d, ps) at c.rotate_bz_grid_index.ensures in
+    let o = rw (to_z-of_z c.ranges.index, to_z-of_z c.ranges.bz_grid_type, c.matrix_at.ensures, d, ps, c.table_at.ensures) at c.rotate_bz_grid_index.ensures in
     search rules

@@ -17,7 +17,7 @@ pub returns-in_err-number_classes-clause-value : goal.returns-in_err-number_clas
 returns-in_err-number_classes-clause-value c =
     let s = c.args in
     let e : c.from_residual.result ≡ Err c.in_err-number_classes.field-0.0 = search rules in
-    e ∙ list-refused (input_grid s.input.now) s.addresses.now s.map.now (ap (λ o. o.answer) c.number_classes.ensures) c.in_err-number_classes.was
+    e ∙ list-refused (input_grid s.input.now) s.addresses.now s.map.now s.table (ap (λ o. o.answer) c.number_classes.ensures) c.in_err-number_classes.was
 
 pub start_of-start-requires : goal.start_of-start-requires
 start_of-start-requires c =
@@ -39,7 +39,7 @@ choose_triplets-requires-clause-class_map c =
 pub returns-clause-value : goal.returns-clause-value
 returns-clause-value c =
     let s = c.args in
-    list-tested (input_grid s.input.now) s.addresses.now s.map.now (ap (λ o. o.answer) c.number_classes.ensures) c.in_ok-number_classes.was (ap (λ o. o.answer) c.choose_triplets.ensures)
+    list-tested (input_grid s.input.now) s.addresses.now s.map.now s.table (ap (λ o. o.answer) c.number_classes.ensures) c.in_ok-number_classes.was (ap (λ o. o.answer) c.choose_triplets.ensures)
 
 pub returns-clause-lengths_after : goal.returns-clause-lengths_after
 returns-clause-lengths_after c k =
@@ -47,7 +47,7 @@ returns-clause-lengths_after c k =
     let w = c.wipe_lists.ensures in
     let agreed = c.requires.fact_2.agreed in
     lists-left (input_grid s.input.now) c.requires.fact_1 (length s.classes.now) c.requires.fact_2.fits w.classes_after (ap (λ o. o.classes) c.number_classes.ensures) (search rules)
-    (w.points_after ∙ ap (λ k. replicate k (negsuc 0)) agreed.points-agree) (ap (λ o. o.points) c.number_classes.ensures) s.addresses.now s.map.now c.choose_triplets.ensures
+    (w.points_after ∙ ap (λ k. replicate k (negsuc 0)) agreed.points-agree) (ap (λ o. o.points) c.number_classes.ensures) s.addresses.now s.map.now s.table c.choose_triplets.ensures
     (w.triplets_after ∙ ap (λ k. replicate k (negsuc 0)) agreed.triplets-agree)
     (w.left_after ∙ ap (λ k. replicate k (negsuc 0)) agreed.left-agree)
     (w.lengths_after ∙ ap (λ k. replicate k (of_int binary64 (negsuc 0))) agreed.lengths-agree)

@@ -92,21 +92,14 @@ int main(int argc, char **argv)
     accepted("zone_transform_rotations",
              zone_transform_rotations(reciprocal, length, d, 3, q, 9, rotations, length));
 
-    /* 4: the images, in twice the room as long as it is too small */
-    size_t map_length = (size_t)ZONE_MAP_LENGTH(type, n), room = 8 * n;
-    int64_t *map = places(map_length), *addresses = places(3 * room), *grg = places(room);
-    int64_t made[3 + ZONE_RECORD_LENGTH], *record = made + 3; /* three lengths, and the record of the table */
-    int64_t answer;
-    while ((answer = zone_bz_grid_addresses(d, 3, q, 9, SHIFT, 3, LATTICE, 9, type, addresses, 3 * room, map,
-                                            map_length, grg, room, made, 10)) == ZONE_WRONG_LENGTH) {
-        room *= 2;
-        free(addresses);
-        free(grg);
-        addresses = places(3 * room);
-        grg = places(room);
-    }
-    accepted("zone_bz_grid_addresses", answer);
-    size_t addresses_length = (size_t)made[0];
+    /* 4: the images, in room of the lengths that are told first */
+    int64_t sizes[3], made[3 + ZONE_RECORD_LENGTH], *record = made + 3; /* the lengths again, and the record */
+    accepted("zone_bz_grid_sizes", zone_bz_grid_sizes(d, 3, q, 9, SHIFT, 3, LATTICE, 9, type, sizes, 3));
+    size_t addresses_length = (size_t)sizes[0], map_length = (size_t)sizes[1], grg_length = (size_t)sizes[2];
+    int64_t *addresses = places(addresses_length), *map = places(map_length), *grg = places(grg_length);
+    accepted("zone_bz_grid_fill",
+             zone_bz_grid_fill(d, 3, q, 9, SHIFT, 3, LATTICE, 9, type, sizes, 3, addresses, addresses_length, map,
+                               map_length, grg, grg_length, made, 10));
 
     /* 5: the classes at q0 */
     int64_t *map_triplets = places(n), *map_q = places(n);

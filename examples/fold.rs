@@ -8,7 +8,6 @@ const SHIFT: [i64; 3] = [0, 0, 0];
 const TIME_REVERSAL: bool = true;
 const SWAPPABLE: bool = true;
 const GROUP_LENGTH: usize = 432;
-const WRONG_LENGTH: i64 = 13;
 
 type In = *const i64;
 type Out = *mut i64;
@@ -22,10 +21,13 @@ extern "C" {
         rotations: In, rotations_len: Len, time_reversal: bool, out: Out, out_len: Len, told: Out, told_len: Len) -> i64;
     fn zone_transform_rotations(
         rotations: In, rotations_len: Len, d: In, d_len: Len, q: In, q_len: Len, out: Out, out_len: Len) -> i64;
-    fn zone_bz_grid_addresses(
+    fn zone_bz_grid_sizes(
         d: In, d_len: Len, q: In, q_len: Len, ps: In, ps_len: Len, lattice: *const f64, lattice_len: Len,
-        bz_grid_type: i64, addresses: Out, addresses_len: Len, map: Out, map_len: Len, grg: Out, grg_len: Len,
-        told: Out, told_len: Len) -> i64;
+        bz_grid_type: i64, told: Out, told_len: Len) -> i64;
+    fn zone_bz_grid_fill(
+        d: In, d_len: Len, q: In, q_len: Len, ps: In, ps_len: Len, lattice: *const f64, lattice_len: Len,
+        bz_grid_type: i64, sizes: In, sizes_len: Len, addresses: Out, addresses_len: Len, map: Out, map_len: Len,
+        grg: Out, grg_len: Len, told: Out, told_len: Len) -> i64;
     fn zone_ir_triplets_at_q(
         q0: i64, d: In, d_len: Len, rotations: In, rotations_len: Len, time_reversal: bool, swappable: bool,
         map_triplets: Out, map_triplets_len: Len, map_q: Out, map_q_len: Len, told: Out, told_len: Len) -> i64;
@@ -89,26 +91,21 @@ fn main() {
             rotations.len())
     });
 
-    let mut map = vec![0; if grid_type == 1 { 9 * n + 1 } else { n + 1 }];
-    let (mut room, mut addresses, mut grg, mut told) = (8 * n, vec![], vec![], [0; 10]);
-    let answer = loop {
-        addresses.resize(3 * room, 0);
-        grg.resize(room, 0);
-        let answer = unsafe {
-            zone_bz_grid_addresses(
-                d.as_ptr(), 3, q.as_ptr(), 9, SHIFT.as_ptr(), 3, LATTICE.as_ptr(), 9, grid_type,
-                addresses.as_mut_ptr(), addresses.len(), map.as_mut_ptr(), map.len(), grg.as_mut_ptr(), grg.len(),
-                told.as_mut_ptr(), told.len())
-        };
-        if answer != WRONG_LENGTH {
-            break answer;
-        }
-        room *= 2;
-    };
-    accepted("zone_bz_grid_addresses", answer);
-    // three lengths, and the record that goes with the table
-    let (lengths, table) = told.split_at(3);
-    addresses.truncate(lengths[0] as usize);
+    let mut sizes = [0; 3];
+    accepted("zone_bz_grid_sizes", unsafe {
+        zone_bz_grid_sizes(
+            d.as_ptr(), 3, q.as_ptr(), 9, SHIFT.as_ptr(), 3, LATTICE.as_ptr(), 9, grid_type, sizes.as_mut_ptr(), 3)
+    });
+    let [mut addresses, mut map, mut grg] = sizes.map(|length| vec![0; length as usize]);
+    let mut told = [0; 10];
+    accepted("zone_bz_grid_fill", unsafe {
+        zone_bz_grid_fill(
+            d.as_ptr(), 3, q.as_ptr(), 9, SHIFT.as_ptr(), 3, LATTICE.as_ptr(), 9, grid_type, sizes.as_ptr(), 3,
+            addresses.as_mut_ptr(), addresses.len(), map.as_mut_ptr(), map.len(), grg.as_mut_ptr(), grg.len(),
+            told.as_mut_ptr(), told.len())
+    });
+    // the lengths again, and the record that goes with the table
+    let table = &told[3..];
 
     let (mut map_triplets, mut map_q, mut classes) = (vec![0; n], vec![0; n], [0]);
     accepted("zone_ir_triplets_at_q", unsafe {

@@ -77,6 +77,8 @@
  *      zone_ir_grid_map            the transformed list, d, ps          the classes of the points, if wanted
  *      zone_class_weights          the same, a point                    their weights and members, likewise
  *   4  zone_bz_grid_addresses      d, q, ps, lattice, type              addresses, map, grg, the record
+ *  or  zone_bz_grid_sizes          the same                             the lengths of addresses, map, grg
+ * and  zone_bz_grid_fill           the same, the lengths                addresses, map, grg, the record
  *      zone_mark_candidates        d, q, ps, ranges of the cell,        which addresses of a point are the shortest
  *                                  a point                              whatever the cell is, if wanted
  *   5  zone_ir_triplets_at_q       q0, d, the transformed list,         map_triplets, map_q
@@ -120,7 +122,8 @@
  *   sheet        a class number and a weight of at most 6 characters, an image index of at most 11
  *
  * A list of matrices has a multiple of 9 places, one of addresses a multiple of 3. Tables that are read may have any
- * length and hold anything; their record has seven places with any numbers, which are only compared.
+ * length and hold anything; their record has seven places with any numbers, which are only compared, as are the three
+ * lengths that zone_bz_grid_fill takes.
  *
  * REFUSALS stand with each call in the order of their tests; the first that applies is the answer. A length that hangs
  * on a number outside its limits is not tested: then 3 is given. */
@@ -155,6 +158,7 @@ enum zone_refusal {
     ZONE_OUTSIDE_TABLE = 14,               /* an index asked for or read is outside its slice, a number read from an
                                               image map outside 0..2^40, or an address read outside -10^13..10^13 */
     ZONE_BAD_HEADER = 15,                  /* the header of a job file is wrong */
+    ZONE_OTHER_SIZES = 16,                 /* the lengths that zone_bz_grid_fill takes are not those of its tables */
     ZONE_OTHER_GRID = 17,                  /* a table's record has another diagonal, shift or type than the call */
     ZONE_NOT_GROUP = 18,                   /* the rotations, as given, are no group: the identity is missing, one stands
                                               twice, one has a determinant other than 1 or -1, or the product of two
@@ -167,7 +171,7 @@ enum zone_refusal {
 #define ZONE_MOST_POINTS 65536
 #define ZONE_CANDIDATES 125 /* of a point, whose marks zone_mark_candidates gives */
 #define ZONE_MAP_LENGTH(type, n) ((type) == 1 ? 9 * (n) + 1 : (n) + 1) /* of the image map of n points */
-#define ZONE_RECORD_LENGTH 7 /* of an image table's record, which starts at told + 3 of zone_bz_grid_addresses */
+#define ZONE_RECORD_LENGTH 7 /* of an image table's record, which starts at told + 3 where the table is made */
 #define ZONE_MOST_IMAGES INT64_C(2363359232) /* in a table, whatever the lattice */
 #define ZONE_SHEET_LENGTH(k) (46 * ((k) + ((k) + 39) / 40)) /* of the sheet of k classes */
 #define ZONE_JOB_LENGTH 8192                 /* of the longest job file, in bytes */
@@ -274,13 +278,30 @@ int64_t zone_rotate_grid_index(int64_t point, const int64_t *rotation, size_t ro
 
 /* The image table of the grid. In: d[3], q[9], ps[3], lattice[9], the type. Out: of M images addresses (3 * M
  * places), map (ZONE_MAP_LENGTH) and grg (M); told[10]: these three lengths, then the record, which is the call's own
- * d0 d1 d2 ps0 ps1 ps2 type. Outputs may be longer and hold -1 past them. M is not known beforehand: a point has at most
- * 8 shortest addresses, and the tolerance seldom adds any, so lend room for 8 * N images, and for twice as many as long
- * as the answer is 13. Refusals: 13 for the inputs and told, 3, 9, 10, 11, 12, 13 for an output that is too short. */
+ * d0 d1 d2 ps0 ps1 ps2 type. Outputs may be longer and hold -1 past them. M is not known beforehand: ask
+ * zone_bz_grid_sizes, or lend room for 8 * N images, and for twice as many as long as the answer is 13. (A point has at
+ * most 8 shortest addresses, and the tolerance seldom adds any.) Refusals: 13 for the inputs and told, 3, 9, 10, 11, 12,
+ * 13 for an output that is too short. */
 int64_t zone_bz_grid_addresses(const int64_t *d, size_t d_len, const int64_t *q, size_t q_len, const int64_t *ps,
                                size_t ps_len, const double *lattice, size_t lattice_len, int64_t bz_grid_type,
                                int64_t *addresses, size_t addresses_len, int64_t *map, size_t map_len, int64_t *grg,
                                size_t grg_len, int64_t *told, size_t told_len);
+
+/* The lengths of that table, before there is room for it. In: as above. Out: told[3]: the places of addresses (3 * M),
+ * map and grg (M). The images of every point are looked for, as above, and not written. Refusals: 13, 3, 9, 10, 11,
+ * 12. */
+int64_t zone_bz_grid_sizes(const int64_t *d, size_t d_len, const int64_t *q, size_t q_len, const int64_t *ps,
+                           size_t ps_len, const double *lattice, size_t lattice_len, int64_t bz_grid_type,
+                           int64_t *told, size_t told_len);
+
+/* The same table, by its lengths. In: as above, and sizes[3], what zone_bz_grid_sizes told for the same d, q, ps,
+ * lattice and type. Out: addresses, map, grg and told[10], as zone_bz_grid_addresses leaves them in outputs of the same
+ * lengths (proved); as many places as sizes says are enough. Any other three numbers are refused by 16, larger ones too.
+ * Refusals: 13 for the inputs and told, 3, 9, 10, 11, 12, 16, 13 for an output that is too short. */
+int64_t zone_bz_grid_fill(const int64_t *d, size_t d_len, const int64_t *q, size_t q_len, const int64_t *ps,
+                          size_t ps_len, const double *lattice, size_t lattice_len, int64_t bz_grid_type,
+                          const int64_t *sizes, size_t sizes_len, int64_t *addresses, size_t addresses_len,
+                          int64_t *map, size_t map_len, int64_t *grg, size_t grg_len, int64_t *told, size_t told_len);
 
 /* For a cell that is known only roughly: which of 125 addresses of a point are the shortest, whatever the cell is. In:
  * d[3], q[9], ps[3], as for call 4; lowest[6] and highest[6], between which the inner products b1·b1, b1·b2, b1·b3,

@@ -1,29 +1,36 @@
 -- Numbers that a call gives fit the places where they are told.
 use mathlib.Core.Path.{◌≡◌, sym, subst}
-use mathlib.Core.Bool.{Bool, true, false, ◌&&◌}
+use mathlib.Core.Bool.{Bool, true, false}
 use mathlib.Core.List.{List}
-use Prim.Native.Nat.{ℕ, ◌*◌, ◌<◌}
+use Prim.Native.Nat.{ℕ, ◌<◌, ◌≤◌}
+use lib.ListN.{length}
 use native.Mathlib.Omega.{arith}
-use lib.Dec.{T, leb, leb→le}
+use lib.Dec.{T}
 use lib.Ieee.{Float}
 use lib.IntN.{ℤ, pos, nat_abs}
-use Rattle.std.specs.Prelude.{Result, Ok, Err, IfOk}
+use Rattle.std.specs.Prelude.{Option, Some, None, Result, Ok, Err, IfOk}
 use Rattle.common.specs.Matrix.{Vec}
 use Rattle.common.specs.Array.{vector_of, sides_of, matrix_of}
 use Rattle.common.specs.Limits.{diagonal_fits, shift_fits, matrix_within, point_fits}
 use Rattle.common.specs.Tested.{require}
+use Rattle.common.proofs.Tests.{same-ok}
 use Rattle.common.specs.declared.Refusal.{Refusal}
-use Rattle.common.specs.declared.Refusal.TheVariants.{OutsideLimits}
+use Rattle.common.specs.declared.Refusal.TheVariants.{OutsideLimits, SearchFailed}
 use Rattle.grgrid.specs.declared.Folded.{Folded}
 use Rattle.grgrid.specs.Grid.{size, index, rotated}
 use Rattle.grgrid.specs.Folding.{grid_index_from_address, rotate_grid_index}
 use Rattle.grgrid.proofs.Accepted.{few-points, grid-fits}
 use Rattle.grgrid.proofs.Folding.{index-lt}
-use Rattle.integer.proofs.Test.{and_l, and_r}
 use Rattle.bzgrid.specs.declared.Lengths.{Lengths}
 use Rattle.bzgrid.specs.declared.Built.{Built}
-use Rattle.bzgrid.specs.BzGridAddresses.{has_room, bz_grid_addresses}
-use Rattle.bztable.proofs.AcceptedCall.{call-accepted}
+use Rattle.bzgrid.specs.BzGridAddresses.{search_of, table_of, all_found, lengths_of, input_tests, sizes_of, tables_told, bz_grid_addresses, bz_grid_fill, bz_grid_sizes}
+use Rattle.bzgrid.specs.declared.GridType.{GridType}
+use Rattle.bzgrid.specs.declared.GridType.TheVariants.{Sparse, Dense}
+use Rattle.bzgrid.specs.Table.{images_at}
+use Rattle.bzgrid.proofs.KnownSizes.{sizes-told}
+use Rattle.bzgrid.proofs.Accepted.{passes, passes-first, input-accepted}
+use Rattle.bzgrid.proofs.ImageBounds.{images-total}
+use Rattle.bzgrid.proofs.Mapped.{size-doubled}
 use Rattle.snf_steps.proofs.Divisions.{few-steps}
 use Rattle.worst_pair.specs.declared.WorstPair.{WorstPair}
 use Rattle.worst_pair.specs.WorstPair.{Answers}
@@ -31,21 +38,34 @@ use Rattle.worst_pair.proofs.Limit.{limit-of}
 use Rattle.answers.specs.Images.{Held}
 use Rattle.answers.specs.WorstPairs.{PairFits}
 
--- the lengths are those of slices, for 8 bytes each
-module _ (d : List ℤ) (q : List (List ℤ)) (ps : List ℤ) (lattice : List (List Float)) (t : ℤ) (na nm ng : ℕ) where
-  pub lengths-fit : (a : Result Built Refusal) → na * 8 < 0x8000000000000000 → nm * 8 < 0x8000000000000000 → ng * 8 < 0x8000000000000000
-      → a ≡ (bz_grid_addresses d q ps lattice t na nm ng).answer → IfOk a (λ b. Held b.lengths)
-  lengths-fit (Ok b) ha hm hg e = held b.lengths (call-accepted d q ps lattice t na nm ng b (sym e)).room
+-- the lengths are those of at most 65,536 points and 2,363,359,232 images
+module _ (d : List ℤ) (q : List (List ℤ)) (ps : List ℤ) (lattice : List (List Float)) (t : ℤ) where
+  pub sizes-fit : (a : Result Lengths Refusal) → a ≡ bz_grid_sizes d q ps lattice t → IfOk a Held
+  unfolding bz_grid_sizes
+  sizes-fit (Ok l) e =
+      let s = search_of d q ps lattice in
+      let k = passes-first (input_tests d q ps lattice t) (λ k. sizes_of k s) (sym e) in
+      let f = passes (all_found (images_at s) (size s.d)) SearchFailed (Ok (lengths_of k.0 s.d (images_at s))) k.2 in
+      let few = few-points d (input-accepted d q ps lattice t k.1).grid in
+      subst Held (same-ok f.1) (fit k.0 few (images-total s (size s.d) few k.0))
     where
-      held : (l : Lengths) → T (has_room l na nm ng) → Held l
-      held l r =
-          let s = and_r (leb l.addresses na) (leb l.map nm && leb l.grg ng) r in
-          record {
-            addresses = omega (arith, leb→le l.addresses na (and_l (leb l.addresses na) (leb l.map nm && leb l.grg ng) r));
-            map = omega (arith, leb→le l.map nm (and_l (leb l.map nm) (leb l.grg ng) s));
-            grg = omega (arith, leb→le l.grg ng (and_r (leb l.map nm) (leb l.grg ng) s));
-          }
-  lengths-fit (Err r) ha hm hg e = tt
+      fit : (k : GridType) → size (sides_of d) ≤ 65536 → length (table_of k (images_at (search_of d q ps lattice)) (size (sides_of d))) ≤ 2363359232
+          → Held (lengths_of k (sides_of d) (images_at (search_of d q ps lattice)))
+      fit Sparse few m = record { addresses = omega (arith, m); map = omega (arith, size-doubled (sides_of d), few); grg = omega (arith, m) }
+      fit Dense few m = record { addresses = omega (arith, m); map = omega (arith, few); grg = omega (arith, m) }
+  sizes-fit (Err r) e = tt
+
+  built-fits : (w : Option (List ℤ)) (x y z : ℕ) (a : Result Built Refusal) → a ≡ (tables_told d q ps lattice t w x y z).answer → IfOk a (λ b. Held b.lengths)
+  built-fits w x y z (Ok b) e = sizes-fit (Ok b.lengths) (sym (sizes-told d q ps lattice t w x y z b (sym e)))
+  built-fits w x y z (Err r) e = tt
+
+  pub images-fit : (x y z : ℕ) (a : Result Built Refusal) → a ≡ (bz_grid_addresses d q ps lattice t x y z).answer → IfOk a (λ b. Held b.lengths)
+  unfolding bz_grid_addresses
+  images-fit = built-fits None
+
+  pub filled-fit : (n : List ℤ) (x y z : ℕ) (a : Result Built Refusal) → a ≡ (bz_grid_fill d q ps lattice t n x y z).answer → IfOk a (λ b. Held b.lengths)
+  unfolding bz_grid_fill
+  filled-fit n = built-fits (Some n)
 
 pub pair_fits : (limit : ℤ) (w : Result WorstPair Refusal) → Answers limit w → IfOk w PairFits
 pair_fits limit (Ok w) h =

@@ -8,7 +8,8 @@ use Rattle.bzsearch.specs.SearchView.{float_nine}
 use Rattle.bzgrid.specs.declared.Lengths.{Lengths}
 use Rattle.bzgrid.specs.declared.TableRecord.{TableRecord}
 use Rattle.bzgrid.specs.declared.Built.{Built}
-use Rattle.bzgrid.specs.BzGridAddresses.{bz_grid_addresses}
+use Rattle.bzgrid.specs.BzGridAddresses.{bz_grid_addresses, bz_grid_fill, bz_grid_sizes}
+use Rattle.bzgrid.specs.KnownSizes.{numbers}
 use Rattle.bztable.specs.declared.rotate.Rotated.{Rotated}
 use Rattle.bztable.specs.declared.rotate.Rotated.TheVariants as rotated
 use Rattle.bztable.specs.Rotate.{rotate_bz_grid_index}
@@ -17,10 +18,14 @@ use Rattle.bztable.specs.Neighbours.{neighboring_grid_points_many}
 -- ---- image tables
 -- the three lengths, then the record: the diagonal, the shift and the type
 abbrev pub built_places : Built → List ℤ
-built_places b = pos b.lengths.addresses ∷ pos b.lengths.map ∷ pos b.lengths.grg ∷ (row_at b.table.d 0 ++ (row_at b.table.ps 0 ++ (b.table.bz_grid_type ∷ [])))
+built_places b = numbers b.lengths ++ (row_at b.table.d 0 ++ (row_at b.table.ps 0 ++ (b.table.bz_grid_type ∷ [])))
 
 abbrev pub images_told : Result Built Refusal → List ℤ
 images_told = told_of built_places 10
+
+-- the three lengths alone
+abbrev pub sizes_told : Result Lengths Refusal → List ℤ
+sizes_told = told_of numbers 3
 
 -- a table's record, of seven numbers
 abbrev pub table_at : List ℤ → TableRecord
@@ -32,9 +37,9 @@ pub record Held (l : Lengths) : Type 0 where
   pub map : l.map < 0x8000000000000000
   pub grg : l.grg < 0x8000000000000000
 
--- of d, Q, ps, the lattice and `told`
-abbrev pub image_lengths : ℕ → ℕ → ℕ → ℕ → ℕ → Bool
-image_lengths d q ps lattice told = eqb d 3 && ((eqb q 9 && (eqb ps 3 && eqb lattice 9)) && eqb told 10)
+-- of d, Q, ps, the lattice and `told`, of n places
+abbrev pub image_lengths : (d q ps lattice told n : ℕ) → Bool
+image_lengths d q ps lattice told n = eqb d 3 && ((eqb q 9 && (eqb ps 3 && eqb lattice 9)) && eqb told n)
 
 pub record ZoneBzGridAddresses : Type 0 where
   pub answer : ℤ
@@ -47,9 +52,28 @@ pub record ZoneBzGridAddresses : Type 0 where
 abbrev pub zone_bz_grid_addresses : (d q ps : List ℤ) → List Float → ℤ → (a b c n : ℕ) → ZoneBzGridAddresses
 zone_bz_grid_addresses d q ps lattice t a b c n =
     let o = bz_grid_addresses d (rows (matrix_at q 0)) ps (rows (float_nine lattice)) t a b c in
-    cond (image_lengths (length d) (length q) (length ps) (length lattice) n)
+    cond (image_lengths (length d) (length q) (length ps) (length lattice) n 10)
     (record { answer = answer_of o.answer; addresses = o.addresses; map = o.map; grg = o.grg; told = images_told o.answer })
     (record { answer = wrong_length; addresses = unwritten a; map = unwritten b; grg = unwritten c; told = unwritten n })
+
+-- the same from the lengths, three numbers
+abbrev pub zone_bz_grid_fill : (d q ps : List ℤ) → List Float → ℤ → List ℤ → (a b c n : ℕ) → ZoneBzGridAddresses
+zone_bz_grid_fill d q ps lattice t sizes a b c n =
+    let o = bz_grid_fill d (rows (matrix_at q 0)) ps (rows (float_nine lattice)) t sizes a b c in
+    cond (eqb (length sizes) 3 && image_lengths (length d) (length q) (length ps) (length lattice) n 10)
+    (record { answer = answer_of o.answer; addresses = o.addresses; map = o.map; grg = o.grg; told = images_told o.answer })
+    (record { answer = wrong_length; addresses = unwritten a; map = unwritten b; grg = unwritten c; told = unwritten n })
+
+pub record ZoneBzGridSizes : Type 0 where
+  pub answer : ℤ
+  pub told : List ℤ
+
+-- `told` has n places
+abbrev pub zone_bz_grid_sizes : (d q ps : List ℤ) → List Float → ℤ → ℕ → ZoneBzGridSizes
+zone_bz_grid_sizes d q ps lattice t n =
+    let o = bz_grid_sizes d (rows (matrix_at q 0)) ps (rows (float_nine lattice)) t in
+    cond (image_lengths (length d) (length q) (length ps) (length lattice) n 3)
+    (record { answer = answer_of o; told = sizes_told o }) (record { answer = wrong_length; told = unwritten n })
 
 -- ---- the rotation of an image
 -- the index, and 1 for a fallback

@@ -3,10 +3,10 @@ ghost use Rattle.std.specs.Prelude.{◌≡◌, length, IfOk};
 ghost use Rattle.common.specs.Tested.{answer_of};
 ghost use Rattle.common.specs.Array.{rows};
 ghost use Rattle.bzsearch.specs.SearchView.{float_nine};
-ghost use Rattle.answers.specs.Images.{image_lengths, table_at, images_told, Held, rotate_lengths, rotated_told};
+ghost use Rattle.answers.specs.Images.{image_lengths, table_at, images_told, sizes_told, Held, rotate_lengths, rotated_told};
 
 use crate::tell;
-use bzgrid::{Built, TableRecord};
+use bzgrid::{Built, Lengths, TableRecord};
 use bztable::Rotated;
 use common::Refusal;
 
@@ -18,10 +18,11 @@ pub fn lattice_at(l: &[f64]) -> [[f64; 3]; 3]
     [[l[0], l[1], l[2]], [l[3], l[4], l[5]], [l[6], l[7], l[8]]]
 }
 
-pub fn image_lengths(d: usize, q: usize, ps: usize, lattice: usize, told: usize) -> bool
-    ensures { result ≡ image_lengths d q ps lattice told }
+// Of told, n are wanted.
+pub fn image_lengths(d: usize, q: usize, ps: usize, lattice: usize, told: usize, n: usize) -> bool
+    ensures { result ≡ image_lengths d q ps lattice told n }
 {
-    d == 3 && (q == 9 && ps == 3 && lattice == 9) && told == 10
+    d == 3 && (q == 9 && ps == 3 && lattice == 9) && told == n
 }
 
 // A table's record, of seven numbers.
@@ -66,6 +67,18 @@ pub fn tell_built(answer: Result<Built, Refusal>, told: &mut [i64]) -> i64
             )
         }
         Err(r) => tell::<10>(Err(r), told),
+    }
+}
+
+pub fn tell_sizes(answer: Result<Lengths, Refusal>, told: &mut [i64]) -> i64
+    requires fact_1 { length told.old ≡ 3 }
+    requires fact_2 { IfOk answer Held }
+    ensures value { result ≡ answer_of answer }
+    ensures told_after { told.new ≡ sizes_told answer }
+{
+    match answer {
+        Ok(l) => tell(Ok([l.addresses as i64, l.map as i64, l.grg as i64]), told),
+        Err(r) => tell::<3>(Err(r), told),
     }
 }
 

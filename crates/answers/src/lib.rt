@@ -20,7 +20,9 @@ use common::Refusal;
 pub use diagonal::{diagonal_lengths, smith_lengths, tell_diagonal, tell_smith};
 pub use form::{form_lengths, tell_order, tell_same};
 pub use grid::{class_lengths, folding_lengths, point_lengths, tell_classes, tell_folded};
-pub use images::{image_lengths, lattice_at, rotate_lengths, table_at, tell_built, tell_rotated};
+pub use images::{
+    image_lengths, lattice_at, rotate_lengths, table_at, tell_built, tell_rotated, tell_sizes,
+};
 pub use marks::{mark_lengths, ranges_at};
 pub use pair::tell_pair;
 pub use recip::{tell_count, tell_group};

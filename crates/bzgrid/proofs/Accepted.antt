@@ -7,7 +7,7 @@ use lib.Dec.{T}
 use lib.IntN.{ℤ}
 use lib.Ieee.{Float}
 use borrow.Author.Tests.{not-true}
-use Rattle.std.specs.Prelude.{Result, Ok, Err}
+use Rattle.std.specs.Prelude.{Option, Result, Ok, Err}
 use Rattle.common.specs.Tested.{require, ◌then◌}
 use Rattle.integer.proofs.Test.{and_l, and_r, holds}
 use Rattle.common.specs.Array.{matrix_of}
@@ -20,7 +20,7 @@ use Rattle.bzgrid.specs.declared.GridType.{GridType}
 use Rattle.bzgrid.specs.declared.TableRecord.{TableRecord}
 use Rattle.bzsearch.specs.Lattice.{singular, lattice_fits}
 use Rattle.bzsearch.specs.Search.{Search, unimodular}
-use Rattle.bzgrid.specs.BzGridAddresses.{grid_type_of, search_of, within_limits, input_tests, unbuilt, built, built_for, recorded, bz_grid_addresses}
+use Rattle.bzgrid.specs.BzGridAddresses.{grid_type_of, search_of, within_limits, input_tests, unbuilt, built, built_for, recorded, tables_told}
 
 -- ---- a call that gives a value passed each of its tests
 module _ {A : Type 0} {a : A} where
@@ -68,14 +68,14 @@ module _ (d : List ℤ) (q : List (List ℤ)) (ps : List ℤ) (lattice : List (L
   typed t b e f g = λ i. require (b i) OutsideLimits (e i then λ k. require (f i) NotUnimodularQ (require (not (g i)) SingularReciprocalLattice (Ok k)))
 
   -- ---- the call, with outputs of lengths x, y and z
-  module _ (t : ℤ) (x y z : ℕ) where
+  module _ (t : ℤ) (w : Option (List ℤ)) (x y z : ℕ) where
     abbrev table : TableRecord
     table = record { d = d; ps = ps; bz_grid_type = t }
 
-    pub accepted-call : {k : GridType} → input_tests d q ps lattice t ≡ Ok k → {s : Search} → s ≡ search_of d q ps lattice → recorded table (built k s x y z) ≡ bz_grid_addresses d q ps lattice t x y z
-    unfolding bz_grid_addresses
-    accepted-call h e = λ i. recorded table (built_for (sym h i) (e i) x y z)
+    pub accepted-call : {k : GridType} → input_tests d q ps lattice t ≡ Ok k → {s : Search} → s ≡ search_of d q ps lattice → recorded table (built k s w x y z) ≡ tables_told d q ps lattice t w x y z
+    unfolding tables_told
+    accepted-call h e = λ i. recorded table (built_for (sym h i) (e i) w x y z)
 
-    pub refused-call : {r : Refusal} → input_tests d q ps lattice t ≡ Err r → recorded table (unbuilt x y z r) ≡ bz_grid_addresses d q ps lattice t x y z
-    unfolding bz_grid_addresses
-    refused-call h = ap (λ r. recorded table (built_for r (search_of d q ps lattice) x y z)) (sym h)
+    pub refused-call : {r : Refusal} → input_tests d q ps lattice t ≡ Err r → unbuilt x y z r ≡ tables_told d q ps lattice t w x y z
+    unfolding tables_told
+    refused-call h = ap (λ r. recorded table (built_for r (search_of d q ps lattice) w x y z)) (sym h)

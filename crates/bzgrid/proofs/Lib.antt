@@ -7,3 +7,4 @@ pub mod Turns
 pub mod Outcome
 pub mod Accepted
 mod Examples
+pub mod KnownSizes

@@ -1,14 +1,15 @@
 -- `bz_grid_addresses`: its tests, in document 01's order, and its answer with the three outputs, as one outcome.
 use Rattle.std.specs.Prelude.{Bool, true, false, not, ◌&&◌, List, ◌++◌, ℕ, zero, suc, ◌+◌, ◌*◌, ◌-◌, leb, eqb, ℤ, pos}
-use Rattle.std.specs.Prelude.{negsuc, Float, length, replicate, Result, Ok, Err, cond}
+use Rattle.std.specs.Prelude.{negsuc, Float, length, replicate, Result, Ok, Err, Option, Some, None, cond}
 use Rattle.common.specs.declared.Refusal.{Refusal}
 use Rattle.integer.specs.Same.{same}
-use Rattle.common.specs.Matrix.{Vec}
+use Rattle.common.specs.Matrix.{Vec, same_vector}
 use Rattle.common.specs.Array.{vector_of, sides_of, matrix_of}
 use Rattle.common.specs.FloatMatrix.{float_matrix}
 use Rattle.common.specs.Limits.{matrix_within, diagonal_fits, shift_fits}
 use Rattle.common.specs.Tested.{require, output_of, Tested, Accepted, ◌then◌, giving}
-use Rattle.common.specs.declared.Refusal.TheVariants.{OutsideLimits, BadGridType, NotUnimodularQ, SingularReciprocalLattice, SearchFailed, WrongLength}
+use Rattle.common.specs.declared.Refusal.TheVariants.{OutsideLimits, BadGridType, NotUnimodularQ, SingularReciprocalLattice, SearchFailed}
+use Rattle.common.specs.declared.Refusal.TheVariants.{OtherSizes, WrongLength}
 use Rattle.grgrid.specs.Grid.{size}
 use Rattle.bzgrid.specs.declared.GridType.{GridType}
 use Rattle.bzgrid.specs.declared.GridType.TheVariants.{Sparse, Dense}
@@ -50,6 +51,11 @@ all_found g (suc n) = all_found g n && not (eqb (length (g n)) 0)
 abbrev pub lengths_of : GridType → Vec ℕ → (ℕ → List Image) → Lengths
 lengths_of t d g = let m = length (table_of t g (size d)) in record { addresses = 3 * m; map = map_length t d; grg = m }
 
+-- whoever was told the lengths beforehand hands them over
+abbrev pub as_told : Option (List ℤ) → Lengths → Bool
+as_told None l = true
+as_told (Some n) l = same_vector (vector_of n) (record { x = pos l.addresses; y = pos l.map; z = pos l.grg })
+
 -- outputs of lengths a, b and c have room
 abbrev pub has_room : Lengths → ℕ → ℕ → ℕ → Bool
 has_room l a b c = leb l.addresses a && (leb l.map b && leb l.grg c)
@@ -79,14 +85,16 @@ padded l n = l ++ replicate (n - length l) (negsuc 0)
 
 module _ (a b c : ℕ) where
   -- -1 everywhere
-  abbrev pub unbuilt : Refusal → BzGridAddresses Lengths
+  abbrev pub unbuilt : {A : Type 0} → Refusal → BzGridAddresses A
   unbuilt r = record { answer = Err r; addresses = replicate a (negsuc 0); map = replicate b (negsuc 0); grg = replicate c (negsuc 0) }
 
--- the tables of a search
-module _ (t : GridType) (s : Search) (a b c : ℕ) where
+-- the tables of a search, which may have the lengths n
+module _ (t : GridType) (s : Search) (n : Option (List ℤ)) (a b c : ℕ) where
   unfoldable pub build_tests : Tested
   unfolding images_at
-  build_tests = require (all_found (images_at s) (size s.d)) SearchFailed (require (has_room (lengths_of t s.d (images_at s)) a b c) WrongLength Accepted)
+  build_tests =
+      let l = lengths_of t s.d (images_at s) in
+      require (all_found (images_at s) (size s.d)) SearchFailed (require (as_told n l) OtherSizes (require (has_room l a b c) WrongLength Accepted))
 
   unfoldable pub built : BzGridAddresses Lengths
   unfolding build_tests images_at
@@ -99,16 +107,35 @@ module _ (t : GridType) (s : Search) (a b c : ℕ) where
         grg = output_of build_tests c (padded (point_list table) c);
       }
 
+-- their lengths alone
+abbrev pub sizes_of : GridType → Search → Result Lengths Refusal
+sizes_of t s = require (all_found (images_at s) (size s.d)) SearchFailed (Ok (lengths_of t s.d (images_at s)))
+
 -- ---- the call
-abbrev pub built_for : Result GridType Refusal → Search → (a b c : ℕ) → BzGridAddresses Lengths
-built_for (Ok k) s a b c = built k s a b c
-built_for (Err r) s a b c = unbuilt a b c r
+abbrev pub built_for : Result GridType Refusal → Search → Option (List ℤ) → (a b c : ℕ) → BzGridAddresses Lengths
+built_for (Ok k) s n a b c = built k s n a b c
+built_for (Err r) s n a b c = unbuilt a b c r
 
 -- the record of the tables' grid beside the lengths
 abbrev pub recorded : TableRecord → BzGridAddresses Lengths → BzGridAddresses Built
 recorded r o = record { answer = o.answer then λ l. Ok (record { lengths = l; table = r }); addresses = o.addresses; map = o.map; grg = o.grg }
 
-unfoldable pub bz_grid_addresses : List ℤ → List (List ℤ) → List ℤ → List (List Float) → ℤ → (a b c : ℕ) → BzGridAddresses Built
-unfolding input_tests built
-bz_grid_addresses d q ps lattice t a b c =
-    recorded (record { d = d; ps = ps; bz_grid_type = t }) (built_for (input_tests d q ps lattice t) (search_of d q ps lattice) a b c)
+module _ (d : List ℤ) (q : List (List ℤ)) (ps : List ℤ) (lattice : List (List Float)) (t : ℤ) where
+  -- where the lengths n are told
+  unfoldable pub tables_told : Option (List ℤ) → (a b c : ℕ) → BzGridAddresses Built
+  unfolding input_tests built
+  tables_told n a b c = recorded (record { d = d; ps = ps; bz_grid_type = t }) (built_for (input_tests d q ps lattice t) (search_of d q ps lattice) n a b c)
+
+  unfoldable pub bz_grid_addresses : (a b c : ℕ) → BzGridAddresses Built
+  unfolding tables_told
+  bz_grid_addresses = tables_told None
+
+  -- the same from lengths that `bz_grid_sizes` gave, in places; any numbers
+  unfoldable pub bz_grid_fill : List ℤ → (a b c : ℕ) → BzGridAddresses Built
+  unfolding tables_told
+  bz_grid_fill n = tables_told (Some n)
+
+  -- the three lengths alone
+  unfoldable pub bz_grid_sizes : Result Lengths Refusal
+  unfolding input_tests images_at
+  bz_grid_sizes = input_tests d q ps lattice t then λ k. sizes_of k (search_of d q ps lattice)

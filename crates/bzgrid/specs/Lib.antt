@@ -1,3 +1,4 @@
 pub mod Table
 pub mod BzGridAddresses
+pub mod KnownSizes
 pub mod Code

@@ -10,7 +10,8 @@ ghost use Rattle.bzgrid.specs.Table.{images_at, doubled};
 ghost use Rattle.bzgrid.specs.Code.Writing.{if_sparse, placed_flat, with_mesh};
 ghost use Rattle.bzgrid.specs.Code.Walked.{walk_of, images_in, blank, WrittenTo, lengths_for, judged, MeshFits};
 ghost use Rattle.bzsearch.specs.SearchView.{search_view};
-ghost use Rattle.bzgrid.specs.BzGridAddresses.{grid_type_of, is_sparse, all_found, within_limits, input_tests, has_room, built, bz_grid_addresses};
+ghost use Rattle.bzgrid.specs.BzGridAddresses.{grid_type_of, is_sparse, all_found, within_limits, input_tests, as_told, has_room, built, sizes_of};
+ghost use Rattle.bzgrid.specs.BzGridAddresses.{tables_told, bz_grid_addresses, bz_grid_fill, bz_grid_sizes};
 
 use bzsearch::{Basis, BzSearch};
 use common::Refusal;
@@ -109,6 +110,17 @@ pub fn wipe(addresses: &mut [i64], map: &mut [i64], grg: &mut [i64])
     grg.fill(-1);
 }
 
+// Whoever was told the lengths beforehand hands them over, in places.
+fn as_told(told: Option<[i64; 3]>, l: Lengths) -> bool
+    requires { (l.addresses < 9223372036854775808) × (l.map < 9223372036854775808) × (l.grg < 9223372036854775808) }
+    ensures { result ≡ as_told told l }
+{
+    match told {
+        None => true,
+        Some(n) => n == [l.addresses as i64, l.map as i64, l.grg as i64],
+    }
+}
+
 fn has_room(l: Lengths, a: usize, b: usize, c: usize) -> bool
     ensures { result ≡ has_room l a b c }
 {
@@ -160,21 +172,25 @@ fn add_mesh(sparse: bool, addresses: &[i64], g: Grid, map: &mut [i64])
     }
 }
 
-// The test of the lengths for m images, and the mesh. The third output has c places.
+// The tests of the lengths for m images, and the mesh. The third output has c places.
 fn finish(
     sparse: bool,
     g: Grid,
     m: usize,
+    told: Option<[i64; 3]>,
     addresses: &[i64],
     map: &mut [i64],
     c: usize,
 ) -> Result<Lengths, Refusal>
     requires fact_1 { MeshFits (sides g) }
     requires fact_2 { m < 1099511627776 }
-    ensures value { result ≡ judged (lengths_for sparse (size (sides g)) m) (length addresses.now) (length map.old) c }
+    ensures value { result ≡ judged told (lengths_for sparse (size (sides g)) m) (length addresses.now) (length map.old) c }
     ensures map_after { IfOk result (λ _. map.new ≡ with_mesh sparse (doubled (sides g)) addresses.now m map.old) }
 {
     let l = lengths_of(sparse, grgrid::points(g), m);
+    if !as_told(told, l) {
+        return Err(Refusal::OtherSizes);
+    }
     if !has_room(l, addresses.len(), map.len(), c) {
         return Err(Refusal::WrongLength);
     }
@@ -209,12 +225,13 @@ fn walk_points(
 fn fill_tables(
     s: BzSearch,
     t: GridType,
+    told: Option<[i64; 3]>,
     addresses: &mut [i64],
     map: &mut [i64],
     grg: &mut [i64],
 ) -> Result<Lengths, Refusal>
-    ensures value { result ≡ (built t (search_view s) (length addresses.old) (length map.old) (length grg.old)).answer }
-    ensures filled { let o = built t (search_view s) (length addresses.old) (length map.old) (length grg.old) in
+    ensures value { result ≡ (built t (search_view s) told (length addresses.old) (length map.old) (length grg.old)).answer }
+    ensures filled { let o = built t (search_view s) told (length addresses.old) (length map.old) (length grg.old) in
         IfOk result (λ l. record { answer = Ok l; addresses = addresses.new; map = map.new; grg = grg.new } ≡ o) }
 {
     let d = s.d_diag;
@@ -229,22 +246,58 @@ fn fill_tables(
         grg,
     )
     .ok_or(Refusal::SearchFailed)?;
-    finish(sparse, g, m, addresses, map, grg.len())
+    finish(sparse, g, m, told, addresses, map, grg.len())
 }
 
 // The same, with -1 in every place where they are refused.
 fn build(
     s: BzSearch,
     t: GridType,
+    told: Option<[i64; 3]>,
     addresses: &mut [i64],
     map: &mut [i64],
     grg: &mut [i64],
 ) -> Result<Lengths, Refusal>
-    ensures { let o = built t (search_view s) (length addresses.old) (length map.old) (length grg.old) in
+    ensures { let o = built t (search_view s) told (length addresses.old) (length map.old) (length grg.old) in
         record { answer = result; addresses = addresses.new; map = map.new; grg = grg.new } ≡ o }
 {
-    match fill_tables(s, t, &mut *addresses, &mut *map, &mut *grg) {
+    match fill_tables(s, t, told, &mut *addresses, &mut *map, &mut *grg) {
         Ok(l) => Ok(l),
+        Err(r) => {
+            wipe(addresses, map, grg);
+            Err(r)
+        }
+    }
+}
+
+// Where lengths are told they must be those of the tables.
+fn tables_told(
+    d: [i64; 3],
+    q: [[i64; 3]; 3],
+    ps: [i64; 3],
+    lattice: [[f64; 3]; 3],
+    bz_grid_type: i64,
+    told: Option<[i64; 3]>,
+    addresses: &mut [i64],
+    map: &mut [i64],
+    grg: &mut [i64],
+) -> Result<Built, Refusal>
+    ensures { let o = tables_told d q ps lattice bz_grid_type told (length addresses.old) (length map.old) (length grg.old) in
+        record { answer = result; addresses = addresses.new; map = map.new; grg = grg.new } ≡ o }
+{
+    match input_tests(d, q, ps, lattice, bz_grid_type) {
+        Ok(t) => {
+            let s = BzSearch::new(d, common::shift(ps), Basis { m: q }, lattice);
+            let lengths = build(s, t, told, addresses, map, grg)?;
+            Ok(Built {
+                lengths,
+                table: TableRecord {
+                    d,
+                    ps,
+                    bz_grid_type,
+                },
+            })
+        }
         Err(r) => {
             wipe(addresses, map, grg);
             Err(r)
@@ -266,22 +319,61 @@ pub fn bz_grid_addresses(
     ensures { let o = bz_grid_addresses d q ps lattice bz_grid_type (length addresses.old) (length map.old) (length grg.old) in
         record { answer = result; addresses = addresses.new; map = map.new; grg = grg.new } ≡ o }
 {
-    match input_tests(d, q, ps, lattice, bz_grid_type) {
-        Ok(t) => {
-            let s = BzSearch::new(d, common::shift(ps), Basis { m: q }, lattice);
-            let lengths = build(s, t, addresses, map, grg)?;
-            Ok(Built {
-                lengths,
-                table: TableRecord {
-                    d,
-                    ps,
-                    bz_grid_type,
-                },
-            })
-        }
-        Err(r) => {
-            wipe(addresses, map, grg);
-            Err(r)
-        }
-    }
+    tables_told(d, q, ps, lattice, bz_grid_type, None, addresses, map, grg)
+}
+
+// The same, where the three lengths are known beforehand: any others are refused.
+pub fn bz_grid_fill(
+    d: [i64; 3],
+    q: [[i64; 3]; 3],
+    ps: [i64; 3],
+    lattice: [[f64; 3]; 3],
+    bz_grid_type: i64,
+    sizes: [i64; 3],
+    addresses: &mut [i64],
+    map: &mut [i64],
+    grg: &mut [i64],
+) -> Result<Built, Refusal>
+    ensures { let o = bz_grid_fill d q ps lattice bz_grid_type sizes (length addresses.old) (length map.old) (length grg.old) in
+        record { answer = result; addresses = addresses.new; map = map.new; grg = grg.new } ≡ o }
+{
+    tables_told(
+        d,
+        q,
+        ps,
+        lattice,
+        bz_grid_type,
+        Some(sizes),
+        addresses,
+        map,
+        grg,
+    )
+}
+
+// The lengths of the tables of a search: the walk, with no room.
+fn sizes_of(s: BzSearch, t: GridType) -> Result<Lengths, Refusal>
+    ensures { result ≡ sizes_of t (search_view s) }
+{
+    let sparse = is_sparse(t);
+    let n = grgrid::points(grgrid::grid_of(s.d_diag));
+    let m = walk_points(s, sparse, n, &mut [], &mut [], &mut []).ok_or(Refusal::SearchFailed)?;
+    Ok(lengths_of(sparse, n, m))
+}
+
+// The three lengths of the tables alone, in places.
+#[tactic(auto, unfolding(crate::specs::BzGridAddresses::bz_grid_sizes))]
+pub fn bz_grid_sizes(
+    d: [i64; 3],
+    q: [[i64; 3]; 3],
+    ps: [i64; 3],
+    lattice: [[f64; 3]; 3],
+    bz_grid_type: i64,
+) -> Result<Lengths, Refusal>
+    ensures { result ≡ bz_grid_sizes d q ps lattice bz_grid_type }
+{
+    let t = input_tests(d, q, ps, lattice, bz_grid_type)?;
+    sizes_of(
+        BzSearch::new(d, common::shift(ps), Basis { m: q }, lattice),
+        t,
+    )
 }

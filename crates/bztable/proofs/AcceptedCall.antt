@@ -8,7 +8,7 @@ use lib.Dec.{T, eqb→eq, lit≤}
 use lib.IntN.{ℤ, nat_abs}
 use lib.Ieee.{Float, le}
 use lib.ListN.{length}
-use Rattle.std.specs.Prelude.{Result, Ok, Err}
+use Rattle.std.specs.Prelude.{None, Result, Ok, Err}
 use Rattle.float.specs.Value.{Bounded, zero_f}
 use Rattle.integer.proofs.Test.{holds}
 use Rattle.common.specs.Matrix.{det}
@@ -27,7 +27,7 @@ use Rattle.bzgrid.specs.declared.GridType.{GridType}
 use Rattle.bzgrid.specs.declared.GridType.TheVariants.{Sparse}
 use Rattle.bzsearch.specs.Search.{Search, images}
 use Rattle.bzgrid.specs.Table.{images_at, address_list, point_list}
-use Rattle.bzgrid.specs.BzGridAddresses.{search_of, table_of, map_of, all_found, lengths_of, has_room, input_tests, padded, build_tests, built, built_for, recorded, bz_grid_addresses}
+use Rattle.bzgrid.specs.BzGridAddresses.{search_of, table_of, map_of, all_found, lengths_of, has_room, input_tests, padded, build_tests, built, built_for, recorded, tables_told, bz_grid_addresses}
 use Rattle.bzsearch.proofs.Images.{Sound, new-sound, images-distinct, image-folds}
 use Rattle.bztable.specs.Images.{FoldBack, EveryImage}
 use Rattle.bztable.proofs.ImageTable.{Stands, Folded, table-stands, stands-at, image-at, place-folds, address-once}
@@ -62,11 +62,11 @@ module _ (d : List ℤ) (q : List (List ℤ)) (ps : List ℤ) (lattice : List (L
   table = record { d = d; ps = ps; bz_grid_type = t }
 
   module _ (l : Built) (e : (bz_grid_addresses d q ps lattice t a b c).answer ≡ Ok l) where
-    given : (k : GridType) × (input_tests d q ps lattice t ≡ Ok k) × (bz_grid_addresses d q ps lattice t a b c ≡ recorded table (built k s a b c))
-    unfolding bz_grid_addresses
+    given : (k : GridType) × (input_tests d q ps lattice t ≡ Ok k) × (bz_grid_addresses d q ps lattice t a b c ≡ recorded table (built k s None a b c))
+    unfolding bz_grid_addresses tables_told
     given = by (input_tests d q ps lattice t) e
       where
-        by : (r : Result GridType Refusal) → (recorded table (built_for r s a b c)).answer ≡ Ok l → (k : GridType) × (r ≡ Ok k) × (recorded table (built_for r s a b c) ≡ recorded table (built k s a b c))
+        by : (r : Result GridType Refusal) → (recorded table (built_for r s None a b c)).answer ≡ Ok l → (k : GridType) × (r ≡ Ok k) × (recorded table (built_for r s None a b c) ≡ recorded table (built k s None a b c))
         by (Ok k) e = (k, refl, refl)
         by (Err r) e = absurd (refused-not-ok e)
 
@@ -76,13 +76,13 @@ module _ (d : List ℤ) (q : List (List ℤ)) (ps : List ℤ) (lattice : List (L
     abbrev lengths : Lengths
     lengths = lengths_of kind (sides_of d) (images_at s)
 
-    tested : build_tests kind s a b c ≡ Accepted
+    tested : build_tests kind s None a b c ≡ Accepted
     unfolding built
-    tested = passed-by (λ k. giving k lengths then λ l. Ok (record { lengths = l; table = table })) (λ r. refused-not-ok) (build_tests kind s a b c) (sym (ap (λ o. o.answer) given.2) ∙ e)
+    tested = passed-by (λ k. giving k lengths then λ l. Ok (record { lengths = l; table = table })) (λ r. refused-not-ok) (build_tests kind s None a b c) (sym (ap (λ o. o.answer) given.2) ∙ e)
 
-    left : bz_grid_addresses d q ps lattice t a b c ≡ recorded table (outcome kind s a b c Accepted)
+    left : bz_grid_addresses d q ps lattice t a b c ≡ recorded table (outcome kind s None a b c Accepted)
     unfolding built
-    left = given.2 ∙ ap (λ t. recorded table (outcome kind s a b c t)) tested
+    left = given.2 ∙ ap (λ t. recorded table (outcome kind s None a b c t)) tested
 
     full : l ≡ record { lengths = lengths; table = table }
     full = same-ok (sym e ∙ ap (λ o. o.answer) left)

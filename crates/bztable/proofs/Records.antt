@@ -10,6 +10,7 @@ use Rattle.integer.proofs.Same.{same_refl}
 use Rattle.integer.proofs.Test.{holds, is_true, and_l}
 use Rattle.common.specs.Matrix.{Vec, same_vector}
 use Rattle.common.specs.Array.{vector_of}
+use Rattle.common.proofs.Same.{same-itself}
 use Rattle.common.specs.Tested.{require, ◌then◌}
 use Rattle.common.specs.declared.Refusal.{Refusal}
 use Rattle.common.specs.declared.Refusal.TheVariants.{OtherGrid}
@@ -24,12 +25,6 @@ use Rattle.bztable.specs.Agreeing.{LeftRecord, AgreeingRotation, AgreeingNeighbo
 use Rattle.bztable.proofs.AcceptedCall.{call-accepted}
 
 -- ---- a record and what it was made of
-same-itself : (v : Vec ℤ) → same_vector v v ≡ true
-same-itself v = λ i. equal v.x i && (equal v.y i && equal v.z i)
-  where
-    equal : (x : ℤ) → same x x ≡ true
-    equal x = is_true (same x x) (same_refl x)
-
 pub agrees-itself : (d ps : List ℤ) (t : ℤ) → T (agrees (record { d = d; ps = ps; bz_grid_type = t }) d ps t)
 agrees-itself d ps t = holds (λ i. (same-itself (vector_of d) i && is_true (same t t) (same_refl t) i) && same-itself (vector_of ps) i)
 

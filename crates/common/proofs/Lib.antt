@@ -11,3 +11,4 @@ pub mod Nine
 pub mod Reading
 mod Examples
 pub mod RefusedBy
+pub mod Same

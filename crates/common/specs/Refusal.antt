@@ -4,7 +4,7 @@ use Rattle.common.specs.declared.Refusal.{Refusal}
 use Rattle.common.specs.declared.Refusal.TheVariants.{Singular, NotConverged, OutsideLimits, Overflow, SingularQ, SymmetryBroken}
 use Rattle.common.specs.declared.Refusal.TheVariants.{TooManyRotations, TooManyForInversion, BadGridType, NotUnimodularQ}
 use Rattle.common.specs.declared.Refusal.TheVariants.{SingularReciprocalLattice, SearchFailed, WrongLength, OutsideTable}
-use Rattle.common.specs.declared.Refusal.TheVariants.{BadHeader, OtherGrid, NotGroup, InvertedRange}
+use Rattle.common.specs.declared.Refusal.TheVariants.{BadHeader, OtherSizes, OtherGrid, NotGroup, InvertedRange}
 
 abbrev pub number_of : Refusal → ℕ
 -- `snf3x3`: the determinant is 0
@@ -37,6 +37,8 @@ number_of WrongLength = 13
 number_of OutsideTable = 14
 -- job file: wrong header
 number_of BadHeader = 15
+-- the lengths handed to `bz_grid_fill` are not those of its input
+number_of OtherSizes = 16
 -- a table's record has another diagonal, shift or type than the call
 number_of OtherGrid = 17
 -- the reciprocal step of the chain: identity missing, a repeat, a determinant other than 1 or -1, or a product not in the list

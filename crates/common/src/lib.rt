@@ -37,6 +37,7 @@ pub enum Refusal {
     WrongLength = 13,
     OutsideTable = 14,
     BadHeader = 15,
+    OtherSizes = 16,
     OtherGrid = 17,
     NotGroup = 18,
     InvertedRange = 20,

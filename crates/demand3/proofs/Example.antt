@@ -32,7 +32,7 @@ use Rattle.transform_rotations.specs.TransformRotations.{transform_rotations}
 use Rattle.bzgrid.specs.declared.Built.{Built}
 use Rattle.bzsearch.specs.Lattice.{bz_tolerance, lattice_det, dual_lengths_of}
 use Rattle.bzgrid.specs.declared.GridType.TheVariants.{Sparse, Dense}
-use Rattle.bzgrid.specs.BzGridAddresses.{bz_grid_addresses}
+use Rattle.bzgrid.specs.BzGridAddresses.{tables_told, bz_grid_addresses}
 use Rattle.triplet_grid.specs.IrTriplets.{ir_triplets_at_q}
 use Rattle.bz_triplets.specs.BzTriplets.{lqd_inv, squared_distance, triplets_in, bz_triplets_at_q}
 use Rattle.demand3.specs.FinishedList.{Given, as-it-stands, as-returned, Calls}
@@ -113,7 +113,7 @@ Builds type map b =
     × (map ≡ (bz_grid_addresses (items d) (rows q) shift lattice type 9 b.lengths.map 3).map)
 
 builds : Builds (pos 2) dense dense-built × Builds (pos 1) sparse sparse-built
-unfolding bz_grid_addresses index bz_tolerance lattice_det dual_lengths_of nint_of round_of floor_of ceil_of abs_of sqrt_of root size round add sub mul div neg lt le eq of_int of_bits to_signed
+unfolding bz_grid_addresses tables_told index bz_tolerance lattice_det dual_lengths_of nint_of round_of floor_of ceil_of abs_of sqrt_of root size round add sub mul div neg lt le eq of_int of_bits to_signed
 builds = ((refl, refl, refl), (refl, refl, refl))
 
 -- ---- classes

@@ -17,7 +17,7 @@ use Rattle.recip_rotations.specs.PointGroup.{with_negatives}
 use Rattle.bzgrid.specs.declared.Built.{Built}
 use Rattle.bzgrid.specs.declared.GridType.TheVariants.{Sparse}
 use Rattle.bzsearch.specs.Lattice.{bz_tolerance, lattice_det, dual_lengths_of}
-use Rattle.bzgrid.specs.BzGridAddresses.{bz_grid_addresses}
+use Rattle.bzgrid.specs.BzGridAddresses.{tables_told, bz_grid_addresses}
 use Rattle.triplet_grid.specs.IrTriplets.{ir_triplets_at_q}
 use Rattle.bz_triplets.specs.BzTriplets.{lqd_inv, squared_distance, triplets_in, bz_triplets_at_q}
 use Rattle.demand3.specs.FinishedList.{as-it-stands, Calls, FinishedList}
@@ -42,7 +42,7 @@ built = record { lengths = record { addresses = 12; map = 28; grg = 4 }; table =
 builds : ((bz_grid_addresses (items d) (rows q) half-step lattice (pos 1) 12 28 4).answer ≡ Ok built)
     × (addresses ≡ (bz_grid_addresses (items d) (rows q) half-step lattice (pos 1) 12 28 4).addresses)
     × (map ≡ (bz_grid_addresses (items d) (rows q) half-step lattice (pos 1) 12 28 4).map)
-unfolding bz_grid_addresses index bz_tolerance lattice_det dual_lengths_of nint_of round_of floor_of ceil_of abs_of sqrt_of root size round add sub mul div neg lt le eq of_int of_bits to_signed
+unfolding bz_grid_addresses tables_told index bz_tolerance lattice_det dual_lengths_of nint_of round_of floor_of ceil_of abs_of sqrt_of root size round add sub mul div neg lt le eq of_int of_bits to_signed
 builds = (refl, refl, refl)
 
 abbrev classes : List ℤ

@@ -12,6 +12,7 @@ use Rattle.integer.proofs.Same.{same-eq, same_refl}
 use Rattle.integer.proofs.Test.{holds, is_true, is_false}
 use Rattle.common.specs.Matrix.{Vec, side, same_vector}
 use Rattle.common.proofs.Matrix.{axes-of, all-axes, same-vector}
+use Rattle.common.proofs.Same.{same-itself, same-vectors}
 use Rattle.common.proofs.Every.{every_of, of-every, some_of, of_some}
 use Rattle.mark_candidates.specs.InnerProducts.{Ranges, ordered, NeverLonger, Shorter, Narrower, corner, never_longer, shorter}
 use Rattle.mark_candidates.specs.MarkCandidates.{NearestForCertain, BeatenForCertain, nearest, beaten, mark}
@@ -22,8 +23,8 @@ equal_or_not : (v w : Vec ℤ) → (v ≡ w) ⊎ (¬ (v ≡ w))
 equal_or_not v w = go (same_vector v w) refl
   where
     go : (t : Bool) → same_vector v w ≡ t → (v ≡ w) ⊎ (¬ (v ≡ w))
-    go true e = inl (same-vector {f = side v} {g = side w} (λ k. same-eq (side v k) (side w k) (axes-of (λ k. same (side v k) (side w k)) (holds e) k)))
-    go false e = inr (λ p. subst T (ap (λ u. same_vector v u) p ∙ e) (all-axes (λ k. same (side v k) (side v k)) (λ k. same_refl (side v k))))
+    go true e = inl (same-vectors v w (holds e))
+    go false e = inr (λ p. subst T (ap (λ u. same_vector v u) p ∙ e) (holds (same-itself v)))
 
 module _ (r : Ranges) (at : Vec ℤ → Vec ℤ) (ms : List (Vec ℤ)) (m : Vec ℤ) (t : T (ordered r)) where
   -- ---- the tests and the words

@@ -13,6 +13,8 @@ use std::io;
 fn main(rt: HostRuntime) -> io::Result<()> {
     let mut n = [0; 4096];
     replay(&rt, "bz_grid_addresses", &mut n, tables::bz_grid_addresses)?;
+    replay(&rt, "bz_grid_sizes", &mut n, tables::bz_grid_sizes)?;
+    replay(&rt, "bz_grid_fill", &mut n, tables::bz_grid_fill)?;
     replay(
         &rt,
         "rotate_bz_grid_index",

@@ -1,16 +1,16 @@
-// One case of the call that writes the tables of images.
+// One case of the calls that make the tables of images, or tell their lengths.
 use vectors::compared::Compared;
 use vectors::{UNWRITTEN, Verdict, floats, slices};
 
-// Three slices, the lattice, the type, the answer, the tables, which are lent with the lengths that the line
-// has, and ten numbers told.
-pub fn bz_grid_addresses(line: &[i64]) -> Option<Verdict> {
-    let (d, line) = slices::split(line);
-    let (q, line) = slices::split(line);
-    let (ps, line) = slices::split(line);
-    let mut lattice = [0.0; 16];
-    let (lattice, line) = floats::read(line, &mut lattice)?;
-    let (bz_grid_type, line) = line.split_first()?;
+// The answer, the tables, which are lent with the lengths that the line has, and ten numbers told.
+fn made<F: Fn(&mut [i64], &mut [i64], &mut [i64], &mut [i64]) -> i64>(
+    line: &[i64],
+    call: F,
+) -> Verdict
+where
+    F: Drop,
+    requires { F.IsAlwaysCallable call }
+{
     let first = slices::after_answer(line);
     let second = slices::after_output(first);
     let third = slices::after_output(second);
@@ -21,24 +21,63 @@ pub fn bz_grid_addresses(line: &[i64]) -> Option<Verdict> {
     let mut grg = [UNWRITTEN; 2048];
     let grg = slices::lent(third, &mut grg);
     let mut told = [UNWRITTEN; 10];
-    let answer = zone_c::zone_bz_grid_addresses(
-        d,
-        q,
-        ps,
-        lattice,
-        *bz_grid_type,
-        addresses,
-        map,
-        grg,
-        &mut told,
-    );
-    Some(
-        Compared::with(line)
-            .number(answer)
-            .output(addresses)
-            .output(map)
-            .output(grg)
-            .numbers(&told)
-            .verdict(),
-    )
+    let answer = call(addresses, map, grg, &mut told);
+    Compared::with(line)
+        .number(answer)
+        .output(addresses)
+        .output(map)
+        .output(grg)
+        .numbers(&told)
+        .verdict()
+}
+
+// Three slices, the lattice and the type, then what is made.
+pub fn bz_grid_addresses(line: &[i64]) -> Option<Verdict> {
+    let (d, line) = slices::split(line);
+    let (q, line) = slices::split(line);
+    let (ps, line) = slices::split(line);
+    let mut lattice = [0.0; 16];
+    let (lattice, line) = floats::read(line, &mut lattice)?;
+    let (bz_grid_type, line) = line.split_first()?;
+    Some(made(line, |addresses, map, grg, told| {
+        zone_c::zone_bz_grid_addresses(d, q, ps, lattice, *bz_grid_type, addresses, map, grg, told)
+    }))
+}
+
+// The same with the three lengths, a slice, after the type.
+pub fn bz_grid_fill(line: &[i64]) -> Option<Verdict> {
+    let (d, line) = slices::split(line);
+    let (q, line) = slices::split(line);
+    let (ps, line) = slices::split(line);
+    let mut lattice = [0.0; 16];
+    let (lattice, line) = floats::read(line, &mut lattice)?;
+    let (bz_grid_type, line) = line.split_first()?;
+    let (sizes, line) = slices::split(line);
+    Some(made(line, |addresses, map, grg, told| {
+        zone_c::zone_bz_grid_fill(
+            d,
+            q,
+            ps,
+            lattice,
+            *bz_grid_type,
+            sizes,
+            addresses,
+            map,
+            grg,
+            told,
+        )
+    }))
+}
+
+// Three slices, the lattice, the type, the answer and the three lengths.
+pub fn bz_grid_sizes(line: &[i64]) -> Option<Verdict> {
+    let (d, line) = slices::split(line);
+    let (q, line) = slices::split(line);
+    let (ps, line) = slices::split(line);
+    let mut lattice = [0.0; 16];
+    let (lattice, line) = floats::read(line, &mut lattice)?;
+    let (bz_grid_type, line) = line.split_first()?;
+    let mut told = [UNWRITTEN; 3];
+    let answer = zone_c::zone_bz_grid_sizes(d, q, ps, lattice, *bz_grid_type, &mut told);
+    Some(Compared::with(line).number(answer).numbers(&told).verdict())
 }

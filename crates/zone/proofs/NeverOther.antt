@@ -8,7 +8,7 @@ use lib.Dec.{T, eqb, leb}
 use lib.IntN.{ℤ, pos}
 use lib.Ieee.{Float}
 use lib.ListN.{length}
-use Rattle.std.specs.Prelude.{Result, Ok, Err}
+use Rattle.std.specs.Prelude.{None, Result, Ok, Err}
 use Rattle.integer.specs.Same.{same}
 use Rattle.common.specs.Matrix.{Mat}
 use Rattle.common.specs.Array.{vector_of, sides_of, matrix_of, matrices}
@@ -92,17 +92,17 @@ by-rotations l time d q =
 by-type : (t : ℤ) → RefusedBy P (grid_type_of t)
 by-type t = by-case P (same t (pos 1)) (given P) (by-case P (same t (pos 2)) (given P) (by P tt))
 
-by-tables : (k : Result GridType Refusal) (s : Search) (a b c : ℕ) → RefusedBy P k → RefusedBy P (built_for k s a b c).answer
+by-tables : (k : Result GridType Refusal) (s : Search) (a b c : ℕ) → RefusedBy P k → RefusedBy P (built_for k s None a b c).answer
 unfolding built build_tests
 by-tables (Ok k) s a b c h =
-    by-giving P (build_tests k s a b c) _
+    by-giving P (build_tests k s None a b c) _
     (by-test P (all_found (images_at s) (size s.d)) tt (by-test P (has_room (lengths_of k s.d (images_at s)) a b c) tt (given P)))
 by-tables (Err r) s a b c h = by P (h.only r refl)
 
 by-images : (d : List ℤ) (q : List (List ℤ)) (ps : List ℤ) (lattice : List (List Float)) (t : ℤ) (a b c : ℕ) → RefusedBy P (bz_grid_addresses d q ps lattice t a b c).answer
-unfolding bz_grid_addresses image.input_tests
+unfolding bz_grid_addresses image.tables_told image.input_tests
 by-images d q ps lattice t a b c =
-    by-then P (built_for (image.input_tests d q ps lattice t) (search_of d q ps lattice) a b c).answer
+    by-then P (built_for (image.input_tests d q ps lattice t) (search_of d q ps lattice) None a b c).answer
     (by-tables (image.input_tests d q ps lattice t) (search_of d q ps lattice) a b c
     (by-test P (within_limits d q ps lattice) tt
     (by-then P (grid_type_of t) (by-type t) (λ k.

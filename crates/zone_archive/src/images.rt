@@ -1,6 +1,6 @@
 // The exports of bzgrid.
 ghost use Rattle.std.specs.Prelude.{◌≡◌, length};
-ghost use Rattle.answers.specs.Images.{zone_bz_grid_addresses, zone_rotate_bz_grid_index, zone_neighboring_grid_points};
+ghost use Rattle.answers.specs.Images.{zone_bz_grid_addresses, zone_bz_grid_fill, zone_bz_grid_sizes, zone_rotate_bz_grid_index, zone_neighboring_grid_points};
 
 #[unsafe(no_mangle)]
 pub extern "C" fn zone_bz_grid_addresses(
@@ -18,6 +18,50 @@ pub extern "C" fn zone_bz_grid_addresses(
         ≡ zone_bz_grid_addresses d.now q.now ps.now lattice.now bz_grid_type (length addresses.old) (length map.old) (length grg.old) (length told.old) }
 {
     zone_c::zone_bz_grid_addresses(d, q, ps, lattice, bz_grid_type, addresses, map, grg, told)
+}
+
+#[unsafe(no_mangle)]
+pub extern "C" fn zone_bz_grid_sizes(
+    d: &[i64],
+    q: &[i64],
+    ps: &[i64],
+    lattice: &[f64],
+    bz_grid_type: i64,
+    told: &mut [i64],
+) -> i64
+    ensures { record { answer = result; told = told.new } ≡ zone_bz_grid_sizes d.now q.now ps.now lattice.now bz_grid_type (length told.old) }
+{
+    zone_c::zone_bz_grid_sizes(d, q, ps, lattice, bz_grid_type, told)
+}
+
+#[unsafe(no_mangle)]
+pub extern "C" fn zone_bz_grid_fill(
+    d: &[i64],
+    q: &[i64],
+    ps: &[i64],
+    lattice: &[f64],
+    bz_grid_type: i64,
+    sizes: &[i64],
+    addresses: &mut [i64],
+    map: &mut [i64],
+    grg: &mut [i64],
+    told: &mut [i64],
+) -> i64
+    ensures { record { answer = result; addresses = addresses.new; map = map.new; grg = grg.new; told = told.new }
+        ≡ zone_bz_grid_fill d.now q.now ps.now lattice.now bz_grid_type sizes.now (length addresses.old) (length map.old) (length grg.old) (length told.old) }
+{
+    zone_c::zone_bz_grid_fill(
+        d,
+        q,
+        ps,
+        lattice,
+        bz_grid_type,
+        sizes,
+        addresses,
+        map,
+        grg,
+        told,
+    )
 }
 
 #[unsafe(no_mangle)]

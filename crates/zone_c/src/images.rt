@@ -1,6 +1,6 @@
 // The exports of bzgrid.
 ghost use Rattle.std.specs.Prelude.{◌≡◌, length};
-ghost use Rattle.answers.specs.Images.{zone_bz_grid_addresses, zone_rotate_bz_grid_index, zone_neighboring_grid_points};
+ghost use Rattle.answers.specs.Images.{zone_bz_grid_addresses, zone_bz_grid_fill, zone_bz_grid_sizes, zone_rotate_bz_grid_index, zone_neighboring_grid_points};
 
 pub fn zone_bz_grid_addresses(
     d: &[i64],
@@ -16,7 +16,7 @@ pub fn zone_bz_grid_addresses(
     ensures { record { answer = result; addresses = addresses.new; map = map.new; grg = grg.new; told = told.new }
         ≡ zone_bz_grid_addresses d.now q.now ps.now lattice.now bz_grid_type (length addresses.old) (length map.old) (length grg.old) (length told.old) }
 {
-    if !answers::image_lengths(d.len(), q.len(), ps.len(), lattice.len(), told.len()) {
+    if !answers::image_lengths(d.len(), q.len(), ps.len(), lattice.len(), told.len(), 10) {
         return answers::refuse_four(addresses, map, grg, told);
     }
     answers::tell_built(
@@ -26,6 +26,67 @@ pub fn zone_bz_grid_addresses(
             common::row_at(ps, 0),
             answers::lattice_at(lattice),
             bz_grid_type,
+            addresses,
+            map,
+            grg,
+        ),
+        told,
+    )
+}
+
+pub fn zone_bz_grid_sizes(
+    d: &[i64],
+    q: &[i64],
+    ps: &[i64],
+    lattice: &[f64],
+    bz_grid_type: i64,
+    told: &mut [i64],
+) -> i64
+    ensures { record { answer = result; told = told.new } ≡ zone_bz_grid_sizes d.now q.now ps.now lattice.now bz_grid_type (length told.old) }
+{
+    if !answers::image_lengths(d.len(), q.len(), ps.len(), lattice.len(), told.len(), 3) {
+        return answers::refuse(told);
+    }
+    answers::tell_sizes(
+        bzgrid::bz_grid_sizes(
+            common::row_at(d, 0),
+            common::matrix_at(q, 0),
+            common::row_at(ps, 0),
+            answers::lattice_at(lattice),
+            bz_grid_type,
+        ),
+        told,
+    )
+}
+
+pub fn zone_bz_grid_fill(
+    d: &[i64],
+    q: &[i64],
+    ps: &[i64],
+    lattice: &[f64],
+    bz_grid_type: i64,
+    sizes: &[i64],
+    addresses: &mut [i64],
+    map: &mut [i64],
+    grg: &mut [i64],
+    told: &mut [i64],
+) -> i64
+    ensures { record { answer = result; addresses = addresses.new; map = map.new; grg = grg.new; told = told.new }
+        ≡ zone_bz_grid_fill d.now q.now ps.now lattice.now bz_grid_type sizes.now (length addresses.old) (length map.old) (length grg.old) (length told.old) }
+{
+    if sizes.len() != 3
+        || !answers::image_lengths(d.len(), q.len(), ps.len(), lattice.len(), told.len(), 10)
+    {
+        return answers::refuse_four(addresses, map, grg, told);
+    }
+    answers::tell_built(
+        bzgrid::bz_grid_fill(
+            common::row_at(d, 0),
+            common::matrix_at(q, 0),
+            common::row_at(ps, 0),
+            answers::lattice_at(lattice),
+            bz_grid_type,
+            common::row_at(sizes, 0),
             addresses,
             map,
             grg,

@@ -19,7 +19,10 @@ pub use form::{zone_hermite3x3, zone_order_forms, zone_same_grid};
 pub use grid::{
     zone_all_grid_addresses, zone_grid_index_from_address, zone_ir_grid_map, zone_rotate_grid_index,
 };
-pub use images::{zone_bz_grid_addresses, zone_neighboring_grid_points, zone_rotate_bz_grid_index};
+pub use images::{
+    zone_bz_grid_addresses, zone_bz_grid_fill, zone_bz_grid_sizes, zone_neighboring_grid_points,
+    zone_rotate_bz_grid_index,
+};
 pub use list::zone_list;
 pub use marks::zone_mark_candidates;
 pub use pair::zone_worst_pair;

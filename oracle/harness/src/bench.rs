@@ -49,8 +49,16 @@ pub fn run<F: Timed>() -> Times {
     run_on::<F>(F::Input::typical)
 }
 
-/// The sides take turns, so that a disturbance meets both.
 pub fn run_on<F: Timed>(input: fn(&mut Random) -> F::Input) -> Times {
+    beside::<F>(input, F::bare)
+}
+
+/// The times beside another call than the bare one. The sides take turns, so that a
+/// disturbance meets both.
+pub fn beside<F: Timed>(
+    input: fn(&mut Random) -> F::Input,
+    other: fn(&F::Input) -> Call<'_>,
+) -> Times {
     let mut random = Random::new(1);
     let inputs: Vec<F::Input> = (0..F::INPUTS).map(|_| input(&mut random)).collect();
     let mut lent = Vec::new();
@@ -58,7 +66,7 @@ pub fn run_on<F: Timed>(input: fn(&mut Random) -> F::Input) -> Times {
     for input in &inputs {
         let place = place(&mut lent, accepted::<F>(input));
         port.push((F::export(input), place));
-        rust.push((F::bare(input), place));
+        rust.push((other(input), place));
     }
     let mut rounds = 1;
     while time(&port, &mut lent, rounds) < REPETITION {

@@ -5,6 +5,8 @@
 pub mod arguments;
 pub mod bench;
 pub mod bz_grid_addresses;
+pub mod bz_grid_fill;
+pub mod bz_grid_sizes;
 pub mod bz_triplets_at_q;
 pub mod chain;
 pub mod class_sheet;

@@ -17,6 +17,7 @@ pub const SEARCH_RANGE: i64 = 12;
 pub const WRONG_LENGTH: i64 = 13;
 pub const BAD_INDEX: i64 = 14;
 pub const WRONG_HEADER: i64 = 15;
+pub const OTHER_SIZES: i64 = 16;
 pub const OTHER_GRID: i64 = 17;
 pub const NOT_GROUP: i64 = 18;
 pub const INVERTED_RANGE: i64 = 20;

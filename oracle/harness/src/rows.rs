@@ -2,13 +2,15 @@
 
 use crate::bench::{self, Timed, Times};
 use crate::bz_grid_addresses::*;
+use crate::bz_grid_fill::*;
+use crate::bz_grid_sizes::*;
 use crate::bz_triplets_at_q::*;
 use crate::chain::*;
 use crate::class_sheet::*;
 use crate::class_weights::*;
 use crate::extended_gcd::*;
 use crate::floats::*;
-use crate::function::Function;
+use crate::function::{Function, Input};
 use crate::grgrid::*;
 use crate::grid_index_from_address::*;
 use crate::hermite3x3::*;
@@ -18,6 +20,7 @@ use crate::inputs::lent_marks::MarksInput;
 use crate::inputs::lent_neighbours::NeighboursInput;
 use crate::inputs::lent_rotations::RotateInput;
 use crate::inputs::lent_sheets::SheetInput;
+use crate::inputs::lent_sizes::{FillInput, SizesInput};
 use crate::inputs::lent_triplets::TripletsInput;
 use crate::integers::*;
 use crate::ir_triplets_at_q::*;
@@ -140,6 +143,8 @@ pub static ROWS: &[Row] = &[
     Row::replayed::<WorstPair>("worst_pair"),
     Row::call::<TransformRotations>("transform_rotations"),
     Row::call::<BzGridAddresses>("bz_grid_addresses"),
+    Row::apart::<BzGridSizes>("bz_grid_sizes"),
+    Row::apart::<BzGridFill>("bz_grid_fill"),
     Row::apart::<MarkCandidates>("mark_candidates"),
     Row::call::<RotateBzGridIndex>("rotate_bz_grid_index"),
     Row::call::<NeighboringGridPoints>("neighboring_grid_points"),
@@ -163,9 +168,11 @@ pub static VARIANTS: &[Variant] = &[
     ("smith3x3:to_10", || {
         bench::run_on::<Smith3x3>(SmithInput::small)
     }),
-    ("smith3x3:over_snf3x3", bench::run::<OverSnf3x3>),
+    ("smith3x3:over_snf3x3", || {
+        bench::beside::<Smith3x3>(SmithInput::typical, over_snf3x3)
+    }),
     ("smith3x3:over_snf3x3_to_10", || {
-        bench::run_on::<OverSnf3x3>(SmithInput::small)
+        bench::beside::<Smith3x3>(SmithInput::small, over_snf3x3)
     }),
     ("hermite3x3:to_10", || {
         bench::run_on::<Hermite3x3>(HermiteInput::small)
@@ -175,6 +182,12 @@ pub static VARIANTS: &[Variant] = &[
     }),
     ("bz_grid_addresses:type_2", || {
         bench::run_on::<BzGridAddresses>(ImagesInput::dense)
+    }),
+    ("bz_grid_sizes:over_addresses", || {
+        bench::beside::<BzGridSizes>(SizesInput::typical, sizes_over_addresses)
+    }),
+    ("bz_grid_fill:over_addresses", || {
+        bench::beside::<BzGridFill>(FillInput::typical, fill_over_addresses)
     }),
     ("mark_candidates:open", || {
         bench::run_on::<MarkCandidates>(MarksInput::open)

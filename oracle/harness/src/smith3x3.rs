@@ -139,34 +139,14 @@ impl Timed for Smith3x3 {
     }
 }
 
-/// The export beside that of `snf3x3`, which stands where the Rust does elsewhere.
-pub struct OverSnf3x3;
-
-impl Function for OverSnf3x3 {
-    type Input = SmithInput;
-
-    fn outputs(input: &SmithInput) -> Outputs {
-        Smith3x3::outputs(input)
-    }
-
-    fn port(input: &SmithInput, outputs: &mut Outputs) -> i64 {
-        Smith3x3::port(input, outputs)
-    }
-
-    fn oracle(input: &SmithInput, outputs: &mut Outputs) -> i64 {
-        Smith3x3::oracle(input, outputs)
-    }
-}
-
-impl Timed for OverSnf3x3 {
-    fn bare(input: &SmithInput) -> Call<'_> {
-        call(input, |input, outputs| {
-            let [d, p, q] = &mut outputs.slices[..] else {
-                panic!("three slices");
-            };
-            port::snf3x3(&input.a, d, p, q, &mut [0])
-        })
-    }
+/// The port's export of `snf3x3`, which stands where the Rust does elsewhere.
+pub fn over_snf3x3(input: &SmithInput) -> Call<'_> {
+    call(input, |input, outputs| {
+        let [d, p, q] = &mut outputs.slices[..] else {
+            panic!("three slices");
+        };
+        port::snf3x3(&input.a, d, p, q, &mut [0])
+    })
 }
 
 #[cfg(test)]

@@ -14,4 +14,4 @@ returns-in-Err c =
     let z : length f.new.grg ≡ length a.grg.now = search rules in
     let w = c.wipe.ensures in
     (λ i. record { answer = Err c.in-Err.r; addresses = (w.addresses_after ∙ ap blank x) i; map = (w.map_after ∙ ap blank y) i; grg = (w.grg_after ∙ ap blank z) i })
-    ∙ refused a.t (search_view a.s) (length a.addresses.now) (length a.map.now) (length a.grg.now) (sym c.in-Err.is ∙ f.ensures.value)
+    ∙ refused a.t (search_view a.s) a.told (length a.addresses.now) (length a.map.now) (length a.grg.now) (sym c.in-Err.is ∙ f.ensures.value)

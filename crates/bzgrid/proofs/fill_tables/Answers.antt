@@ -23,25 +23,25 @@ returns-in_err-m-clause-value c =
     let e : c.from_residual.result ≡ Err c.in_err-m.field-0.0 = search rules in
     let n : c.walk_points.result ≡ None = c.in_err-m.ensures.ok_part in
     e ∙ ap Err (same-refusal (c.in_err-m.ensures.value ∙ ap (λ o. ok_or o SearchFailed) n))
-    ∙ failed a.t (search_view a.s) (length a.addresses.now) (length a.map.now) (length a.grg.now) c.is_sparse-sparse.ensures (c.points.ensures ∙ ap size c.grid_of-g.ensures) (sym n ∙ c.walk_points.ensures.value)
+    ∙ failed a.t (search_view a.s) a.told (length a.addresses.now) (length a.map.now) (length a.grg.now) c.is_sparse-sparse.ensures (c.points.ensures ∙ ap size c.grid_of-g.ensures) (sym n ∙ c.walk_points.ensures.value)
 
 -- the lengths of the outputs are as they were
-told : (c : After-finish) → let a = c.args in c.finish.result ≡ judged (lengths_for c.is_sparse-sparse.result c.points.result c.in_ok-m.m) (length a.addresses.now) (length a.map.now) (length a.grg.now)
+told : (c : After-finish) → let a = c.args in c.finish.result ≡ judged a.told (lengths_for c.is_sparse-sparse.result c.points.result c.in_ok-m.m) (length a.addresses.now) (length a.map.now) (length a.grg.now)
 told c =
     let a = c.args in
     let x : length c.walk_points.new.addresses ≡ length a.addresses.now = search rules in
     let y : length c.walk_points.new.map ≡ length a.map.now = search rules in
     let z : length c.walk_points.new.grg ≡ length a.grg.now = search rules in
-    c.finish.ensures.value ∙ (λ i. judged (lengths_for c.is_sparse-sparse.result (sym c.points.ensures i) c.in_ok-m.m) (x i) (y i) (z i))
+    c.finish.ensures.value ∙ (λ i. judged a.told (lengths_for c.is_sparse-sparse.result (sym c.points.ensures i) c.in_ok-m.m) (x i) (y i) (z i))
 
 pub returns-clause-value : goal.returns-clause-value
 returns-clause-value c =
     let a = c.args in
     told (goal.at.returns-clause-value c).After-finish
-    ∙ answered a.t (search_view a.s) (length a.addresses.now) (length a.map.now) (length a.grg.now) c.is_sparse-sparse.ensures (c.points.ensures ∙ ap size c.grid_of-g.ensures) (sym c.in_ok-m.ensures.ok_part ∙ c.walk_points.ensures.value)
+    ∙ answered a.t (search_view a.s) a.told (length a.addresses.now) (length a.map.now) (length a.grg.now) c.is_sparse-sparse.ensures (c.points.ensures ∙ ap size c.grid_of-g.ensures) (sym c.in_ok-m.ensures.ok_part ∙ c.walk_points.ensures.value)
 
 pub returns-clause-filled : goal.returns-clause-filled
 returns-clause-filled c =
     let a = c.args in
-    filled a.t (search_view a.s) (length a.addresses.now) (length a.map.now) (length a.grg.now) c.is_sparse-sparse.ensures (c.points.ensures ∙ ap size c.grid_of-g.ensures) (sym c.in_ok-m.ensures.ok_part ∙ c.walk_points.ensures.value)
+    filled a.t (search_view a.s) a.told (length a.addresses.now) (length a.map.now) (length a.grg.now) c.is_sparse-sparse.ensures (c.points.ensures ∙ ap size c.grid_of-g.ensures) (sym c.in_ok-m.ensures.ok_part ∙ c.walk_points.ensures.value)
     c.finish.new.map c.walk_points.ensures.written_to (ap doubled c.grid_of-g.ensures) c.finish.result (told (goal.at.returns-clause-filled c).After-finish) c.finish.ensures.map_after

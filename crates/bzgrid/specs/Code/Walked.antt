@@ -1,14 +1,15 @@
 -- What a walk over all points leaves.
-use Rattle.std.specs.Prelude.{◌≡◌, Bool, List, ℕ, suc, ◌+◌, ◌*◌, ◌≤◌, ℤ, negsuc, length, replicate, Result, Ok, Err, Option, Some, None, cond}
+use Rattle.std.specs.Prelude.{◌≡◌, Bool, List, ℕ, suc, ◌+◌, ◌*◌, ◌≤◌, ℤ, negsuc, length, replicate, Result, Ok, Option, Some, None, cond}
+use Rattle.common.specs.Tested.{require}
 use Rattle.common.specs.declared.Refusal.{Refusal}
-use Rattle.common.specs.declared.Refusal.TheVariants.{WrongLength}
+use Rattle.common.specs.declared.Refusal.TheVariants.{OtherSizes, WrongLength}
 use Rattle.common.specs.Matrix.{Vec}
 use Rattle.grgrid.specs.Grid.{size}
 use Rattle.grgrid.specs.Sides.{GridFits}
 use Rattle.bzgrid.specs.declared.Lengths.{Lengths}
 use Rattle.grgrid.specs.Build.{concat}
 use Rattle.bzgrid.specs.Table.{Image, others, doubled}
-use Rattle.bzgrid.specs.BzGridAddresses.{all_found, has_room}
+use Rattle.bzgrid.specs.BzGridAddresses.{all_found, as_told, has_room}
 use Rattle.bzgrid.specs.Code.Writing.{Tables, tables, if_sparse, written, counted}
 
 -- the images of a point that do not stand at its own place
@@ -44,8 +45,8 @@ pub record WrittenTo (sparse : Bool) (g : ℕ → List Image) (n base : ℕ) (a 
 abbrev pub lengths_for : Bool → ℕ → ℕ → Lengths
 lengths_for sparse n m = record { addresses = 3 * m; map = if_sparse sparse (8 * n) + (n + 1); grg = m }
 
-abbrev pub judged : Lengths → ℕ → ℕ → ℕ → Result Lengths Refusal
-judged l x y z = cond (has_room l x y z) (Ok l) (Err WrongLength)
+abbrev pub judged : Option (List ℤ) → Lengths → ℕ → ℕ → ℕ → Result Lengths Refusal
+judged n l x y z = require (as_told n l) OtherSizes (require (has_room l x y z) WrongLength (Ok l))
 
 -- a grid within the limits, and its doubled mesh
 pub record MeshFits (d : Vec ℕ) : Type 0 where

@@ -36,6 +36,11 @@ impl ImagesInput {
         ImagesInput::of(&images::typical(random, DENSE))
     }
 
+    /// Those at the limits that differ in the ins, for a call that is lent no outputs.
+    pub fn ins_at_limits() -> Vec<ImagesInput> {
+        [exact(), lengths()].concat()
+    }
+
     /// With outputs of the lengths that the call tells.
     pub fn of(given: &Images) -> ImagesInput {
         let input = ImagesInput::with(given, FEW);
@@ -295,14 +300,15 @@ fn places() -> Vec<ImagesInput> {
     inputs
 }
 
+/// Of every kind, with outputs of the lengths that the call tells.
+fn exact() -> Vec<ImagesInput> {
+    let kinds = [small(), wide(), searches(), refused(), grids_at_limits()];
+    kinds.iter().flatten().map(ImagesInput::of).collect()
+}
+
 impl Input for ImagesInput {
     fn at_limits() -> Vec<ImagesInput> {
-        let kinds = [small(), wide(), searches(), refused(), grids_at_limits()];
-        let images = kinds.iter().flatten();
-        let mut inputs: Vec<ImagesInput> = images.map(ImagesInput::of).collect();
-        inputs.extend(places());
-        inputs.extend(lengths());
-        inputs
+        [exact(), places(), lengths()].concat()
     }
 
     fn random(random: &mut Random) -> ImagesInput {

@@ -17,6 +17,7 @@ pub mod lent_marks;
 pub mod lent_neighbours;
 pub mod lent_rotations;
 pub mod lent_sheets;
+pub mod lent_sizes;
 pub mod lent_transforms;
 pub mod lent_triplets;
 pub mod lent_weights;

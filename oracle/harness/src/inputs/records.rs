@@ -65,7 +65,7 @@ pub fn change(random: &mut Random, record: &mut Vec<i64>) {
 }
 
 /// A number beside it, one that has its low bits or its size, or any.
-fn other(random: &mut Random, number: i64) -> i64 {
+pub fn other(random: &mut Random, number: i64) -> i64 {
     match random.below(4) {
         0 => number.wrapping_add(random.pick(&[1, -1, 2, -2])),
         1 => number ^ 1 << random.pick(&[8, 16, 31, 32, 40, 62, 63]),
@@ -74,7 +74,7 @@ fn other(random: &mut Random, number: i64) -> i64 {
     }
 }
 
-fn any(random: &mut Random) -> i64 {
+pub fn any(random: &mut Random) -> i64 {
     match random.below(3) {
         0 => random.pick(&[0, -1, i64::MIN, i64::MAX]),
         1 => random.between(0, 4),

@@ -4,7 +4,7 @@ use borrow.Author.Rules.{rules}
 use Rattle.bzgrid.specs.declared.Built.{Built}
 use Rattle.bzgrid.specs.BzGridAddresses.{BzGridAddresses}
 use Rattle.answers.proofs.Entries.{three-entries}
-use Rattle.answers.proofs.ToldFits.{lengths-fit}
+use Rattle.answers.proofs.ToldFits.{images-fit}
 use Rattle.zone_c.proofs.images.zone_bz_grid_addresses.Goals as goal
 
 pub row_at-requires-2 : goal.row_at-requires-2
@@ -15,7 +15,7 @@ lattice_at-requires c = search rules
 
 pub tell_built-requires-clause-fact_2 : goal.tell_built-requires-clause-fact_2
 tell_built-requires-clause-fact_2 c =
-    lengths-fit _ _ _ _ _ _ _ _ _ (search rules) (search rules) (search rules) (ap (λ (o : BzGridAddresses Built). o.answer) c.bz_grid_addresses.ensures)
+    images-fit _ _ _ _ _ _ _ _ _ (ap (λ (o : BzGridAddresses Built). o.answer) c.bz_grid_addresses.ensures)
 
 pub returns : goal.returns
 returns c =

@@ -45,8 +45,8 @@
  *   reciprocal     R transposed acts on q; zone_transform_rotations takes this list, the told part of those calls'
  *                  output (9 * told[0] places)
  *   transformed    M = D·Q⁻¹·R·Q·D⁻¹, for each R of the reciprocal list, acts on addresses; zone_ir_grid_map,
- *                  zone_class_weights, zone_ir_triplets_at_q and zone_rotate_bz_grid_index take this list, or a matrix
- *                  of it
+ *                  zone_class_weights and zone_ir_triplets_at_q take this list, zone_rotate_grid_index,
+ *                  zone_rotate_bz_grid_index and zone_rotate_bz_grid_indices a matrix of it
  *
  * No call can tell one of these lists from another. A list is a group if it holds the identity, no matrix twice, only
  * determinants of 1 and -1, and every product of two. For other lists a class map need not be one of classes:
@@ -337,6 +337,18 @@ int64_t zone_rotate_bz_grid_index(int64_t index, const int64_t *rotation, size_t
                                   const int64_t *table, size_t table_len, const int64_t *d, size_t d_len,
                                   const int64_t *ps, size_t ps_len, int64_t bz_grid_type, int64_t *told,
                                   size_t told_len);
+
+/* The same of many images of one table, by one rotation: a burst of points. In: indices, any number of them, also none,
+ * repeated or not; the rest as above. Out, each as long as indices: out has in each place what told[0] above is for the
+ * index in that place, fallbacks what told[1] is. One index that is refused refuses the whole call, by the refusal of
+ * the first such (proved). Without an index nothing is read, and 13, 3, 9 and 17 are given all the same. Refusals: 13,
+ * 3, 9, 17 as above, 14. */
+int64_t zone_rotate_bz_grid_indices(const int64_t *indices, size_t indices_len, const int64_t *rotation,
+                                    size_t rotation_len, const int64_t *addresses, size_t addresses_len,
+                                    const int64_t *map, size_t map_len, const int64_t *table, size_t table_len,
+                                    const int64_t *d, size_t d_len, const int64_t *ps, size_t ps_len,
+                                    int64_t bz_grid_type, int64_t *out, size_t out_len, int64_t *fallbacks,
+                                    size_t fallbacks_len);
 
 /* The neighbours of images. In: points, which are image indices of the table; offsets, three numbers each, that are
  * added to their addresses; addresses, map and their record table[7]; d[3], the type. Out: a place for each pair, all

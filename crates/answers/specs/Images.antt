@@ -11,8 +11,8 @@ use Rattle.bzgrid.specs.declared.Built.{Built}
 use Rattle.bzgrid.specs.BzGridAddresses.{bz_grid_addresses, bz_grid_fill, bz_grid_sizes}
 use Rattle.bzgrid.specs.KnownSizes.{numbers}
 use Rattle.bztable.specs.declared.rotate.Rotated.{Rotated}
-use Rattle.bztable.specs.declared.rotate.Rotated.TheVariants as rotated
 use Rattle.bztable.specs.Rotate.{rotate_bz_grid_index}
+use Rattle.bztable.specs.Burst.{place_told, fallback_told, rotate_bz_grid_indices}
 use Rattle.bztable.specs.Neighbours.{neighboring_grid_points_many}
 
 -- ---- image tables
@@ -78,8 +78,7 @@ zone_bz_grid_sizes d q ps lattice t n =
 -- ---- the rotation of an image
 -- the index, and 1 for a fallback
 abbrev pub rotated_places : Rotated → List ℤ
-rotated_places (rotated.Image i) = i ∷ pos 0 ∷ []
-rotated_places (rotated.Fallback i) = i ∷ pos 1 ∷ []
+rotated_places r = place_told r ∷ fallback_told r ∷ []
 
 abbrev pub rotated_told : Result Rotated Refusal → List ℤ
 rotated_told = told_of rotated_places 2
@@ -98,6 +97,24 @@ zone_rotate_bz_grid_index index rotation addresses map table d ps t n =
     let o = rotate_bz_grid_index index (rows (matrix_at rotation 0)) addresses map (table_at table) d ps t in
     cond (rotate_lengths (length rotation) (length table) (length d) (length ps) n)
     (record { answer = answer_of o; told = rotated_told o }) (record { answer = wrong_length; told = unwritten n })
+
+-- ---- of many images
+-- of the rotation, the record, d and ps
+abbrev pub burst_lengths : ℕ → ℕ → ℕ → ℕ → Bool
+burst_lengths rotation table d ps = eqb rotation 9 && (eqb table 7 && (eqb d 3 && eqb ps 3))
+
+pub record ZoneRotateBzGridIndices : Type 0 where
+  pub answer : ℤ
+  pub out : List ℤ
+  pub fallbacks : List ℤ
+
+-- the outputs have n and m places
+abbrev pub zone_rotate_bz_grid_indices : (indices rotation addresses map table d ps : List ℤ) → ℤ → (n m : ℕ) → ZoneRotateBzGridIndices
+zone_rotate_bz_grid_indices indices rotation addresses map table d ps t n m =
+    let o = rotate_bz_grid_indices indices (rows (matrix_at rotation 0)) addresses map (table_at table) d ps t n m in
+    cond (burst_lengths (length rotation) (length table) (length d) (length ps))
+    (record { answer = answer_of o.answer; out = o.out; fallbacks = o.fallbacks })
+    (record { answer = wrong_length; out = unwritten n; fallbacks = unwritten m })
 
 -- ---- neighbours
 pub record ZoneNeighboringGridPoints : Type 0 where

@@ -3,7 +3,7 @@ ghost use Rattle.std.specs.Prelude.{◌≡◌, length, IfOk};
 ghost use Rattle.common.specs.Tested.{answer_of};
 ghost use Rattle.common.specs.Array.{rows};
 ghost use Rattle.bzsearch.specs.SearchView.{float_nine};
-ghost use Rattle.answers.specs.Images.{image_lengths, table_at, images_told, sizes_told, Held, rotate_lengths, rotated_told};
+ghost use Rattle.answers.specs.Images.{image_lengths, table_at, images_told, sizes_told, Held, rotate_lengths, rotated_told, burst_lengths};
 
 use crate::tell;
 use bzgrid::{Built, Lengths, TableRecord};
@@ -86,6 +86,12 @@ pub fn rotate_lengths(rotation: usize, table: usize, d: usize, ps: usize, told: 
     ensures { result ≡ rotate_lengths rotation table d ps told }
 {
     rotation == 9 && table == 7 && d == 3 && ps == 3 && told == 2
+}
+
+pub fn burst_lengths(rotation: usize, table: usize, d: usize, ps: usize) -> bool
+    ensures { result ≡ burst_lengths rotation table d ps }
+{
+    rotation == 9 && table == 7 && d == 3 && ps == 3
 }
 
 // The index, and 1 for a fallback.

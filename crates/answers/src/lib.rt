@@ -21,7 +21,8 @@ pub use diagonal::{diagonal_lengths, smith_lengths, tell_diagonal, tell_smith};
 pub use form::{form_lengths, tell_order, tell_same};
 pub use grid::{class_lengths, folding_lengths, point_lengths, tell_classes, tell_folded};
 pub use images::{
-    image_lengths, lattice_at, rotate_lengths, table_at, tell_built, tell_rotated, tell_sizes,
+    burst_lengths, image_lengths, lattice_at, rotate_lengths, table_at, tell_built, tell_rotated,
+    tell_sizes,
 };
 pub use marks::{mark_lengths, ranges_at};
 pub use pair::tell_pair;
@@ -68,7 +69,17 @@ pub fn refuse(out: &mut [i64]) -> i64
     Refusal::WrongLength.answer()
 }
 
-// Three outputs: see docs/DECISIONS.md, 'Output slices'.
+// Two outputs: see docs/DECISIONS.md, 'Output slices'.
+pub fn refuse_two(a: &mut [i64], b: &mut [i64]) -> i64
+    ensures value { result ≡ wrong_length }
+    ensures a_after { a.new ≡ unwritten (length a.old) }
+    ensures b_after { b.new ≡ unwritten (length b.old) }
+{
+    a.fill(-1);
+    refuse(b)
+}
+
+// Three.
 pub fn refuse_three(a: &mut [i64], b: &mut [i64], c: &mut [i64]) -> i64
     ensures value { result ≡ wrong_length }
     ensures a_after { a.new ≡ unwritten (length a.old) }
@@ -76,8 +87,7 @@ pub fn refuse_three(a: &mut [i64], b: &mut [i64], c: &mut [i64]) -> i64
     ensures c_after { c.new ≡ unwritten (length c.old) }
 {
     a.fill(-1);
-    b.fill(-1);
-    refuse(c)
+    refuse_two(b, c)
 }
 
 // Four outputs: see docs/DECISIONS.md, 'Output slices'.

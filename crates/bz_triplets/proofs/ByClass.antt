@@ -2,7 +2,7 @@
 use mathlib.Core.Path.{◌≡◌, refl, sym, ◌∙◌, ap, ap₂}
 use mathlib.Core.Logic.{⊎_elim}
 use mathlib.Core.Bool.{true, false, cond}
-use mathlib.Core.List.{List, [], ◌∷◌, ◌++◌, map, map-append, append-nil, append_assoc}
+use mathlib.Core.List.{List, [], ◌∷◌, ◌++◌, append-nil, append_assoc}
 use Prim.Native.Nat.{ℕ, zero, suc, ◌+◌, ◌*◌, ◌<◌, ◌≤◌}
 use native.Mathlib.Nat.{le_of_suc-le-suc, not-suc-le-zero, eq-or-lt_of_le}
 use native.Mathlib.Numerals.{add-one, add-two}
@@ -10,20 +10,21 @@ use native.Mathlib.Omega.{arith}
 use lib.IntN.{ℤ, pos, negsuc}
 use lib.Ieee.{Float}
 use lib.ListN.{length, get_or, set, take, drop, length-append, length-drop, length-set}
-use lib.Seq.{length-take-le, take_all, take_at, take-suc-set, sets-eq}
-use Rattle.std.specs.Prelude.{Ok, Err}
+use lib.Seq.{length-take-le, take_all, sets-eq}
+use Rattle.std.specs.Prelude.{Err}
 use Rattle.common.specs.declared.Refusal.{Refusal}
 use Rattle.common.specs.Matrix.{Vec}
 use Rattle.grgrid.specs.Own.{is_place, own_places, own_points}
 use Rattle.grgrid.proofs.Numbers.{own-more, own_same}
 use Rattle.grgrid.proofs.Own.{own-rises, points_more, points_same}
 use Rattle.common.specs.Tested.{◌then◌}
-use Rattle.bztable.specs.Reading.{Read, got}
+use Rattle.bztable.specs.Reading.{Read, got, read_each}
+use Rattle.bztable.proofs.EachRead.{each_more, each-refused, taken, mapped-more}
 use Rattle.bz_triplets.specs.declared.choices.Step.{Step}
 use Rattle.bz_triplets.specs.declared.choices.Step.TheVariants as step
 use Rattle.bz_triplets.specs.declared.choices.Triplet.{Triplet}
 use Rattle.bz_triplets.specs.Choosing.{start, left, closed}
-use Rattle.bz_triplets.specs.BzTriplets.{State, read_each, places_of, cells_of, mark_of, length_of, by_threes, triplet_list, cell_list, marks, lengths}
+use Rattle.bz_triplets.specs.BzTriplets.{State, places_of, cells_of, mark_of, length_of, by_threes, triplet_list, cell_list, marks, lengths}
 use Rattle.bz_triplets.specs.Code.TripletsView.{found_by, summed, state_of, step_place, RoomFor}
 
 -- ---- the three places of a triplet, one after the other
@@ -38,39 +39,6 @@ places-stored t at out h ea eb ec last el = (λ i. set (set (set out at (ea i)) 
     go step.Empty = stored (negsuc 0) (negsuc 0) (negsuc 0)
     go (step.Left x) = stored (pos t.choice.x.at) (pos t.choice.y.at) (pos t.choice.z.at)
     go step.Closed = stored (pos t.choice.x.at) (pos t.choice.y.at) (pos t.choice.z.at)
-
--- ---- points read one after the other
-module _ {A : Type 0} (f : ℕ → Read A) where
-  each_append : (l m : List ℕ) → read_each f (l ++ m) ≡ (read_each f l then λ r. read_each f m then λ s. got (r ++ s))
-  each_append [] m = whole (read_each f m)
-    where
-      whole : (x : Read (List A)) → x ≡ (x then λ s. got s)
-      whole (Ok s) = refl
-      whole (Err e) = refl
-  each_append (p ∷ l) m = ap (λ x. f p then λ a. x then λ r. got (a ∷ r)) (each_append l m) ∙ grouped (f p) (read_each f l) (read_each f m)
-    where
-      grouped : (x : Read A) (y z : Read (List A))
-          → (x then λ a. (y then λ r. z then λ s. got (r ++ s)) then λ r. got (a ∷ r)) ≡ ((x then λ a. y then λ r. got (a ∷ r)) then λ r. z then λ s. got (r ++ s))
-      grouped (Err e) y z = refl
-      grouped (Ok a) (Err e) z = refl
-      grouped (Ok a) (Ok r) (Err e) = refl
-      grouped (Ok a) (Ok r) (Ok s) = refl
-
-  each_more : (l : List ℕ) (p : ℕ) {r : List A} {a : A} → read_each f l ≡ got r → f p ≡ got a → read_each f (l ++ (p ∷ [])) ≡ got (r ++ (a ∷ []))
-  each_more l p e h = each_append l (p ∷ []) ∙ (λ i. e i then λ r. (h i then λ a. got (a ∷ [])) then λ s. got (r ++ s))
-
-  -- the first that is refused, and all is refused
-  pub each-refused : (l : List ℕ) (p : ℕ) (m : List ℕ) {r : List A} {e : Refusal} → read_each f l ≡ got r → f p ≡ Err e → Err e ≡ read_each f (l ++ (p ∷ m))
-  each-refused l p m {e = e} g h = sym (each_append l (p ∷ m) ∙ (λ i. g i then λ r. (h i then λ a. read_each f m then λ r. got (a ∷ r)) then λ s. got (r ++ s)))
-
--- ---- one more at the end of what was written
-taken : {A : Type 0} (out l rest : List A) (at : ℕ) → at ≤ length out → take (at + length l) (take at out ++ (l ++ rest)) ≡ take at out ++ l
-taken out l rest at h =
-    ap (take (at + length l)) (sym (append_assoc (take at out) l rest))
-    ∙ take_at (take at out ++ l) rest (at + length l) (length-append (take at out) l ∙ ap (λ n. n + length l) (length-take-le at out h))
-
-mapped-more : {A B : Type 0} (g : A → B) (out : List B) (at : ℕ) (r : List A) (a : A) → at < length out → take at out ≡ map g r → take (at + 1) (set out at (g a)) ≡ map g (r ++ (a ∷ []))
-mapped-more g out at r a h e = ap (λ n. take n (set out at (g a))) (add-one at) ∙ take-suc-set out at (g a) h ∙ ap (λ l. l ++ (g a ∷ [])) e ∙ sym (map-append g r (a ∷ []))
 
 pub length-places : (s : State) → length (places_of s) ≡ 3
 length-places start = refl

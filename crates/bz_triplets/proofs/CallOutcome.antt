@@ -33,8 +33,8 @@ use Rattle.bzgrid.specs.declared.GridType.TheVariants.{Sparse, Dense}
 use Rattle.bzgrid.specs.BzGridAddresses.{grid_type_of}
 use Rattle.bzgrid.proofs.Accepted.{passes}
 use Rattle.bzsearch.specs.Lattice.{lattice_fits}
-use Rattle.bztable.specs.Reading.{Read, got, whole_addresses, address_of, list_of}
-use Rattle.bz_triplets.specs.BzTriplets.{State, Walk, walk_of, point_of, triplet_of, triplet_at, read_each, is_dense, input_tests, triplets_read, states_read, triplet_list, cell_list, marks, lengths, BzTriplets, triplet_tests, triplets_in}
+use Rattle.bztable.specs.Reading.{Read, got, whole_addresses, address_of, list_of, read_each}
+use Rattle.bz_triplets.specs.BzTriplets.{State, Walk, walk_of, point_of, triplet_of, triplet_at, is_dense, input_tests, triplets_read, states_read, triplet_list, cell_list, marks, lengths, BzTriplets, triplet_tests, triplets_in}
 use Rattle.bz_triplets.specs.Code.TripletsView.{RoomFor}
 
 -- ---- an address that was read was asked for by a number that is not negative

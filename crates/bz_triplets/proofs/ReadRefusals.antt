@@ -14,11 +14,11 @@ use Rattle.grgrid.specs.Own.{own_points}
 use Rattle.grgrid.specs.Grid.{size, index}
 use Rattle.bzgrid.specs.declared.GridType.{GridType}
 use Rattle.bztable.specs.Access.{image_places, first_place}
-use Rattle.bztable.specs.Reading.{Read, got, address_at, address_of}
+use Rattle.bztable.specs.Reading.{Read, got, address_at, address_of, read_each}
 use Rattle.bztable.proofs.ReadRefusals.{by-address, by-address-of, by-images, by-first}
 use Rattle.triplet_grid.specs.Partner.{third}
 use Rattle.bz_triplets.specs.Choosing.{start, left, closed, nested}
-use Rattle.bz_triplets.specs.BzTriplets.{State, Walk, try_read, try_at, chosen, first_of, triplet_of, read_each, triplet_at, triplets_read, walk_of, point_of}
+use Rattle.bz_triplets.specs.BzTriplets.{State, Walk, try_read, try_at, chosen, first_of, triplet_of, triplet_at, triplets_read, walk_of, point_of}
 
 -- what each step of a walk keeps
 module _ {S : Type 0} (Q : S → Type 0) where

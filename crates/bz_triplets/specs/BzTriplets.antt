@@ -21,7 +21,7 @@ use Rattle.bzsearch.specs.Search.{length_squared}
 use Rattle.bzgrid.specs.BzGridAddresses.{grid_type_of}
 use Rattle.bztable.specs.Access.{image_places, first_place}
 use Rattle.bztable.specs.Agreement.{agrees_grid, layout_where}
-use Rattle.bztable.specs.Reading.{Read, got, whole_addresses, address_at, address_of, list_of}
+use Rattle.bztable.specs.Reading.{Read, got, whole_addresses, address_at, address_of, list_of, read_each}
 use Rattle.triplet_grid.specs.Partner.{third}
 use Rattle.bz_triplets.specs.Choosing.{Found, start, left, closed, tried, nested}
 
@@ -94,11 +94,6 @@ triplet_of t d map w a0 q0 q1 = first_of map w.addresses t q1 then λ a1. chosen
 abbrev pub point_of : Vec ℕ → GridType → ℕ → Vec ℤ → ℕ
 point_of d Sparse q0 a0 = q0
 point_of d Dense q0 a0 = index d a0
-
--- of each point of a list
-abbrev pub read_each : {A : Type 0} → (ℕ → Read A) → List ℕ → Read (List A)
-read_each f [] = got []
-read_each f (p ∷ l) = f p then λ s. read_each f l then λ r. got (s ∷ r)
 
 -- ---- as the outputs hold them
 abbrev pub places_of : State → List ℤ

@@ -6,8 +6,8 @@ ghost use Rattle.grgrid.specs.Grid.{size, cell};
 ghost use Rattle.grgrid.specs.Own.{own_points};
 ghost use Rattle.grgrid.specs.Sides.{sides};
 ghost use Rattle.bztable.specs.Access.{image_places};
-ghost use Rattle.bztable.specs.Reading.{got, vector_read};
-ghost use Rattle.bz_triplets.specs.BzTriplets.{chosen, first_of, triplet_of, read_each, places_of, cells_of, cell_list};
+ghost use Rattle.bztable.specs.Reading.{got, vector_read, read_each};
+ghost use Rattle.bz_triplets.specs.BzTriplets.{chosen, first_of, triplet_of, places_of, cells_of, cell_list};
 ghost use Rattle.bz_triplets.specs.BzTriplets.{mark_of, length_of, triplet_list, marks, lengths};
 ghost use Rattle.bz_triplets.specs.Code.TripletsView.{state_of, state_read, places_listed, walk_by, step_place, RoomFor};
 

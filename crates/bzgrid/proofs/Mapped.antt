@@ -33,7 +33,7 @@ module _ {A : Type 0} (g : ℕ → A) where
   length-numbers j zero = refl
   length-numbers j (suc n) = ap suc (length-numbers (suc j) n)
 
-  listed_more : (n : ℕ) → listed g n ++ (g n ∷ []) ≡ listed g (suc n)
+  pub listed_more : (n : ℕ) → listed g n ++ (g n ∷ []) ≡ listed g (suc n)
   listed_more n = ap (λ k. listed g n ++ (g k ∷ [])) {x = n} {y = 0 + n} (omega arith) ∙ sym (numbers_more 0 n)
 
 module _ (f : ℕ → ℕ) where

@@ -6,6 +6,9 @@ pub mod CallBounds
 pub mod Records
 pub mod Finding
 pub mod Turning
+pub mod EachRead
 pub mod NeighbourRows
 pub mod NeighbourCall
+pub mod BurstCall
+pub mod BurstSingles
 pub mod ReadRefusals

@@ -1,27 +1,22 @@
 -- `read_rows` over one row more, and the rows that a walk has written into the front of a slice.
 use mathlib.Core.Path.{◌≡◌, refl, sym, ◌∙◌, ap, ap₂}
 use mathlib.Core.Logic.{⊎_elim}
-use mathlib.Core.List.{List, [], ◌∷◌, ◌++◌, append_assoc}
+use mathlib.Core.List.{List, [], ◌∷◌, ◌++◌}
 use Prim.Native.Nat.{ℕ, zero, suc, ◌+◌, ◌*◌, ◌<◌, ◌≤◌}
 use native.Mathlib.Nat.{le_of_lt, le_of_suc-le-suc, not-suc-le-zero, eq-or-lt_of_le, mul-le-mul_right}
 use native.Mathlib.Numerals.{add-one}
 use native.Mathlib.Omega.{arith}
 use lib.IntN.{ℤ, pos}
-use lib.ListN.{length, get_or, set, take, drop, length-append}
-use lib.Seq.{length-take-le, take_all, take_at, set_split}
+use lib.ListN.{length, get_or, set, take, drop}
+use lib.Seq.{take_all, set_split}
 use Rattle.std.specs.Prelude.{Err}
 use Rattle.common.specs.Matrix.{Vec}
 use Rattle.common.specs.Array.{vector_of, items, row_at}
 use Rattle.common.specs.declared.Refusal.{Refusal}
 use Rattle.common.specs.Tested.{◌then◌}
 use Rattle.bztable.specs.Reading.{Read, got, triple_at, address_of}
-use Rattle.bztable.specs.Neighbours.{moved, appended, read_rows}
-
--- what is written from place `at` on stands behind what was before it
-taken : (out l rest : List ℤ) (at : ℕ) → at ≤ length out → take (at + length l) (take at out ++ (l ++ rest)) ≡ take at out ++ l
-taken out l rest at h =
-    ap (take (at + length l)) (sym (append_assoc (take at out) l rest))
-    ∙ take_at (take at out ++ l) rest (at + length l) (length-append (take at out) l ∙ ap (λ n. n + length l) (length-take-le at out h))
+use Rattle.bztable.specs.Neighbours.{moved, read_rows}
+use Rattle.bztable.proofs.EachRead.{taken, appended, rows-more}
 
 -- ---- rows
 module _ (g : ℕ → Read (List ℤ)) where
@@ -29,13 +24,13 @@ module _ (g : ℕ → Read (List ℤ)) where
   pub rows-refused : (i n : ℕ) → i < n → {l : List ℤ} → read_rows g i ≡ got l → {r : Refusal} → g i ≡ Err r → Err r ≡ read_rows g n
   rows-refused i zero h e f = absurd (not-suc-le-zero h)
   rows-refused i (suc n) h e f =
-      ⊎_elim (λ q. sym (ap₂ appended (ap (read_rows g) (sym q) ∙ e) (ap g (sym q) ∙ f))) (λ l. ap (λ r. appended r (g n)) (rows-refused i n l e f)) (eq-or-lt_of_le (le_of_suc-le-suc h))
+      ⊎_elim (λ q. sym (rows-more g n ∙ ap₂ (appended g) (ap (read_rows g) (sym q) ∙ e) (ap g (sym q) ∙ f))) (λ l. ap (λ r. appended g r (g n)) (rows-refused i n l e f) ∙ sym (rows-more g n)) (eq-or-lt_of_le (le_of_suc-le-suc h))
 
   -- the first i rows stand below place `at`
   module _ (i at : ℕ) (out : List ℤ) (e : read_rows g i ≡ got (take at out)) where
     pub rows-put : (l rest : List ℤ) (n : ℕ) → at ≤ length out → length l ≡ n → g i ≡ got l → read_rows g (i + 1) ≡ got (take (at + n) (take at out ++ (l ++ rest)))
     rows-put l rest n h k f =
-        ap (read_rows g) (add-one i) ∙ ap₂ appended e f ∙ ap got (sym (taken out l rest at h) ∙ ap (λ n. take (at + n) (take at out ++ (l ++ rest))) k)
+        ap (read_rows g) (add-one i) ∙ rows-more g i ∙ ap₂ (appended g) e f ∙ ap got (sym (taken out l rest at h) ∙ ap (λ n. take (at + n) (take at out ++ (l ++ rest))) k)
 
     pub rows-set : (z : ℤ) → at < length out → g i ≡ got (z ∷ []) → read_rows g (i + 1) ≡ got (take (at + 1) (set out at z))
     rows-set z h f = rows-put (z ∷ []) (drop (suc at) out) 1 (le_of_lt h) refl f ∙ ap (λ l. got (take (at + 1) l)) (sym (set_split out at z h))

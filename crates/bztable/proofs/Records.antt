@@ -8,7 +8,7 @@ use Rattle.std.specs.Prelude.{Result, Ok, Err}
 use Rattle.integer.specs.Same.{same}
 use Rattle.integer.proofs.Same.{same_refl}
 use Rattle.integer.proofs.Test.{holds, is_true, and_l}
-use Rattle.common.specs.Matrix.{Vec, same_vector}
+use Rattle.common.specs.Matrix.{same_vector}
 use Rattle.common.specs.Array.{vector_of}
 use Rattle.common.proofs.Same.{same-itself}
 use Rattle.common.specs.Tested.{require, ◌then◌}

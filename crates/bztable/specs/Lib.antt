@@ -3,5 +3,7 @@ pub mod Access
 pub mod Agreement
 pub mod Images
 pub mod Rotate
+pub mod Burst
+pub mod BurstSingles
 pub mod Neighbours
 pub mod Agreeing

@@ -9,11 +9,11 @@ use Rattle.common.specs.declared.Refusal.TheVariants.{OutsideLimits, WrongLength
 use Rattle.grgrid.specs.Grid.{size, index}
 use Rattle.bzgrid.specs.declared.GridType.{GridType}
 use Rattle.bzgrid.specs.declared.GridType.TheVariants.{Sparse, Dense}
-use Rattle.bzgrid.specs.Table.{doubled, empty}
+use Rattle.bzgrid.specs.Table.{listed, doubled, empty}
 use Rattle.bzgrid.specs.declared.TableRecord.{TableRecord}
 use Rattle.bztable.specs.Access.{run_of}
 use Rattle.bztable.specs.Agreement.{agrees_grid, layout_where}
-use Rattle.bztable.specs.Reading.{Read, got, whole_addresses, triple_at, address_of, place_at, find, tests_after, list_of}
+use Rattle.bztable.specs.Reading.{Read, got, whole_addresses, triple_at, address_of, place_at, find, tests_after, list_of, read_each}
 
 abbrev pub moved : Vec ℤ → Vec ℤ → Vec ℤ
 moved a o = vector (λ k. side a k +ℤ side o k)
@@ -36,12 +36,12 @@ neighbour d addresses map b Sparse = sparse_neighbour d map b
 neighbour d addresses map b Dense = dense_neighbour d addresses map b
 
 -- ---- g 0, then g 1, .. , then g (n - 1)
-abbrev pub appended : Read (List ℤ) → Read (List ℤ) → Read (List ℤ)
-appended l r = l then λ xs. r then λ ys. got (xs ++ ys)
+abbrev pub joined : List (List ℤ) → List ℤ
+joined [] = []
+joined (l ∷ r) = l ++ joined r
 
 abbrev pub read_rows : (ℕ → Read (List ℤ)) → ℕ → Read (List ℤ)
-read_rows g zero = got []
-read_rows g (suc n) = appended (read_rows g n) (g n)
+read_rows g n = read_each g (listed (λ i. i) n) then λ l. got (joined l)
 
 module _ (t : GridType) (d : Vec ℕ) (offsets addresses map : List ℤ) where
   abbrev pub neighbour_at : Vec ℤ → ℕ → Read (List ℤ)

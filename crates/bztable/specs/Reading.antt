@@ -1,5 +1,5 @@
 -- How an image table is read. It may hold anything: a read is inside the slice and the limits, or `outside`, which is refusal 14.
-use Rattle.std.specs.Prelude.{Bool, true, false, ◌&&◌, List, [], ℕ, zero, suc, ◌*◌, ◌/◌, ◌%◌, ltb, leb, eqb, ℤ, pos}
+use Rattle.std.specs.Prelude.{Bool, true, false, ◌&&◌, List, [], ◌∷◌, ℕ, zero, suc, ◌*◌, ◌/◌, ◌%◌, ltb, leb, eqb, ℤ, pos}
 use Rattle.std.specs.Prelude.{negsuc, length, get_or, Option, Some, None, Result, Ok, Err, cond}
 use Rattle.common.specs.Tested.{Tested, Accepted, ◌then◌}
 use Rattle.common.specs.declared.Refusal.{Refusal}
@@ -30,6 +30,11 @@ tests_after t r = t then λ _. r then λ _. Accepted
 abbrev pub list_of : {A : Type 0} → Read (List A) → List A
 list_of (Ok l) = l
 list_of (Err r) = []
+
+-- each of a list, or the first refusal
+abbrev pub read_each : {A B : Type 0} → (A → Read B) → List A → Read (List B)
+read_each f [] = got []
+read_each f (a ∷ l) = f a then λ b. read_each f l then λ r. got (b ∷ r)
 
 -- ---- addresses, three numbers each
 abbrev pub whole_addresses : List ℤ → Bool

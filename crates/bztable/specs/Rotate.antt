@@ -45,13 +45,16 @@ rotate_tests rotation addresses d ps k =
     require (whole_addresses addresses) WrongLength
     (require (diagonal_fits d && (shift_fits ps && matrix_within 100000 (matrix_of rotation))) OutsideLimits k)
 
-unfoldable pub rotate_read : ℤ → List (List ℤ) → (addresses map d ps : List ℤ) → GridType → Read Rotated
+-- where image i is carried
+unfoldable pub rotated_at : GridType → Vec ℕ → (addresses map : List ℤ) → Mat ℤ → Vec ℤ → ℤ → Read Rotated
 unfolding index
-rotate_read i rotation addresses map d ps t =
-    address_of addresses i then λ b. image_of t (sides_of d) addresses map (turned (matrix_of rotation) (vector_of ps) b)
+rotated_at t d addresses map m ps i = address_of addresses i then λ b. image_of t d addresses map (turned m ps b)
+
+abbrev pub rotate_read : ℤ → List (List ℤ) → (addresses map d ps : List ℤ) → GridType → Read Rotated
+rotate_read i rotation addresses map d ps t = rotated_at t (sides_of d) addresses map (matrix_of rotation) (vector_of ps) i
 
 unfoldable pub rotate_in : Result GridType Refusal → ℤ → List (List ℤ) → (addresses map d ps : List ℤ) → Read Rotated
-unfolding rotate_tests rotate_read
+unfolding rotate_tests rotated_at
 rotate_in k i rotation addresses map d ps = rotate_tests rotation addresses d ps k then rotate_read i rotation addresses map d ps
 
 -- the record of the table agrees with the call, or refusal 17

@@ -4,7 +4,7 @@ ghost use Rattle.common.specs.Array.{vector_of, items, matrix_of, Sized};
 ghost use Rattle.common.specs.Limits.{matrix_within, diagonal_fits, shift_fits};
 ghost use Rattle.grgrid.specs.Grid.{size};
 ghost use Rattle.grgrid.specs.Sides.{sides};
-ghost use Rattle.bztable.specs.Rotate.{turned, among_run, among_images, image_of, rotate_tests, rotate_read, rotate_in, rotate_bz_grid_index};
+ghost use Rattle.bztable.specs.Rotate.{turned, among_run, among_images, image_of, rotate_tests, rotated_at, rotate_in, rotate_bz_grid_index};
 
 use crate::reading::Table;
 use crate::{agreement, reading};
@@ -26,7 +26,7 @@ fn limits_fit(rotation: [[i64; 3]; 3], d: [i64; 3], ps: [i64; 3]) -> bool
 }
 
 #[tactic(auto, unfolding(crate::specs::Rotate::rotate_tests))]
-fn rotate_tests(
+pub fn rotate_tests(
     rotation: [[i64; 3]; 3],
     addresses: &[i64],
     d: [i64; 3],
@@ -102,8 +102,24 @@ fn image_of(table: &Table, a: [i64; 3]) -> Result<Rotated, Refusal>
     }
 }
 
+// Where the image of that index is carried.
+#[inline(always)]
+#[tactic(auto, unfolding(crate::specs::Rotate::rotated_at))]
+pub fn rotated_at(
+    table: &Table,
+    rotation: Rotation,
+    ps: Shift,
+    bz_grid_index: i64,
+) -> Result<Rotated, Refusal>
+    ensures { let t = table.now in
+        result ≡ rotated_at t.t (sides t.g) t.addresses.now t.map.now (matrix_of rotation.m) (vector_of ps.v) bz_grid_index }
+{
+    let a = reading::address_of(table.addresses, bz_grid_index)?;
+    image_of(table, turned(a, rotation, ps))
+}
+
 // In a table of that layout.
-#[tactic(auto, unfolding(crate::specs::Rotate::rotate_in, crate::specs::Rotate::rotate_read))]
+#[tactic(auto, unfolding(crate::specs::Rotate::rotate_in))]
 fn rotate_in(
     layout: Result<GridType, Refusal>,
     bz_grid_index: i64,
@@ -122,9 +138,8 @@ fn rotate_in(
         addresses,
         map,
     };
-    let a = reading::address_of(addresses, bz_grid_index)?;
     let rotation = Rotation { m: rotation };
-    image_of(&table, turned(a, rotation, common::shift(ps)))
+    rotated_at(&table, rotation, common::shift(ps), bz_grid_index)
 }
 
 // Rotate an image and return the place of the image that has the rotated address.

@@ -25,6 +25,7 @@ use Rattle.bzgrid.proofs.Accepted.{passes-first}
 use Rattle.bzsearch.proofs.Images.{Sound}
 use Rattle.bzgrid.specs.declared.GridType.{GridType}
 use Rattle.bzgrid.specs.declared.GridType.TheVariants.{Sparse, Dense}
+use Rattle.bztable.proofs.EachRead.{each-read}
 use Rattle.bztable.proofs.TableRead.{address-got, first-stands}
 use Rattle.bztable.proofs.ImageTable.{Stands, stands-at, image-at, some-place, place-image, image-place, place-folds}
 use Rattle.bztable.proofs.AcceptedCall.{CallAccepted, call-accepted, call-sound, call-folded, call-stands, call-found, call-tolerance}
@@ -38,7 +39,7 @@ use Rattle.bz_triplets.proofs.Choosing.{Picks, Length, Triplet, triplet-best, fl
 use Rattle.bz_triplets.proofs.Choosing as choosing
 use Rattle.grgrid.proofs.Own.{own-points}
 use Rattle.demand3.specs.FinishedList.{Calls, grid, points, partner_of, lowest_points, search, trio, Choice as PickedBy, sum, squared_length, less_tolerance, at, Best, Starts}
-use Rattle.demand3.proofs.TableWalks.{choice_at, closes, squared, less_at, chosen-got, each-read, threes-length, threes-item}
+use Rattle.demand3.proofs.TableWalks.{choice_at, closes, squared, less_at, chosen-got, threes-length, threes-item}
 use Rattle.demand3.proofs.SumCells.{whole-sum}
 use Rattle.demand3.proofs.PickedPlaces as picked
 use Rattle.demand3.proofs.SumLengths.{sum-size, sum-length}
@@ -243,7 +244,7 @@ module _ (c : Calls) where
   unfolding triplets_read cell_list
   finished-triplets full =
       let r = passes-first (address_at c.addresses c.start) _ reads in
-      let e = each-read (read_from r.0) (lowest_points c) r.2 in
+      let e = each-read 0 start (read_from r.0) (lowest_points c) r.2 in
       let states = accepted.states in
       subst (λ l. Triplets l c.cells) (sym (c.chooses-to ∙ accepted.written))
       (subst (λ g. Triplets (by_threes places_of states) g) (sym (c.tells-cells ∙ accepted.celled)) (

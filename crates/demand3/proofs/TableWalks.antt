@@ -19,7 +19,7 @@ use Rattle.bztable.specs.Reading.{Read, got, triple_at, address_at}
 use Rattle.bztable.specs.Access.{image_places}
 use Rattle.bztable.proofs.TableRead.{address-got}
 use Rattle.bz_triplets.specs.Choosing.{start, left, closed, tried, nested}
-use Rattle.bz_triplets.specs.BzTriplets.{squared_distance, sum_of, is_zero, Choice, State, Walk, tried_sum, try_read, try_at, chosen, read_each, by_threes}
+use Rattle.bz_triplets.specs.BzTriplets.{squared_distance, sum_of, is_zero, Choice, State, Walk, tried_sum, try_read, try_at, chosen, by_threes}
 use Rattle.bz_triplets.proofs.Choosing.{choices, nested_is}
 
 -- ---- the walk over the choices
@@ -78,23 +78,7 @@ module _ (w : Walk) where
       (subst (λ r. (r then λ y. image_places t map n v.z then λ z. nested (try_at w) (got start) (record { x = l.x; y = y; z = z })) ≡ got s) (h Y)
       (subst (λ r. (r then λ x. image_places t map n v.y then λ y. image_places t map n v.z then λ z. nested (try_at w) (got start) (record { x = x; y = y; z = z })) ≡ got s) (h X) e)))
 
--- ---- one state a point
-pub each-read : (f : ℕ → Read State) (l : List ℕ) {r : List State} → read_each f l ≡ got r
-    → (length r ≡ length l) × ((j : ℕ) → j < length l → f (get_or l j 0) ≡ got (get_or r j start))
-each-read f [] e = subst (λ r. (length r ≡ 0) × ((j : ℕ) → j < 0 → f 0 ≡ got (get_or r j start))) (same-ok e) (refl, λ j h. absurd (not-suc-le-zero h))
-each-read f (p ∷ l) e =
-    let s = passes-first (f p) _ e in
-    let u = passes-first (read_each f l) _ s.2 in
-    let k = each-read f l u.1 in
-    subst (λ r. (length r ≡ suc (length l)) × ((j : ℕ) → j < suc (length l) → f (get_or (p ∷ l) j 0) ≡ got (get_or r j start))) (same-ok u.2)
-    (ap suc k.0, at s.0 u.0 s.1 k.1)
-  where
-    at : (s : State) (r : List State) → f p ≡ got s → ((j : ℕ) → j < length l → f (get_or l j 0) ≡ got (get_or r j start))
-        → (j : ℕ) → j < suc (length l) → f (get_or (p ∷ l) j 0) ≡ got (get_or (s ∷ r) j start)
-    at s r e k zero h = e
-    at s r e k (suc j) h = k j (le_of_suc-le-suc h)
-
--- ---- and three numbers a state
+-- ---- three numbers a state
 triple-first : (x l : List ℤ) → length x ≡ 3 → triple_at (x ++ l) 0 ≡ vector_of x
 triple-first (a ∷ b ∷ c ∷ []) l e = refl
 triple-first [] l e = absurd (omega (arith, e))

@@ -20,18 +20,19 @@ use Rattle.bzsearch.specs.Search.{Search, images}
 use Rattle.bzgrid.specs.declared.GridType.TheVariants.{Sparse, Dense}
 use Rattle.bzgrid.proofs.Accepted.{passes-first}
 use Rattle.bztable.specs.Access.{image_places}
-use Rattle.bztable.specs.Reading.{got, triple_at, address_of}
+use Rattle.bztable.specs.Reading.{got, triple_at, address_of, read_each}
+use Rattle.bztable.proofs.EachRead.{each-read}
 use Rattle.bztable.proofs.TableRead.{address-got, first-stands}
 use Rattle.bztable.proofs.ImageTable.{Stands, Folded, some-place, place-folds}
 use Rattle.bztable.proofs.AcceptedCall.{CallAccepted, call-accepted, call-sound, call-stands, call-folded, call-found}
 use Rattle.triplet_grid.specs.Partner.{third}
 use Rattle.bz_triplets.specs.Choosing.{start, left, closed}
-use Rattle.bz_triplets.specs.BzTriplets.{Choice, State, Walk, sum_of, places_of, cells_of, first_of, chosen, triplet_of, triplet_at, triplets_read, read_each, cell_list, point_of, walk_of, bz_triplets_at_q}
+use Rattle.bz_triplets.specs.BzTriplets.{Choice, State, Walk, sum_of, places_of, cells_of, first_of, chosen, triplet_of, triplet_at, triplets_read, cell_list, point_of, walk_of, bz_triplets_at_q}
 use Rattle.bz_triplets.proofs.ByClass.{length-places, length-cells}
 use Rattle.bz_triplets.proofs.Choosing.{Picks, Chosen, triplet-chosen}
 use Rattle.demand3.specs.WholeSums.{WholeSum, EverySum}
 use Rattle.demand3.proofs.AcceptedTriplets.{first-got, TripletsAccepted, triplets-accepted}
-use Rattle.demand3.proofs.TableWalks.{choice_at, closes, squared, less_at, chosen-got, each-read, threes-item}
+use Rattle.demand3.proofs.TableWalks.{choice_at, closes, squared, less_at, chosen-got, threes-item}
 use Rattle.demand3.proofs.SumCells.{whole-sum}
 use Rattle.demand3.proofs.PickedPlaces as picked
 
@@ -137,7 +138,7 @@ module _ {d : List ℤ} {q : List (List ℤ)} {ps : List ℤ} {lattice : List (L
   pub sum-told : (j : ℕ) → j < own_places classes (length classes) → WholeSum addresses out cells d j
   unfolding cell_list
   sum-told j h =
-      let r = each-read (triplet_at q0 addresses map classes d change basis t.kind started.0) lowest started.2 in
+      let r = each-read 0 start (triplet_at q0 addresses map classes d change basis t.kind started.0) lowest started.2 in
       let i : j < length lowest = subst (λ n. j < n) (sym (length-own classes (length classes))) h in
       let u : j < length t.states = subst (λ n. j < n) (sym r.0) i in
       let w = triplet-told (walk_of addresses d change basis) (call-sound built).sides (call-folded built) stands (call-found built) q0 (get_or lowest j 0) started.1 (r.1 j i) in

@@ -27,6 +27,42 @@ pub fn rotate_bz_grid_index(line: &[i64]) -> Option<Verdict> {
     Some(Compared::with(line).number(answer).numbers(&told).verdict())
 }
 
+// Seven slices, the type, the answer and both outputs, which are lent with the lengths that the line has.
+pub fn rotate_bz_grid_indices(line: &[i64]) -> Option<Verdict> {
+    let (indices, line) = slices::split(line);
+    let (rotation, line) = slices::split(line);
+    let (addresses, line) = slices::split(line);
+    let (map, line) = slices::split(line);
+    let (table, line) = slices::split(line);
+    let (d, line) = slices::split(line);
+    let (ps, line) = slices::split(line);
+    let (bz_grid_type, line) = line.split_first()?;
+    let first = slices::after_answer(line);
+    let mut out = [UNWRITTEN; 2048];
+    let out = slices::lent(first, &mut out);
+    let mut fallbacks = [UNWRITTEN; 2048];
+    let fallbacks = slices::lent(slices::after_output(first), &mut fallbacks);
+    let answer = zone_c::zone_rotate_bz_grid_indices(
+        indices,
+        rotation,
+        addresses,
+        map,
+        table,
+        d,
+        ps,
+        *bz_grid_type,
+        out,
+        fallbacks,
+    );
+    Some(
+        Compared::with(line)
+            .number(answer)
+            .output(out)
+            .output(fallbacks)
+            .verdict(),
+    )
+}
+
 // Six slices, the type, the answer and the output, which is lent with the length that the line has.
 pub fn neighboring_grid_points(line: &[i64]) -> Option<Verdict> {
     let (points, line) = slices::split(line);

@@ -1,6 +1,7 @@
 // The exports of bzgrid.
 ghost use Rattle.std.specs.Prelude.{◌≡◌, length};
-ghost use Rattle.answers.specs.Images.{zone_bz_grid_addresses, zone_bz_grid_fill, zone_bz_grid_sizes, zone_rotate_bz_grid_index, zone_neighboring_grid_points};
+ghost use Rattle.answers.specs.Images.{zone_bz_grid_addresses, zone_bz_grid_fill, zone_bz_grid_sizes};
+ghost use Rattle.answers.specs.Images.{zone_rotate_bz_grid_index, zone_rotate_bz_grid_indices, zone_neighboring_grid_points};
 
 #[unsafe(no_mangle)]
 pub extern "C" fn zone_bz_grid_addresses(
@@ -89,6 +90,38 @@ pub extern "C" fn zone_rotate_bz_grid_index(
         ps,
         bz_grid_type,
         told,
+    )
+}
+
+#[unsafe(no_mangle)]
+pub extern "C" fn zone_rotate_bz_grid_indices(
+    indices: &[i64],
+    rotation: &[i64],
+    addresses: &[i64],
+    map: &[i64],
+    table: &[i64],
+    d: &[i64],
+    ps: &[i64],
+    bz_grid_type: i64,
+    out: &mut [i64],
+    fallbacks: &mut [i64],
+) -> i64
+    ensures { let n = length out.old in
+        let m = length fallbacks.old in
+        record { answer = result; out = out.new; fallbacks = fallbacks.new }
+        ≡ zone_rotate_bz_grid_indices indices.now rotation.now addresses.now map.now table.now d.now ps.now bz_grid_type n m }
+{
+    zone_c::zone_rotate_bz_grid_indices(
+        indices,
+        rotation,
+        addresses,
+        map,
+        table,
+        d,
+        ps,
+        bz_grid_type,
+        out,
+        fallbacks,
     )
 }
 

@@ -1,6 +1,7 @@
 // The exports of bzgrid.
 ghost use Rattle.std.specs.Prelude.{◌≡◌, length};
-ghost use Rattle.answers.specs.Images.{zone_bz_grid_addresses, zone_bz_grid_fill, zone_bz_grid_sizes, zone_rotate_bz_grid_index, zone_neighboring_grid_points};
+ghost use Rattle.answers.specs.Images.{zone_bz_grid_addresses, zone_bz_grid_fill, zone_bz_grid_sizes};
+ghost use Rattle.answers.specs.Images.{zone_rotate_bz_grid_index, zone_rotate_bz_grid_indices, zone_neighboring_grid_points};
 
 pub fn zone_bz_grid_addresses(
     d: &[i64],
@@ -125,6 +126,40 @@ pub fn zone_rotate_bz_grid_index(
         ),
         told,
     )
+}
+
+pub fn zone_rotate_bz_grid_indices(
+    indices: &[i64],
+    rotation: &[i64],
+    addresses: &[i64],
+    map: &[i64],
+    table: &[i64],
+    d: &[i64],
+    ps: &[i64],
+    bz_grid_type: i64,
+    out: &mut [i64],
+    fallbacks: &mut [i64],
+) -> i64
+    ensures { let n = length out.old in
+        let m = length fallbacks.old in
+        record { answer = result; out = out.new; fallbacks = fallbacks.new }
+        ≡ zone_rotate_bz_grid_indices indices.now rotation.now addresses.now map.now table.now d.now ps.now bz_grid_type n m }
+{
+    if !answers::burst_lengths(rotation.len(), table.len(), d.len(), ps.len()) {
+        return answers::refuse_two(out, fallbacks);
+    }
+    answers::number(bztable::rotate_bz_grid_indices(
+        indices,
+        common::matrix_at(rotation, 0),
+        addresses,
+        map,
+        answers::table_at(table),
+        common::row_at(d, 0),
+        common::row_at(ps, 0),
+        bz_grid_type,
+        out,
+        fallbacks,
+    ))
 }
 
 pub fn zone_neighboring_grid_points(

@@ -21,7 +21,7 @@ pub use grid::{
 };
 pub use images::{
     zone_bz_grid_addresses, zone_bz_grid_fill, zone_bz_grid_sizes, zone_neighboring_grid_points,
-    zone_rotate_bz_grid_index,
+    zone_rotate_bz_grid_index, zone_rotate_bz_grid_indices,
 };
 pub use list::zone_list;
 pub use marks::zone_mark_candidates;

@@ -96,15 +96,8 @@ mod tests {
     use crate::refusals::{ACCEPTED, SEARCH_RANGE, WRONG_LENGTH};
     use crate::vectors;
 
-    /// What a side answers, and the outputs.
-    fn called<S: Side, F: Function>(input: &F::Input) -> (i64, Outputs) {
-        let mut outputs = F::outputs(input).unlike();
-        let answer = S::call::<F>(input, &mut outputs);
-        (answer, outputs)
-    }
-
     fn asked(input: &FillInput) -> (i64, Outputs) {
-        called::<Rust, BzGridFill>(input)
+        Rust::called::<BzGridFill>(input)
     }
 
     /// A number, and -1 everywhere.
@@ -116,9 +109,9 @@ mod tests {
     /// With the lengths that are told, the call is the single one, whatever the room; with
     /// others it is refused. Where no lengths are told, all three are refused alike.
     fn known_sizes<S: Side>(images: &ImagesInput) {
-        let (sized, told) = called::<S, BzGridSizes>(&SizesInput(images.clone()));
-        let single = called::<S, BzGridAddresses>(images);
-        let filled = |sizes| called::<S, BzGridFill>(&FillInput::with(images.clone(), sizes));
+        let (sized, told) = S::called::<BzGridSizes>(&SizesInput(images.clone()));
+        let single = S::called::<BzGridAddresses>(images);
+        let filled = |sizes| S::called::<BzGridFill>(&FillInput::with(images.clone(), sizes));
         let sizes: Sizes = fixed(&told.told).expect("three lengths");
         let others = sizes.map(|length| length + 1);
         assert_eq!(filled(sizes), single);
@@ -243,7 +236,7 @@ mod tests {
             let input = FillInput::random(&mut random);
             let (answer, _) = asked(&input);
             if answer == OTHER_SIZES {
-                let (single, _) = called::<Rust, BzGridAddresses>(&input.images);
+                let (single, _) = Rust::called::<BzGridAddresses>(&input.images);
                 room += usize::from(single == WRONG_LENGTH);
             }
             let below_0 = input.sizes.iter().any(|&length| length < 0);

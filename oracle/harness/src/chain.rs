@@ -26,6 +26,13 @@ use crate::transform_rotations::TransformRotations;
 /// Whose calls they are.
 pub trait Side {
     fn call<F: Function>(input: &F::Input, outputs: &mut Outputs) -> i64;
+
+    /// What it answers, and outputs of which a place that is not written shows.
+    fn called<F: Function>(input: &F::Input) -> (i64, Outputs) {
+        let mut outputs = F::outputs(input).unlike();
+        let answer = Self::call::<F>(input, &mut outputs);
+        (answer, outputs)
+    }
 }
 
 pub struct Port;
@@ -54,9 +61,7 @@ pub struct Steps {
 impl Steps {
     /// The outputs of an accepted call, or its refusal.
     pub fn make<S: Side, F: Function>(&mut self, input: &F::Input) -> Result<Outputs, i64> {
-        // Places that are not written show.
-        let mut outputs = F::outputs(input).unlike();
-        let answer = S::call::<F>(input, &mut outputs);
+        let (answer, outputs) = S::called::<F>(input);
         self.answers.push(answer);
         self.slices.extend(outputs.slices.iter().cloned());
         self.slices.push(outputs.told.clone());

@@ -35,6 +35,7 @@ pub mod recip_rotations;
 pub mod reciprocal_group;
 pub mod refusals;
 pub mod rotate_bz_grid_index;
+pub mod rotate_bz_grid_indices;
 pub mod rotate_grid_index;
 pub mod rows;
 pub mod same_grid;

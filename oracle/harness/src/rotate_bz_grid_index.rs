@@ -24,9 +24,8 @@ pub fn map_value_fits(value: &i64) -> bool {
     (0..=MAP_VALUE).contains(value)
 }
 
-/// A call whose lengths are right.
-struct Given<'a> {
-    index: i64,
+/// What a call has beside the index, with lengths that are right.
+pub struct Given<'a> {
     rotation: MatI,
     addresses: &'a [Vec3I],
     map: &'a [i64],
@@ -37,9 +36,8 @@ struct Given<'a> {
 }
 
 impl Given<'_> {
-    fn of(input: &RotateInput) -> Result<Given<'_>, i64> {
+    pub fn of(input: &RotateInput) -> Result<Given<'_>, i64> {
         Ok(Given {
-            index: input.index,
             rotation: matrix(&input.rotation)?,
             addresses: addresses(&input.addresses)?,
             map: &input.map,
@@ -50,19 +48,19 @@ impl Given<'_> {
         })
     }
 
-    fn limits(&self) -> Result<(), i64> {
+    pub fn limits(&self) -> Result<(), i64> {
         points(self.d)?;
         limit(shift_fits(self.ps))?;
         limit(is_within(&self.rotation, ROTATION_ENTRY))
     }
 
-    fn grid(&self) -> Result<(), i64> {
+    pub fn grid(&self) -> Result<(), i64> {
         same_grid(self.table, self.d, Some(self.ps), self.bz_grid_type)
     }
 
-    fn call(&self) -> Result<i64, bzgrid::RotateBzGridError> {
+    pub fn call(&self, index: i64) -> Result<i64, bzgrid::RotateBzGridError> {
         bzgrid::rotate_bz_grid_index(
-            self.index,
+            index,
             self.rotation,
             self.addresses,
             self.map,
@@ -72,15 +70,15 @@ impl Given<'_> {
         )
     }
 
-    fn rust(&self) -> Result<i64, i64> {
-        let answer = self.call();
+    fn rust(&self, index: i64) -> Result<i64, i64> {
+        let answer = self.call(index);
         answer.map_err(|bzgrid::RotateBzGridError::BadGridType| BAD_GRID_TYPE)
     }
 
     /// Tells a fallback too.
-    fn watched(&self, fallback: &mut bool) -> Result<i64, i64> {
+    fn watched(&self, index: i64, fallback: &mut bool) -> Result<i64, i64> {
         bzgrid_watched::rotate_bz_grid_index(
-            self.index,
+            index,
             self.rotation,
             Watched {
                 items: self.addresses,
@@ -96,6 +94,13 @@ impl Given<'_> {
             fallback,
         )
         .map_err(|bzgrid_watched::RotateBzGridError::BadGridType| BAD_GRID_TYPE)
+    }
+
+    /// Where an image is carried, and 1 for a fallback.
+    pub fn rotated(&self, index: i64) -> Result<[i64; 2], i64> {
+        let mut fallback = false;
+        let image = watched(|| self.watched(index, &mut fallback), || self.rust(index))?;
+        Ok([image, fallback.into()])
     }
 }
 
@@ -134,9 +139,7 @@ impl Function for RotateBzGridIndex {
             let given = Given::of(input)?;
             given.limits()?;
             given.grid()?;
-            let mut fallback = false;
-            let index = watched(|| given.watched(&mut fallback), || given.rust())?;
-            told.copy_from_slice(&[index, fallback.into()]);
+            told.copy_from_slice(&given.rotated(input.index)?);
             Ok(())
         })
     }
@@ -145,7 +148,7 @@ impl Function for RotateBzGridIndex {
 impl Timed for RotateBzGridIndex {
     fn bare(input: &RotateInput) -> Call<'_> {
         let given = Given::of(input).expect("right lengths");
-        call(given, |given, _| given.call())
+        call((given, input.index), |(given, index), _| given.call(*index))
     }
 }
 
@@ -357,7 +360,7 @@ mod tests {
             let Ok(given) = Given::of(input) else {
                 return answer;
             };
-            match (answer, counted(|| given.rust())) {
+            match (answer, counted(|| given.rust(input.index))) {
                 (14, Ok(Ok(index))) => {
                     outputs.told.copy_from_slice(&[index, 0]);
                     ACCEPTED

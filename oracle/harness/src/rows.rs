@@ -14,6 +14,7 @@ use crate::function::{Function, Input};
 use crate::grgrid::*;
 use crate::grid_index_from_address::*;
 use crate::hermite3x3::*;
+use crate::inputs::lent_bursts::BurstInput;
 use crate::inputs::lent_classes::ClassesInput;
 use crate::inputs::lent_images::ImagesInput;
 use crate::inputs::lent_marks::MarksInput;
@@ -30,6 +31,7 @@ use crate::order_forms::*;
 use crate::recip_rotations::*;
 use crate::reciprocal_group::*;
 use crate::rotate_bz_grid_index::*;
+use crate::rotate_bz_grid_indices::*;
 use crate::rotate_grid_index::*;
 use crate::same_grid::*;
 use crate::smith3x3::*;
@@ -147,6 +149,7 @@ pub static ROWS: &[Row] = &[
     Row::apart::<BzGridFill>("bz_grid_fill"),
     Row::apart::<MarkCandidates>("mark_candidates"),
     Row::call::<RotateBzGridIndex>("rotate_bz_grid_index"),
+    Row::apart::<RotateBzGridIndices>("rotate_bz_grid_indices"),
     Row::call::<NeighboringGridPoints>("neighboring_grid_points"),
     Row::call::<IrTripletsAtQ>("ir_triplets_at_q"),
     Row::call::<BzTripletsAtQ>("bz_triplets_at_q"),
@@ -197,6 +200,15 @@ pub static VARIANTS: &[Variant] = &[
     }),
     ("rotate_bz_grid_index:type_2", || {
         bench::run_on::<RotateBzGridIndex>(RotateInput::dense)
+    }),
+    ("rotate_bz_grid_indices:type_1", || {
+        bench::run_on::<RotateBzGridIndices>(BurstInput::sparse)
+    }),
+    ("rotate_bz_grid_indices:type_2", || {
+        bench::run_on::<RotateBzGridIndices>(BurstInput::dense)
+    }),
+    ("rotate_bz_grid_indices:over_singles", || {
+        bench::beside::<RotateBzGridIndices>(BurstInput::typical, burst_over_singles)
     }),
     ("neighboring_grid_points:type_1", || {
         bench::run_on::<NeighboringGridPoints>(NeighboursInput::sparse)

@@ -59,6 +59,32 @@ impl RotateInput {
         let index = random.below(tables.images()) as i64;
         RotateInput::new(index, random.pick(rotations), tables, [0; 3])
     }
+
+    /// The addresses that the table holds.
+    pub fn images(&self) -> usize {
+        self.addresses.len() / 3
+    }
+
+    /// Those at the limits whose record agrees.
+    pub fn agreeing_at_limits() -> Vec<RotateInput> {
+        let kinds = [small(), values(), indices(), refused()];
+        kinds
+            .into_iter()
+            .flatten()
+            .map(Recorded::agreeing)
+            .collect()
+    }
+
+    /// What stands in a line beside the index.
+    pub fn write_given(&self, line: &mut Line) {
+        line.slice(&self.rotation);
+        line.slice(&self.addresses);
+        line.slice(&self.map);
+        line.slice(&self.table);
+        line.slice(&self.d);
+        line.slice(&self.ps);
+        line.number(self.bz_grid_type);
+    }
 }
 
 impl Recorded for RotateInput {
@@ -371,9 +397,7 @@ fn other_records() -> Vec<RotateInput> {
 
 impl Input for RotateInput {
     fn at_limits() -> Vec<RotateInput> {
-        let kinds = [small(), values(), indices(), refused()];
-        let agreeing = kinds.into_iter().flatten().map(Recorded::agreeing);
-        agreeing.chain(other_records()).collect()
+        [RotateInput::agreeing_at_limits(), other_records()].concat()
     }
 
     fn random(random: &mut Random) -> RotateInput {
@@ -419,12 +443,6 @@ impl Input for RotateInput {
     /// The index; the slices rotation, addresses, map, table, d and ps; the type.
     fn write(&self, line: &mut Line) {
         line.number(self.index);
-        line.slice(&self.rotation);
-        line.slice(&self.addresses);
-        line.slice(&self.map);
-        line.slice(&self.table);
-        line.slice(&self.d);
-        line.slice(&self.ps);
-        line.number(self.bz_grid_type);
+        self.write_given(line);
     }
 }

@@ -11,6 +11,7 @@ pub mod jobs;
 pub mod jobs_at_limits;
 pub mod lattices;
 pub mod lent;
+pub mod lent_bursts;
 pub mod lent_classes;
 pub mod lent_images;
 pub mod lent_marks;

@@ -138,6 +138,7 @@ mod tests {
     use crate::neighboring_grid_points::NeighboringGridPoints;
     use crate::refusals::ACCEPTED;
     use crate::rotate_bz_grid_index::RotateBzGridIndex;
+    use crate::rotate_bz_grid_indices::RotateBzGridIndices;
 
     #[test]
     fn records_of_calls() {
@@ -202,8 +203,12 @@ mod tests {
 
     #[test]
     fn every_number_is_compared() {
-        let rotation = told::<RotateBzGridIndex>(4_000);
-        assert!(rotation.iter().all(|&told| told > 3), "{rotation:?}");
+        for told in [
+            told::<RotateBzGridIndex>(4_000),
+            told::<RotateBzGridIndices>(4_000),
+        ] {
+            assert!(told.iter().all(|&told| told > 3), "{told:?}");
+        }
     }
 
     /// The shift decides nothing.

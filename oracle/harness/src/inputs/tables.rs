@@ -81,8 +81,7 @@ impl LentTables {
     }
 
     pub fn no_index(&self, random: &mut Random) -> i64 {
-        let images = self.images() as i64;
-        random.pick(&[-1, images, images + 1, MAP_VALUE, i64::MIN, i64::MAX])
+        no_index(random, self.images() as i64)
     }
 
     /// A value of a map, a likely one or one at a limit.
@@ -143,6 +142,11 @@ impl LentTables {
 pub fn both(d: Vec3I, lattice: MatD) -> [LentTables; 2] {
     let of_type = |bz_grid_type| LentTables::of(&Images::new(d, lattice, bz_grid_type));
     TYPES.map(|bz_grid_type| of_type(bz_grid_type).expect("accepted"))
+}
+
+/// An index of none of so many images.
+pub fn no_index(random: &mut Random, images: i64) -> i64 {
+    random.pick(&[-1, images, images + 1, MAP_VALUE, i64::MIN, i64::MAX])
 }
 
 /// A number of an address, small or at its limit.

@@ -72,6 +72,27 @@ extern "C" {
         told: *mut i64,
         told_len: usize,
     ) -> i64;
+    fn zone_rotate_bz_grid_indices(
+        indices: *const i64,
+        indices_len: usize,
+        rotation: *const i64,
+        rotation_len: usize,
+        addresses: *const i64,
+        addresses_len: usize,
+        map: *const i64,
+        map_len: usize,
+        table: *const i64,
+        table_len: usize,
+        d: *const i64,
+        d_len: usize,
+        ps: *const i64,
+        ps_len: usize,
+        bz_grid_type: i64,
+        out: *mut i64,
+        out_len: usize,
+        fallbacks: *mut i64,
+        fallbacks_len: usize,
+    ) -> i64;
     fn zone_neighboring_grid_points(
         points: *const i64,
         points_len: usize,
@@ -216,6 +237,43 @@ pub fn rotate_bz_grid_index(
             bz_grid_type,
             told.as_mut_ptr(),
             told.len(),
+        )
+    }
+}
+
+pub fn rotate_bz_grid_indices(
+    indices: &[i64],
+    rotation: &[i64],
+    addresses: &[i64],
+    map: &[i64],
+    table: &[i64],
+    d: &[i64],
+    ps: &[i64],
+    bz_grid_type: i64,
+    out: &mut [i64],
+    fallbacks: &mut [i64],
+) -> i64 {
+    unsafe {
+        zone_rotate_bz_grid_indices(
+            indices.as_ptr(),
+            indices.len(),
+            rotation.as_ptr(),
+            rotation.len(),
+            addresses.as_ptr(),
+            addresses.len(),
+            map.as_ptr(),
+            map.len(),
+            table.as_ptr(),
+            table.len(),
+            d.as_ptr(),
+            d.len(),
+            ps.as_ptr(),
+            ps.len(),
+            bz_grid_type,
+            out.as_mut_ptr(),
+            out.len(),
+            fallbacks.as_mut_ptr(),
+            fallbacks.len(),
         )
     }
 }

@@ -1,4 +1,4 @@
-use mathlib.Core.Path.{◌≡◌, sym, ◌∙◌}
+use mathlib.Core.Path.{sym, ◌∙◌}
 use Rattle.integer.proofs.Test.{holds}
 use Rattle.common.specs.Array.{vector_of}
 use Rattle.grgrid.specs.Sides.{sides}

@@ -35,12 +35,13 @@ module _ {A B : Type 0} (f : A → Read B) (l : List A) where
     pub back_is : take i back ≡ map_list h states
 
   module _ {g h : B → ℤ} {i : ℕ} {out back : List ℤ} (w : Filled g h i out back) (d : A) where
-    pub filled-more : i < length l → i < length out → i < length back → {b : B} → f (get_or l i d) ≡ got b → {x y : ℤ} → x ≡ g b → y ≡ h b → Filled g h (i + 1) (set out i x) (set back i y)
-    filled-more k m n {b} e ex ey = record {
+    pub filled-more : i < length l → i < length out → i < length back → {b : B} → f (get_or l i d) ≡ got b → {j k : ℕ} → j ≡ i → k ≡ i → {x y : ℤ} → x ≡ g b → y ≡ h b
+        → Filled g h (i + 1) (set out j x) (set back k y)
+    filled-more p m n {b} e ej ek ex ey = record {
       states = w.states ++ (b ∷ []);
-      read = ap (λ j. read_each f (take j l)) (add-one i) ∙ ap (read_each f) (take-suc l i d k) ∙ each_more f (take i l) (get_or l i d) w.read e;
-      out_is = ap (λ x. take (i + 1) (set out i x)) ex ∙ mapped-more g out i w.states b m w.out_is;
-      back_is = ap (λ y. take (i + 1) (set back i y)) ey ∙ mapped-more h back i w.states b n w.back_is;
+      read = ap (λ j. read_each f (take j l)) (add-one i) ∙ ap (read_each f) (take-suc l i d p) ∙ each_more f (take i l) (get_or l i d) w.read e;
+      out_is = ap₂ (λ j x. take (i + 1) (set out j x)) ej ex ∙ mapped-more g out i w.states b m w.out_is;
+      back_is = ap₂ (λ k y. take (i + 1) (set back k y)) ek ey ∙ mapped-more h back i w.states b n w.back_is;
     }
 
     pub filled-refused : i < length l → {r : Refusal} → f (get_or l i d) ≡ Err r → (t : B → ℤ) → Err r ≡ (read_each f l then λ s. got (map_list t s))

@@ -45,6 +45,7 @@ pub fn rotate_tests(
 }
 
 // The address that a rotation carries address a to.
+#[inline(always)]
 fn turned(a: Address, rotation: Rotation, ps: Shift) -> [i64; 3]
     ensures { result ≡ items (turned (matrix_of rotation.m) (vector_of ps.v) (vector_of a.v)) }
 {
@@ -65,6 +66,7 @@ fn among_run(table: &Table, a: [i64; 3], p: usize) -> Result<Option<usize>, Refu
 }
 
 // The first image of point p is at its own place.
+#[inline(always)]
 fn among_sparse(table: &Table, a: [i64; 3], p: usize) -> Result<Option<usize>, Refusal>
     requires sparse { table.now.t ≡ GridType.Sparse }
     requires point { p < size (sides table.now.g) }
@@ -79,6 +81,7 @@ fn among_sparse(table: &Table, a: [i64; 3], p: usize) -> Result<Option<usize>, R
 }
 
 // A clause bounds p: a GridPoint has a grid of its own, which would have to be the table's.
+#[inline(always)]
 fn among_images(table: &Table, a: [i64; 3], p: usize) -> Result<Option<usize>, Refusal>
     requires { p < size (sides table.now.g) }
     ensures value { let n = size (sides table.now.g) in
@@ -92,6 +95,7 @@ fn among_images(table: &Table, a: [i64; 3], p: usize) -> Result<Option<usize>, R
 }
 
 // The image at address a, among those of the point that it folds to.
+#[inline(always)]
 fn image_of(table: &Table, a: [i64; 3]) -> Result<Rotated, Refusal>
     ensures { result ≡ image_of table.now.t (sides table.now.g) table.now.addresses.now table.now.map.now (vector_of a) }
 {

@@ -42,7 +42,7 @@ loop-i-preserved c =
     let x : to_z w64 (of_z w64 c.place_told.result) ≡ c.place_told.result = search rules in
     let y : to_z w64 (of_z w64 c.fallback_told.result) ≡ c.fallback_told.result = search rules in
     filled-more f l c.loop-i.invariant (pos 0) c.loop-i-test.true (omega (arith, c.loop-i-test.true, c.loop-i.auto.out, c.requires.room))
-    (omega (arith, c.loop-i-test.true, c.loop-i.auto.fallbacks, c.requires.room_too)) {b = c.in_ok-r.r} (sym (c.in_ok-r.ensures ∙ ap f same)) (x ∙ c.place_told.ensures) (y ∙ c.fallback_told.ensures)
+    (omega (arith, c.loop-i-test.true, c.loop-i.auto.fallbacks, c.requires.room_too)) {b = c.in_ok-r.r} (sym (c.in_ok-r.ensures ∙ ap f same)) (search rules) (search rules) (x ∙ c.place_told.ensures) (y ∙ c.fallback_told.ensures)
 
 pub returns-clause-out_after : goal.returns-clause-out_after
 returns-clause-out_after c =

@@ -1,15 +1,19 @@
--- Counted walks over images: one step more, and a state that no step changes stays to the end. So do the three nested walks.
+-- Counted walks over images: one step more, and a state that no step changes stays to the end. So do the three nested walks;
+-- and such walks go beside others.
 use mathlib.Core.Path.{◌≡◌, refl, sym, ◌∙◌, ap, ap₂}
 use mathlib.Core.Logic.{⊎_elim}
 use mathlib.Core.Bool.{true, false, true≢false}
-use mathlib.Core.List.{List, [], ◌∷◌, foldl}
+use mathlib.Core.List.Memᴰ.{head as here}
+use mathlib.Core.List.Memᴰ.{tail as there}
+use mathlib.Core.List.{List, [], ◌∷◌, map, foldl}
 use Prim.Native.Nat.{ℕ, zero, suc, ◌+◌, ◌-◌, ◌<◌, ◌≤◌}
 use native.Mathlib.Nat.{le_antisymm, not-suc-le-zero, le_of_suc-le-suc, eq-or-lt_of_le}
 use native.Mathlib.Numerals.{add-one}
 use native.Mathlib.Omega.{arith}
 use Rattle.std.specs.Prelude.{Err}
-use Rattle.common.specs.Matrix.{Vec}
+use Rattle.common.specs.Matrix.{Vec, map_vec}
 use Rattle.common.specs.declared.Refusal.{Refusal}
+use Rattle.grgrid.specs.Lists.{◌∈◌}
 use Rattle.bztable.specs.Reading.{Read, got}
 use Rattle.bzgrid.specs.Table.{listed}
 use Rattle.bzsearch.specs.Search.{numbers_from}
@@ -18,7 +22,6 @@ use Rattle.bz_triplets.specs.declared.choices.Step.TheVariants as step
 use Rattle.bz_triplets.specs.declared.choices.Triplet.{Triplet}
 use Rattle.bz_triplets.specs.Choosing.{nested}
 use Rattle.bz_triplets.specs.BzTriplets.{State, Walk, try_at}
-use Rattle.bztable.specs.Access.{place_in}
 use Rattle.bz_triplets.specs.Code.TripletsView.{found_by, summed, state_of, is_closed}
 
 -- ---- one walk
@@ -52,11 +55,6 @@ module _ {A S : Type 0} (f : S → A → S) where
           ⊎_elim (λ q. turned ∙ ap (λ n. foldl f s (listed g n)) (add-one k ∙ ap suc q))
           (λ l. sym (keeps (g n)) ∙ ap (λ r. f r (g n)) (ended n l keeps) ∙ sym (one_more s n))
           (eq-or-lt_of_le (le_of_suc-le-suc h))
-
--- ---- the images of a point, after the first
-pub place_other : (first others k : ℕ) → (k ≡ 0 → ⊥) → others + (k - 1) ≡ place_in first others k
-place_other first others zero h = absurd (h refl)
-place_other first others (suc k) h = ap (λ n. others + n) {x = suc k - 1} {y = k} (omega arith)
 
 -- ---- the three levels of nested walks
 module _ {X S : Type 0} (step : S → Vec X → S) where
@@ -93,6 +91,22 @@ module _ {X S : Type 0} (step : S → Vec X → S) where
 
     pub none-third : c ≡ 0 → s ≡ walked
     none-third e = sym (ap (λ c. nested step s (record { x = listed g a; y = listed h b; z = listed k c })) e ∙ stays (outer (listed h b) []) (λ x. stays (middle [] x) (λ y. refl) (listed h b)) (listed g a))
+
+-- ---- a walk beside another, over what A tells of its steps: R stays where each step keeps it
+module _ {S U X Y : Type 0} (R : S → U → Type 0) (A : X → Y) where
+  beside : (f : S → X → S) (h : U → Y → U) (l : List X) → ((s : S) (u : U) (x : X) → x ∈ l → R s u → R (f s x) (h u (A x)))
+      → (s : S) (u : U) → R s u → R (foldl f s l) (foldl h u (map A l))
+  beside f h [] e s u r = r
+  beside f h (x ∷ l) e s u r = beside f h l (λ s u y m. e s u y (there m)) (f s x) (h u (A x)) (e s u x (here refl) r)
+
+  pub nested-beside : (f : S → Vec X → S) (h : U → Vec Y → U) (l : Vec (List X))
+      → ((s : S) (u : U) (c : Vec X) → c.x ∈ l.x → c.y ∈ l.y → c.z ∈ l.z → R s u → R (f s c) (h u (map_vec A c)))
+      → (s : S) (u : U) → R s u → R (nested f s l) (nested h u (map_vec (map A) l))
+  nested-beside f h l e =
+      beside (outer f l.y l.z) (outer h (map A l.y) (map A l.z)) l.x
+      (λ s u a m. beside (middle f l.z a) (middle h (map A l.z) (A a)) l.y
+      (λ s u b n. beside (inner f a b) (inner h (A a) (A b)) l.z
+      (λ s u c k. e s u (record { x = a; y = b; z = c }) m n k) s u) s u)
 
 -- ---- what was found
 module _ (w : Walk) where

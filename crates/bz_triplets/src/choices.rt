@@ -5,12 +5,12 @@ ghost use Rattle.bzsearch.specs.SearchView.{float_nine};
 ghost use Rattle.bztable.specs.Reading.{got};
 ghost use Rattle.bz_triplets.specs.Choosing.{start, nested};
 ghost use Rattle.bz_triplets.specs.BzTriplets.{squared_distance, sum_of, is_zero, tried_sum, try_at};
-ghost use Rattle.bztable.specs.Access.{place_in};
-ghost use Rattle.bz_triplets.specs.Code.TripletsView.{state_of, state_read, places_in, walk_by, shorter, is_closed, choice_view};
+ghost use Rattle.bztable.specs.Code.PlacesView.{places_in};
+ghost use Rattle.bz_triplets.specs.Code.TripletsView.{state_of, state_read, walk_by, shorter, is_closed, choice_view};
 
-use crate::places::{Choice, Place, Places};
-use bztable::reading;
+use bztable::places::{Place, Places};
 use bztable::reading::Table;
+use bztable::{places, reading};
 use common::{Bounded, Refusal};
 use grgrid::Address;
 
@@ -20,6 +20,14 @@ pub enum Step {
     Closed,
     Left(f64),
     Empty,
+}
+
+// One image each of q0, q1 and q2.
+#[derive(Clone, Copy)]
+pub struct Choice {
+    pub x: Place,
+    pub y: Place,
+    pub z: Place,
 }
 
 #[derive(Clone, Copy)]
@@ -112,19 +120,6 @@ fn try_choice(table: &Table, t: Triplet, choice: Choice, m: Measure) -> Result<T
     Ok(with_sum(t, choice, add3(a, b, c), m))
 }
 
-#[inline(always)]
-fn place_in(r: Places, k: usize) -> Place
-    requires { k < r.count }
-    ensures { result.at ≡ place_in r.first.at r.others k }
-{
-    if k == 0 {
-        return r.first;
-    }
-    Place {
-        at: r.others + (k - 1),
-    }
-}
-
 // A zero sum ends the walk.
 fn is_closed(s: Step) -> bool
     ensures { result ≡ is_closed s }
@@ -160,14 +155,14 @@ pub fn search_choices(
     }
     // Three loops, as in bzsearch's least_box.
     for i in 0..q0.count {
-        let x = place_in(q0, i);
+        let x = places::place_in(q0, i);
         for j in 0..q1.count {
-            let y = place_in(q1, j);
+            let y = places::place_in(q1, j);
             for k in 0..q2.count {
                 let choice = Choice {
                     x,
                     y,
-                    z: place_in(q2, k),
+                    z: places::place_in(q2, k),
                 };
                 found = try_choice(table, found, choice, m)?;
                 if is_closed(found.step) {

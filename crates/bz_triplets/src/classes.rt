@@ -5,42 +5,19 @@ ghost use Rattle.common.specs.Array.{vector_of, items, Sized};
 ghost use Rattle.grgrid.specs.Grid.{size, cell};
 ghost use Rattle.grgrid.specs.Own.{own_points};
 ghost use Rattle.grgrid.specs.Sides.{sides};
-ghost use Rattle.bztable.specs.Access.{image_places};
 ghost use Rattle.bztable.specs.Reading.{got, vector_read, read_each};
 ghost use Rattle.bz_triplets.specs.BzTriplets.{chosen, first_of, triplet_of, places_of, cells_of, cell_list};
 ghost use Rattle.bz_triplets.specs.BzTriplets.{mark_of, length_of, triplet_list, marks, lengths};
-ghost use Rattle.bz_triplets.specs.Code.TripletsView.{state_of, state_read, places_listed, walk_by, step_place, RoomFor};
+ghost use Rattle.bz_triplets.specs.Code.TripletsView.{state_of, state_read, walk_by, step_place, RoomFor};
 
 use crate::choices;
 use crate::choices::{Measure, Step, Sum, Triplet};
-use crate::places::{Place, Places};
 use bzgrid::GridType;
-use bztable::reading;
+use bztable::places::Place;
 use bztable::reading::Table;
+use bztable::{places, reading};
 use common::Refusal;
 use grgrid::{Address, Grid};
-
-// ---- the images of a point
-
-#[inline(always)]
-fn places_at(table: &Table, p: Place) -> Result<Places, Refusal>
-    ensures { places_listed result ≡ image_places table.now.t table.now.map.now (size (sides table.now.g)) p.at }
-{
-    let r = reading::run_of(table, p.at)?;
-    match table.t {
-        // The first image stands at its own place.
-        GridType::Sparse => Ok(Places {
-            first: p,
-            others: r.from,
-            count: (r.to + 1).saturating_sub(r.from),
-        }),
-        GridType::Dense => Ok(Places {
-            first: Place { at: r.from },
-            others: r.from + 1,
-            count: r.to.saturating_sub(r.from),
-        }),
-    }
-}
 
 // ---- the triplet of a class
 
@@ -49,9 +26,9 @@ fn places_at(table: &Table, p: Place) -> Result<Places, Refusal>
 fn chosen(table: &Table, q0: Place, q1: Place, q2: Place, m: Measure) -> Result<Triplet, Refusal>
     ensures { state_read result ≡ chosen table.now.t (size (sides table.now.g)) table.now.map.now (walk_by m table.now.addresses.now) q0.at q1.at q2.at }
 {
-    let x = places_at(table, q0)?;
-    let y = places_at(table, q1)?;
-    let z = places_at(table, q2)?;
+    let x = places::places_at(table, q0)?;
+    let y = places::places_at(table, q1)?;
+    let z = places::places_at(table, q2)?;
     choices::search_choices(table, x, y, z, m)
 }
 

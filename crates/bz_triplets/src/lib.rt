@@ -3,7 +3,6 @@
 
 mod choices;
 mod classes;
-mod places;
 
 ghost use Rattle.std.specs.Prelude.{◌≡◌, ◌&&◌, ◌||◌, [], ◌*◌, T, eqb, pos, nat_abs, length, IfOk};
 ghost use Rattle.std.specs.Int.Signed.{non_neg};
@@ -21,13 +20,13 @@ ghost use Rattle.bz_triplets.specs.BzTriplets.{lqd_inv, point_of, is_dense, inpu
 ghost use Rattle.bz_triplets.specs.Code.TripletsView.{row_over};
 
 use bzgrid::{GridType, TableRecord};
+use bztable::places::Place;
 use bztable::reading::Table;
 use bztable::{agreement, reading};
 use choices::Measure;
 pub use choices::Step;
 use common::Refusal;
 use grgrid::Grid;
-use places::Place;
 
 fn over_sides(a: [f64; 3], d: [f64; 3]) -> [f64; 3]
     ensures { result ≡ row_over a d }

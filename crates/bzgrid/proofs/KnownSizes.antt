@@ -21,9 +21,8 @@ use Rattle.bzgrid.specs.declared.TableRecord.{TableRecord}
 use Rattle.bzgrid.specs.declared.Built.{Built}
 use Rattle.bzsearch.specs.Search.{Search}
 use Rattle.bzgrid.specs.Table.{images_at}
-use Rattle.bzgrid.specs.BzGridAddresses.{search_of, all_found, lengths_of, as_told, has_room, input_tests, BzGridAddresses, unbuilt, build_tests, built, built_for, sizes_of, recorded, tables_told, bz_grid_addresses, bz_grid_fill, bz_grid_sizes}
+use Rattle.bzgrid.specs.BzGridAddresses.{search_of, all_found, lengths_of, as_told, has_room, input_tests, BzGridAddresses, unbuilt, laid_out, build_tests, built, built_for, sizes_of, recorded, tables_told, bz_grid_addresses, bz_grid_fill, bz_grid_sizes}
 use Rattle.bzgrid.specs.KnownSizes.{numbers, KnownSizes}
-use Rattle.bzgrid.proofs.Outcome.{outcome}
 
 abbrev sizes_for : Result GridType Refusal → Search → Result Lengths Refusal
 sizes_for k s = k then λ k. sizes_of k s
@@ -40,22 +39,22 @@ module _ (t : GridType) (s : Search) (a b c : ℕ) where
     -- with lengths that are the tables'
     pub built-as : as_told w l ≡ true → built t s w a b c ≡ built t s None a b c
     unfolding built build_tests
-    built-as e = ap (λ u. outcome t s None a b c (tests (all_found (images_at s) (size s.d)) u)) e
+    built-as e = ap (λ u. laid_out t s.d (images_at s) a b c (tests (all_found (images_at s) (size s.d)) u)) e
 
     -- with others, or where the search failed
     pub built-other : {k : Lengths} → sizes_of t s ≡ Ok k → as_told w l ≡ false → built t s w a b c ≡ unbuilt a b c OtherSizes
     unfolding built build_tests
     built-other h e = by (all_found (images_at s) (size s.d)) (as_told w l) h e
       where
-        by : (f u : Bool) {k : Lengths} → require f SearchFailed (Ok l) ≡ Ok k → u ≡ false → outcome t s None a b c (tests f u) ≡ unbuilt a b c OtherSizes
-        by true u h e = ap (λ u. outcome t s None a b c (tests true u)) e
+        by : (f u : Bool) {k : Lengths} → require f SearchFailed (Ok l) ≡ Ok k → u ≡ false → laid_out t s.d (images_at s) a b c (tests f u) ≡ unbuilt a b c OtherSizes
+        by true u h e = ap (λ u. laid_out t s.d (images_at s) a b c (tests true u)) e
         by false u h e = absurd (refused-not-ok h)
 
     pub built-refused : {r : Refusal} → sizes_of t s ≡ Err r → built t s w a b c ≡ unbuilt a b c r
     unfolding built build_tests
     built-refused h = by (all_found (images_at s) (size s.d)) (as_told w l) h
       where
-        by : (f u : Bool) {r : Refusal} → require f SearchFailed (Ok l) ≡ Err r → outcome t s None a b c (tests f u) ≡ unbuilt a b c r
+        by : (f u : Bool) {r : Refusal} → require f SearchFailed (Ok l) ≡ Err r → laid_out t s.d (images_at s) a b c (tests f u) ≡ unbuilt a b c r
         by true u h = absurd (refused-not-ok (sym h))
         by false u h = ap (unbuilt a b c) (same-refusal h)
 

@@ -1,4 +1,4 @@
--- From what the walk and the test of the lengths leave to what the call answers and writes.
+-- From what the walk and the test of the lengths leave to what a call that lays out a table answers and writes.
 use mathlib.Core.Path.{◌≡◌, refl, sym, ◌∙◌, ap, ap₂, subst, subst₂}
 use mathlib.Core.Bool.{Bool, true, false, false≢true, ◌&&◌, cond}
 use mathlib.Core.List.{List}
@@ -12,7 +12,7 @@ use Rattle.integer.proofs.Test.{and_l, and_r, holds, is_true}
 use Rattle.common.specs.Matrix.{Axis, X, Y, Z, Vec, side}
 use Rattle.common.specs.Array.{sides_of}
 use Rattle.common.specs.Limits.{diagonal_fits}
-use Rattle.common.specs.Tested.{require, output_of, Tested, Accepted, giving}
+use Rattle.common.specs.Tested.{require, Tested, Accepted, giving}
 use Rattle.common.specs.declared.Refusal.{Refusal}
 use Rattle.common.specs.declared.Refusal.TheVariants.{SearchFailed, OtherSizes, WrongLength}
 use Rattle.common.proofs.Matrix.{side-vector}
@@ -24,9 +24,10 @@ use Rattle.bzgrid.specs.declared.GridType.TheVariants.{Sparse, Dense}
 use Rattle.bzgrid.specs.declared.Lengths.{Lengths}
 use Rattle.bzsearch.specs.Search.{Search}
 use Rattle.bzgrid.specs.Table.{Image, images_at, dense_map, sparse_map, doubled, address_list, point_list}
-use Rattle.bzgrid.specs.BzGridAddresses.{is_sparse, table_of, map_of, map_length, all_found, lengths_of, as_told, has_room, padded, BzGridAddresses, unbuilt, build_tests, built, sizes_of}
+use Rattle.bzgrid.specs.BzGridAddresses.{is_sparse, table_of, map_of, map_length, all_found, lengths_of, as_told, has_room, padded}
+use Rattle.bzgrid.specs.BzGridAddresses.{unbuilt, laid_out, build_tests, built, sizes_of}
 use Rattle.bzgrid.specs.Code.Writing.{if_sparse, with_mesh}
-use Rattle.bzgrid.specs.Code.Walked.{walk_of, blank, WrittenTo, lengths_for, judged, MeshFits}
+use Rattle.bzgrid.specs.Code.Walked.{before, walk_of, blank, WrittenTo, lengths_for, judged, MeshFits}
 use Rattle.bzgrid.proofs.Layouts.{table, length-table, addresses-laid, points-laid}
 use Rattle.bzgrid.proofs.Mapped.{size-doubled, mapped}
 
@@ -81,6 +82,18 @@ room_for sp n m x y z r =
     let q = and_r (leb (3 * m) x) (leb b y && leb m z) r in
     (leb→le (3 * m) x (and_l (leb (3 * m) x) (leb b y && leb m z) r), leb→le b y (and_l (leb b y) (leb m z) q), leb→le m z (and_r (leb b y) (leb m z) q))
 
+-- the tests of the lengths
+abbrev pub room_tests : Option (List ℤ) → Lengths → (x y z : ℕ) → Tested
+room_tests w l x y z = require (as_told w l) OtherSizes (require (has_room l x y z) WrongLength Accepted)
+
+judged-by : (w : Option (List ℤ)) (l : Lengths) (x y z : ℕ) → judged w l x y z ≡ giving (room_tests w l x y z) l
+judged-by w l x y z = by (as_told w l) (has_room l x y z)
+  where
+    by : (u h : Bool) → require u OtherSizes (require h WrongLength (Ok l)) ≡ giving (require u OtherSizes (require h WrongLength Accepted)) l
+    by true true = refl
+    by true false = refl
+    by false h = refl
+
 built-room : (w : Option (List ℤ)) (l : Lengths) (x y z : ℕ) {k : Lengths} → Ok k ≡ judged w l x y z → T (as_told w l) × T (has_room l x y z)
 built-room w l x y z {k} = by (as_told w l) (has_room l x y z)
   where
@@ -89,100 +102,110 @@ built-room w l x y z {k} = by (as_told w l) (has_room l x y z)
     by true false e = absurd (refused-not-ok (sym e))
     by false h e = absurd (refused-not-ok (sym e))
 
-module _ (t : GridType) (s : Search) (w : Option (List ℤ)) (x y z : ℕ) where
-  abbrev g : ℕ → List Image
-  g = images_at s
+-- ---- of the images g of each point
+module _ (t : GridType) (d : Vec ℕ) (g : ℕ → List Image) (x y z : ℕ) where
+  pub unbuilt-is : {r : Refusal} (k : Tested) → Err r ≡ giving k (lengths_of t d g) → unbuilt x y z r ≡ laid_out t d g x y z k
+  unbuilt-is (Ok _) e = absurd (refused-not-ok e)
+  unbuilt-is (Err q) e = ap (unbuilt x y z) (same-refusal e)
 
-  abbrev n : ℕ
-  n = size s.d
+  -- the code's names: whether the table is sparse, the number of points and that of images
+  module _ {sp : Bool} {k m : ℕ} (es : sp ≡ is_sparse t) (ek : k ≡ size d) (found : T (all_found g (size d))) (em : m ≡ if_sparse sp k + before sp g k) where
+    count : m ≡ length (table g (is_sparse t) (size d))
+    count = em ∙ ap₂ (λ b j. if_sparse b j + before b g j) es ek ∙ sym (length-table g (is_sparse t) (size d) found)
 
-  abbrev tests : (f u h : Bool) → Tested
-  tests f u h = require f SearchFailed (require u OtherSizes (require h WrongLength Accepted))
+    pub lengths-are : lengths_for sp k m ≡ lengths_of t d g
+    lengths-are =
+        ap₂ (λ b j. lengths_for b j m) es ek
+        ∙ ap₂ (λ c j. record { addresses = 3 * c; map = j; grg = c }) (count ∙ ap length (sym (table_is d g t))) (map-length d g t)
 
-  abbrev told-as : Bool
-  told-as = as_told w (lengths_of t s.d g)
-
-  -- by the tests' answer
-  abbrev pub outcome : Tested → BzGridAddresses Lengths
-  outcome k = record {
-    answer = giving k (lengths_of t s.d g);
-    addresses = output_of k x (padded (address_list (table_of t g n)) x);
-    map = output_of k y (padded (map_of t s.d g) y);
-    grg = output_of k z (padded (point_list (table_of t g n)) z);
-  }
-
-  pub refused : {r : Refusal} → Err r ≡ (built t s w x y z).answer → unbuilt x y z r ≡ built t s w x y z
-  unfolding built
-  refused {r} = by (build_tests t s w x y z)
-    where
-      by : (k : Tested) → Err r ≡ giving k (lengths_of t s.d g) → unbuilt x y z r ≡ outcome k
-      by (Ok _) e = absurd (refused-not-ok e)
-      by (Err q) e = ap (unbuilt x y z) (same-refusal e)
-
-  -- the code's names: whether the table is sparse, and the number of points
-  module _ {sp : Bool} {k : ℕ} (es : sp ≡ is_sparse t) (ek : k ≡ n) where
-    told : {w : Option ℕ} → w ≡ walk_of sp g k → w ≡ walk_of (is_sparse t) g n
-    told e = e ∙ ap₂ (λ b j. walk_of b g j) es ek
-
-    pub failed : None ≡ walk_of sp g k → Err SearchFailed ≡ (built t s w x y z).answer
-    unfolding built build_tests
-    failed e = sym (ap (λ f. giving (tests f told-as (has_room (lengths_of t s.d g) x y z)) (lengths_of t s.d g)) (told-missing (all_found g n) _ (told e)))
-
-    module _ {m : ℕ} (e : Some m ≡ walk_of sp g k) where
-      found : all_found g n ≡ true
-      found = (told-images (all_found g n) _ (told e)).0
-
-      count : m ≡ length (table g (is_sparse t) n)
-      count = (told-images (all_found g n) _ (told e)).1 ∙ sym (length-table g (is_sparse t) n (holds found))
-
-      lengths : lengths_for sp k m ≡ lengths_of t s.d g
-      lengths =
-          ap₂ (λ b j. lengths_for b j m) es ek
-          ∙ ap₂ (λ c j. record { addresses = 3 * c; map = j; grg = c }) (count ∙ ap length (sym (table_is s.d g t))) (map-length s.d g t)
-
-      pub sized : Ok (lengths_for sp k m) ≡ sizes_of t s
-      sized = ap Ok lengths ∙ ap (λ f. require f SearchFailed (Ok (lengths_of t s.d g))) (sym found)
-
-      pub answered : judged w (lengths_for sp k m) x y z ≡ (built t s w x y z).answer
-      unfolding built build_tests
-      answered = ap (λ l. judged w l x y z) lengths ∙ by told-as (has_room (lengths_of t s.d g) x y z) ∙ ap (λ f. giving (tests f told-as (has_room (lengths_of t s.d g) x y z)) (lengths_of t s.d g)) (sym found)
-        where
-          by : (u h : Bool) → require u OtherSizes (require h WrongLength (Ok (lengths_of t s.d g))) ≡ giving (tests true u h) (lengths_of t s.d g)
-          by true true = refl
-          by true false = refl
-          by false h = refl
+    module _ (w : Option (List ℤ)) where
+      pub judged-is : judged w (lengths_for sp k m) x y z ≡ giving (room_tests w (lengths_of t d g) x y z) (lengths_of t d g)
+      judged-is = ap (λ l. judged w l x y z) lengths-are ∙ judged-by w (lengths_of t d g) x y z
 
       module _ {l : Lengths} (j : Ok l ≡ judged w (lengths_for sp k m) x y z) where
         both : T (as_told w (lengths_for sp k m)) × T (has_room (lengths_for sp k m) x y z)
         both = built-room w (lengths_for sp k m) x y z j
 
-        room : (3 * m ≤ x) × (if_sparse (is_sparse t) (8 * n) + (n + 1) ≤ y) × (m ≤ z)
-        room = room_for (is_sparse t) n m x y z (subst T (ap₂ (λ b j. has_room (lengths_for b j m) x y z) es ek) both.1)
+        room : (3 * m ≤ x) × (if_sparse (is_sparse t) (8 * size d) + (size d + 1) ≤ y) × (m ≤ z)
+        room = room_for (is_sparse t) (size d) m x y z (subst T (ap₂ (λ b j. has_room (lengths_for b j m) x y z) es ek) both.1)
 
-        passed : build_tests t s w x y z ≡ Accepted
-        unfolding build_tests
-        passed = λ i. tests (found i) ((ap (as_told w) (sym lengths) ∙ is_true (as_told w (lengths_for sp k m)) both.0) i)
-            ((ap (λ l. has_room l x y z) (sym lengths) ∙ is_true (has_room (lengths_for sp k m) x y z) both.1) i)
+        passed : room_tests w (lengths_of t d g) x y z ≡ Accepted
+        passed =
+            ap (λ l. room_tests w l x y z) (sym lengths-are)
+            ∙ ap₂ (λ u h. require u OtherSizes (require h WrongLength Accepted))
+            (is_true (as_told w (lengths_for sp k m)) both.0) (is_true (has_room (lengths_for sp k m) x y z) both.1)
 
-        whole : {a m₁ b m₂ : List ℤ} {d : Vec ℕ} → (T (all_found g k) → WrittenTo sp g k (if_sparse sp (8 * k)) (blank x) (blank y) (blank z) a m₁ b)
-            → d ≡ doubled s.d → m₂ ≡ with_mesh sp d a m m₁ → record { answer = Ok l; addresses = a; map = m₂; grg = b } ≡ built t s w x y z
-        unfolding built
-        whole {a} {m₁} {b} h ed q =
+        whole : {a m₁ b m₂ : List ℤ} {c : Vec ℕ} → WrittenTo sp g k (if_sparse sp (8 * k)) (blank x) (blank y) (blank z) a m₁ b
+            → c ≡ doubled d → m₂ ≡ with_mesh sp c a m m₁
+            → record { answer = Ok l; addresses = a; map = m₂; grg = b } ≡ laid_out t d g x y z (room_tests w (lengths_of t d g) x y z)
+        whole {a} {m₁} {b} h ec q =
             (λ i. record {
-              answer = (j ∙ answered ∙ ap (λ k. giving k (lengths_of t s.d g)) passed) i;
-              addresses = (laid ∙ ap (λ xs. padded (address_list xs) x) (sym (table_is s.d g t))) i;
-              map = (q ∙ (λ i. with_mesh (es i) (ed i) (laid i) (count i) (all-written.map i)) ∙ mapped s.d g y (is_sparse t) x room.1 ∙ ap (λ l. padded l y) (sym (map_is s.d g t))) i;
-              grg = (all-written.grg ∙ points-laid g (is_sparse t) n x z (holds found) (subst (λ k. k ≤ z) count room.2) ∙ ap (λ xs. padded (point_list xs) z) (sym (table_is s.d g t))) i;
+              answer = (j ∙ judged-is ∙ ap (λ k. giving k (lengths_of t d g)) passed) i;
+              addresses = (laid ∙ ap (λ xs. padded (address_list xs) x) (sym (table_is d g t))) i;
+              map =
+                  (q ∙ (λ i. with_mesh (es i) (ec i) (laid i) (count i) (written.map i)) ∙ mapped d g y (is_sparse t) x room.1
+                  ∙ ap (λ l. padded l y) (sym (map_is d g t))) i;
+              grg =
+                  (written.grg ∙ points-laid g (is_sparse t) (size d) x z found (subst (λ k. k ≤ z) count room.2)
+                  ∙ ap (λ xs. padded (point_list xs) z) (sym (table_is d g t))) i;
             })
-            ∙ ap outcome (sym passed)
+            ∙ ap (laid_out t d g x y z) (sym passed)
           where
-            all-written : WrittenTo (is_sparse t) g n (if_sparse (is_sparse t) (8 * n)) (blank x) (blank y) (blank z) a m₁ b
-            all-written = subst₂ (λ c j. WrittenTo c g j (if_sparse c (8 * j)) (blank x) (blank y) (blank z) a m₁ b) es ek (h (subst (λ j. T (all_found g j)) (sym ek) (holds found)))
+            written : WrittenTo (is_sparse t) g (size d) (if_sparse (is_sparse t) (8 * size d)) (blank x) (blank y) (blank z) a m₁ b
+            written = subst₂ (λ c j. WrittenTo c g j (if_sparse c (8 * j)) (blank x) (blank y) (blank z) a m₁ b) es ek h
 
-            laid : a ≡ padded (address_list (table g (is_sparse t) n)) x
-            laid = all-written.addresses ∙ addresses-laid g (is_sparse t) n x z (holds found) (subst (λ k. 3 * k ≤ x) count room.0)
+            laid : a ≡ padded (address_list (table g (is_sparse t) (size d))) x
+            laid = written.addresses ∙ addresses-laid g (is_sparse t) (size d) x z found (subst (λ k. 3 * k ≤ x) count room.0)
 
-      pub filled : {a m₁ b : List ℤ} (m₂ : List ℤ) {d : Vec ℕ} → (T (all_found g k) → WrittenTo sp g k (if_sparse sp (8 * k)) (blank x) (blank y) (blank z) a m₁ b) → d ≡ doubled s.d
-          → (r : Result Lengths Refusal) → r ≡ judged w (lengths_for sp k m) x y z → IfOk r (λ _. m₂ ≡ with_mesh sp d a m m₁) → IfOk r (λ l. record { answer = Ok l; addresses = a; map = m₂; grg = b } ≡ built t s w x y z)
-      filled m₂ h ed (Ok l) j q = whole j h ed q
-      filled m₂ h ed (Err r) j q = tt
+      pub filled-is : {a m₁ b : List ℤ} (m₂ : List ℤ) {c : Vec ℕ} → WrittenTo sp g k (if_sparse sp (8 * k)) (blank x) (blank y) (blank z) a m₁ b → c ≡ doubled d
+          → (r : Result Lengths Refusal) → r ≡ judged w (lengths_for sp k m) x y z → IfOk r (λ _. m₂ ≡ with_mesh sp c a m m₁)
+          → IfOk r (λ l. record { answer = Ok l; addresses = a; map = m₂; grg = b } ≡ laid_out t d g x y z (room_tests w (lengths_of t d g) x y z))
+      filled-is m₂ h ec (Ok l) j q = whole j h ec q
+      filled-is m₂ h ec (Err r) j q = tt
+
+-- ---- of a search, where each point has an image
+module _ (t : GridType) (s : Search) (w : Option (List ℤ)) (x y z : ℕ) where
+  abbrev tests : Bool → Tested
+  tests f = require f SearchFailed (room_tests w (lengths_of t s.d (images_at s)) x y z)
+
+  pub refused : {r : Refusal} → Err r ≡ (built t s w x y z).answer → unbuilt x y z r ≡ built t s w x y z
+  unfolding built
+  refused = unbuilt-is t s.d (images_at s) x y z (build_tests t s w x y z)
+
+  module _ {sp : Bool} {k : ℕ} (es : sp ≡ is_sparse t) (ek : k ≡ size s.d) where
+    told : {w : Option ℕ} → w ≡ walk_of sp (images_at s) k → w ≡ walk_of (is_sparse t) (images_at s) (size s.d)
+    told e = e ∙ ap₂ (λ b j. walk_of b (images_at s) j) es ek
+
+    pub failed : None ≡ walk_of sp (images_at s) k → Err SearchFailed ≡ (built t s w x y z).answer
+    unfolding built build_tests
+    failed e = sym (ap (λ f. giving (tests f) (lengths_of t s.d (images_at s))) (told-missing (all_found (images_at s) (size s.d)) _ (told e)))
+
+    module _ {m : ℕ} (e : Some m ≡ walk_of sp (images_at s) k) where
+      found-all : all_found (images_at s) (size s.d) ≡ true
+      found-all = (told-images (all_found (images_at s) (size s.d)) _ (told e)).0
+
+      images : m ≡ if_sparse sp k + before sp (images_at s) k
+      images = (told-images (all_found (images_at s) k) _ e).1
+
+      tested : build_tests t s w x y z ≡ room_tests w (lengths_of t s.d (images_at s)) x y z
+      unfolding build_tests
+      tested = ap tests found-all
+
+      pub sized : Ok (lengths_for sp k m) ≡ sizes_of t s
+      sized =
+          ap Ok (lengths-are t s.d (images_at s) x y z es ek (holds found-all) images)
+          ∙ ap (λ f. require f SearchFailed (Ok (lengths_of t s.d (images_at s)))) (sym found-all)
+
+      pub answered : judged w (lengths_for sp k m) x y z ≡ (built t s w x y z).answer
+      unfolding built
+      answered = judged-is t s.d (images_at s) x y z es ek (holds found-all) images w ∙ ap (λ k. giving k (lengths_of t s.d (images_at s))) (sym tested)
+
+      pub filled : {a m₁ b : List ℤ} (m₂ : List ℤ) {c : Vec ℕ}
+          → (T (all_found (images_at s) k) → WrittenTo sp (images_at s) k (if_sparse sp (8 * k)) (blank x) (blank y) (blank z) a m₁ b)
+          → c ≡ doubled s.d → (r : Result Lengths Refusal) → r ≡ judged w (lengths_for sp k m) x y z → IfOk r (λ _. m₂ ≡ with_mesh sp c a m m₁)
+          → IfOk r (λ l. record { answer = Ok l; addresses = a; map = m₂; grg = b } ≡ built t s w x y z)
+      unfolding built
+      filled {a} {m₁} {b} m₂ h ec r j q =
+          subst (λ k. IfOk r (λ l. record { answer = Ok l; addresses = a; map = m₂; grg = b } ≡ laid_out t s.d (images_at s) x y z k)) (sym tested)
+          (filled-is t s.d (images_at s) x y z es ek (holds found-all) images w m₂
+          (h (subst (λ j. T (all_found (images_at s) j)) (sym ek) (holds found-all))) ec r j q)

@@ -31,7 +31,7 @@ restarted true u i k p q e f h = λ j. tables (p j) (q j) (f j) ((h ∙ e) j)
 restarted false u i k p q e f h = λ j. tables (p j) (q j) ((f ∙ e) j) ((h ∙ ap (λ m. m + 1) e) j)
 
 -- each point below n has an image
-found_at : (g : ℕ → List Image) (n i : ℕ) → i < n → T (all_found g n) → Found (g i)
+pub found_at : (g : ℕ → List Image) (n i : ℕ) → i < n → T (all_found g n) → Found (g i)
 found_at g zero i h all = absurd (not-suc-le-zero h)
 found_at g (suc n) i h all =
     ⊎_elim (λ e. subst (λ j. Found (g j)) (sym e) (here g n all))
@@ -72,8 +72,8 @@ module _ {sparse : Bool} {g : ℕ → List Image} {n base : ℕ} {a₀ m₀ b₀
     count-put p = p ∙ ap₂ (λ l c. put_at 1 l (base + i) (pos c ∷ [])) r.map count
 
     module _ {a' b' : List ℤ} {x y x' y' : ℕ} (ex : x ≡ cond sparse i k) (ey : y ≡ cond sparse k (k + 1)) (e : tables a' b' x' y' ≡ stored (tables a b x y) (g i)) where
-      pub turn : {m' : List ℤ} → m' ≡ put_at 1 m (base + i) (pos (k - from) ∷ []) → (y' ≡ y → ⊥) → Reached sparse g n base a₀ m₀ b₀ a' m' b' x' (i + 1)
-      turn p h = subst (Reached sparse g n base a₀ m₀ b₀ a' _ b' x') (sym (add-one i)) (record {
+      pub turn_found : Found (g i) → {m' : List ℤ} → m' ≡ put_at 1 m (base + i) (pos (k - from) ∷ []) → Reached sparse g n base a₀ m₀ b₀ a' m' b' x' (i + 1)
+      turn_found some p = subst (Reached sparse g n base a₀ m₀ b₀ a' _ b' x') (sym (add-one i)) (record {
         found = all;
         addresses = ap (λ (t : Tables). t.addresses) next;
         grg = ap (λ (t : Tables). t.grg) next;
@@ -82,10 +82,13 @@ module _ {sparse : Bool} {g : ℕ → List Image} {n base : ℕ} {a₀ m₀ b₀
       })
         where
           all : T (all_found g (suc i))
-          all = and_in (all_found g i) (not (eqb (length (g i)) 0)) r.found (moved (g i) (tables a b x y) (λ q. h (ap (λ (t : Tables). t.next) e ∙ q)))
+          all = and_in (all_found g i) (not (eqb (length (g i)) 0)) r.found some
 
           next : tables a' b' x' y' ≡ after sparse g n a₀ b₀ (suc i)
           next = e ∙ ap (λ t. stored t (g i)) (restarted sparse (after sparse g n a₀ b₀ i) i k r.addresses r.grg (r.place ∙ sym (at-written g sparse (tables a₀ b₀ (if_sparse sparse n) 0) i r.found)) ex ey)
+
+      pub turn : {m' : List ℤ} → m' ≡ put_at 1 m (base + i) (pos (k - from) ∷ []) → (y' ≡ y → ⊥) → Reached sparse g n base a₀ m₀ b₀ a' m' b' x' (i + 1)
+      turn p h = turn_found (moved (g i) (tables a b x y) (λ q. h (ap (λ (t : Tables). t.next) e ∙ q))) p
 
       -- no image was stored
       pub missing : i < n → y' ≡ y → {P : Type 0} → (None ≡ walk_of sparse g n) × (T (all_found g n) → P)

@@ -88,7 +88,19 @@ module _ (a b c : ℕ) where
   abbrev pub unbuilt : {A : Type 0} → Refusal → BzGridAddresses A
   unbuilt r = record { answer = Err r; addresses = replicate a (negsuc 0); map = replicate b (negsuc 0); grg = replicate c (negsuc 0) }
 
--- the tables of a search, which may have the lengths n
+-- the tables of the images g of each point, where the tests pass
+module _ (t : GridType) (d : Vec ℕ) (g : ℕ → List Image) (a b c : ℕ) where
+  abbrev pub laid_out : Tested → BzGridAddresses Lengths
+  laid_out e =
+      let table = table_of t g (size d) in
+      record {
+        answer = giving e (lengths_of t d g);
+        addresses = output_of e a (padded (address_list table) a);
+        map = output_of e b (padded (map_of t d g) b);
+        grg = output_of e c (padded (point_list table) c);
+      }
+
+-- those of a search, which may have the lengths n
 module _ (t : GridType) (s : Search) (n : Option (List ℤ)) (a b c : ℕ) where
   unfoldable pub build_tests : Tested
   unfolding images_at
@@ -98,14 +110,7 @@ module _ (t : GridType) (s : Search) (n : Option (List ℤ)) (a b c : ℕ) where
 
   unfoldable pub built : BzGridAddresses Lengths
   unfolding build_tests images_at
-  built =
-      let table = table_of t (images_at s) (size s.d) in
-      record {
-        answer = giving build_tests (lengths_of t s.d (images_at s));
-        addresses = output_of build_tests a (padded (address_list table) a);
-        map = output_of build_tests b (padded (map_of t s.d (images_at s)) b);
-        grg = output_of build_tests c (padded (point_list table) c);
-      }
+  built = laid_out t s.d (images_at s) a b c build_tests
 
 -- their lengths alone
 abbrev pub sizes_of : GridType → Search → Result Lengths Refusal

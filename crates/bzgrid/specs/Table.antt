@@ -13,6 +13,10 @@ pub record Image : Type 0 where
 abbrev pub image_of : ℕ → Vec ℤ → Image
 image_of p a = record { address = a; point = p }
 
+-- the images of each point, with that point
+abbrev pub named : (ℕ → List (Vec ℤ)) → ℕ → List Image
+named g p = map (image_of p) (g p)
+
 unfoldable pub images_at : Search → ℕ → List Image
 unfolding images
 images_at s p = map (image_of p) (images s p)

@@ -1,7 +1,7 @@
 // Brillouin-zone grid address construction.
 #![tactic(auto)]
 
-mod tables;
+pub mod tables;
 
 ghost use Rattle.std.specs.Prelude.{◌≡◌, true, false, ◌+◌, ◌*◌, ◌/◌, ◌≤◌, ◌<◌, T, pos, negsuc, length, replicate, Ok, IfOk, cond};
 ghost use Rattle.grgrid.specs.Grid.{size};
@@ -93,7 +93,7 @@ fn input_tests(
     Ok(t)
 }
 
-fn is_sparse(t: GridType) -> bool
+pub fn is_sparse(t: GridType) -> bool
     ensures { result ≡ is_sparse t }
 {
     t == GridType::Sparse
@@ -129,7 +129,7 @@ fn has_room(l: Lengths, a: usize, b: usize, c: usize) -> bool
 
 // Of m images of n points. A bool here and below: the specs cond by one, and the enum would be a bool again at each use.
 fn lengths_of(sparse: bool, n: usize, m: usize) -> Lengths
-    requires { (n ≤ 65536) × (m < 1099511627776) }
+    requires { (n ≤ 65536) × (m < 2305843009213693952) }
     ensures { result ≡ lengths_for sparse n m }
 {
     Lengths {
@@ -173,7 +173,7 @@ fn add_mesh(sparse: bool, addresses: &[i64], g: Grid, map: &mut [i64])
 }
 
 // The tests of the lengths for m images, and the mesh. The third output has c places.
-fn finish(
+pub fn finish(
     sparse: bool,
     g: Grid,
     m: usize,
@@ -183,7 +183,7 @@ fn finish(
     c: usize,
 ) -> Result<Lengths, Refusal>
     requires fact_1 { MeshFits (sides g) }
-    requires fact_2 { m < 1099511627776 }
+    requires fact_2 { m < 2305843009213693952 }
     ensures value { result ≡ judged told (lengths_for sparse (size (sides g)) m) (length addresses.now) (length map.old) c }
     ensures map_after { IfOk result (λ _. map.new ≡ with_mesh sparse (doubled (sides g)) addresses.now m map.old) }
 {

@@ -32,8 +32,8 @@ fn put_address(out: &mut [i64], at: usize, a: [i64; 3])
 }
 
 // The at-th place of out, where there is one.
-fn put_count(out: &mut [i64], at: usize, n: usize)
-    requires { n < 1099511627776 }
+pub fn put_count(out: &mut [i64], at: usize, n: usize)
+    requires { n < 4611686018427387904 }
     ensures { out.new ≡ put_at 1 out.old at (pos n ∷ []) }
 {
     if at < out.len() {
@@ -42,8 +42,8 @@ fn put_count(out: &mut [i64], at: usize, n: usize)
 }
 
 // Where the first image of point i goes, if k is the place after all images so far that stand at no point's own place.
-fn start(sparse: bool, i: usize, k: usize) -> Cursor
-    requires { (i ≤ k) × (k < 1099511627776) }
+pub fn start(sparse: bool, i: usize, k: usize) -> Cursor
+    requires { (i ≤ k) × (k < 4611686018427387904) }
     ensures at_value { result.at ≡ cond sparse i k }
     ensures next_value { result.next ≡ cond sparse k (k + 1) }
     ensures upper_bound { result.next ≤ k + 1 }
@@ -64,8 +64,8 @@ pub fn if_sparse(sparse: bool, n: usize) -> usize
 }
 
 // Room is asked for at each step and is no ghost field of Cursor: a step leaves room for one image less than it was given.
-fn store(i: usize, a: [i64; 3], addresses: &mut [i64], grg: &mut [i64], c: Cursor) -> Cursor
-    requires { (i < 65536) × (c.next < 1099511627776) }
+pub fn store(i: usize, a: [i64; 3], addresses: &mut [i64], grg: &mut [i64], c: Cursor) -> Cursor
+    requires { (i < 65536) × (c.next < 4611686018427387904) }
     ensures { tables addresses.new grg.new result.at result.next ≡ store (tables addresses.old grg.old c.at c.next) (image_of i (vector_of a)) }
 {
     put_address(addresses, c.at, a);

@@ -27,12 +27,11 @@ use Rattle.bzgrid.specs.declared.GridType.{GridType}
 use Rattle.bzgrid.specs.declared.GridType.TheVariants.{Sparse}
 use Rattle.bzsearch.specs.Search.{Search, images}
 use Rattle.bzgrid.specs.Table.{images_at, address_list, point_list}
-use Rattle.bzgrid.specs.BzGridAddresses.{search_of, table_of, map_of, all_found, lengths_of, has_room, input_tests, padded, build_tests, built, built_for, recorded, tables_told, bz_grid_addresses}
+use Rattle.bzgrid.specs.BzGridAddresses.{search_of, table_of, map_of, all_found, lengths_of, has_room, input_tests, padded, laid_out, build_tests, built, built_for, recorded, tables_told, bz_grid_addresses}
 use Rattle.bzsearch.proofs.Images.{Sound, new-sound, images-distinct, image-folds}
 use Rattle.bztable.specs.Images.{FoldBack, EveryImage}
 use Rattle.bztable.proofs.ImageTable.{Stands, Folded, table-stands, stands-at, image-at, place-folds, address-once}
 use Rattle.bzgrid.proofs.Accepted.{InputAccepted, input-accepted}
-use Rattle.bzgrid.proofs.Outcome.{outcome}
 use Rattle.bztable.proofs.DoubledMesh.{Mesh, table-mesh}
 use Rattle.bzgrid.proofs.ImageBounds.{length-images, images-total}
 use Rattle.bzsearch.proofs.LatticeBounds.{tolerance-length}
@@ -80,9 +79,9 @@ module _ (d : List ℤ) (q : List (List ℤ)) (ps : List ℤ) (lattice : List (L
     unfolding built
     tested = passed-by (λ k. giving k lengths then λ l. Ok (record { lengths = l; table = table })) (λ r. refused-not-ok) (build_tests kind s None a b c) (sym (ap (λ o. o.answer) given.2) ∙ e)
 
-    left : bz_grid_addresses d q ps lattice t a b c ≡ recorded table (outcome kind s None a b c Accepted)
+    left : bz_grid_addresses d q ps lattice t a b c ≡ recorded table (laid_out kind s.d (images_at s) a b c Accepted)
     unfolding built
-    left = given.2 ∙ ap (λ t. recorded table (outcome kind s None a b c t)) tested
+    left = given.2 ∙ ap (λ t. recorded table (laid_out kind s.d (images_at s) a b c t)) tested
 
     full : l ≡ record { lengths = lengths; table = table }
     full = same-ok (sym e ∙ ap (λ o. o.answer) left)

@@ -124,7 +124,7 @@ module _ (d : Vec ℕ) (g : ℕ → List (Vec ℤ)) (h : Sides d) (f : Folded d 
   mesh-apart p q l m {u} {v} i j e = sym (f.folds p l i) ∙ doubled-index d h u v e ∙ f.folds q m j
 
 -- ---- the table of the images of each point
-address-at : (xs : List Image) (r : List ℤ) (j : ℕ) → j < length xs → triple_at (address_list xs ++ r) j ≡ (get_or xs j none).address
+pub address-at : (xs : List Image) (r : List ℤ) (j : ℕ) → j < length xs → triple_at (address_list xs ++ r) j ≡ (get_or xs j none).address
 address-at xs r j h =
     ap (triple_at (address_list xs ++ r)) (sym (length-take-le j xs (le_of_lt h)))
     ∙ address-reads xs r (take j xs) (get_or xs j none) (drop (suc j) xs) (split_at xs j none h)

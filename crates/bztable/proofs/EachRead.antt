@@ -1,5 +1,10 @@
 -- Reading each of a list: one more at the end, and the first that is refused. What a walk has read stands in the front of its outputs.
-use mathlib.Core.Path.{◌≡◌, refl, sym, ◌∙◌, ap, subst}
+use mathlib.Core.Path.{◌≡◌, refl, sym, ◌∙◌, ap, ap₂, subst}
+use mathlib.Core.Logic.{⊎_elim}
+use mathlib.Core.List.Memᴰ.{cases_cons as cases}
+use mathlib.Core.List.Memᴰ.{head as here}
+use mathlib.Core.List.Memᴰ.{not-nil}
+use mathlib.Core.List.Memᴰ.{tail as there}
 use mathlib.Core.List.{List, [], ◌∷◌, ◌++◌, map, map-append, append-nil, append_assoc}
 use Prim.Native.Nat.{ℕ, zero, suc, ◌+◌, ◌<◌, ◌≤◌}
 use native.Mathlib.Nat.{not-suc-le-zero, le_of_suc-le-suc}
@@ -12,6 +17,7 @@ use Rattle.std.specs.Prelude.{Ok, Err}
 use Rattle.common.specs.Tested.{◌then◌}
 use Rattle.common.specs.declared.Refusal.{Refusal}
 use Rattle.common.proofs.Tests.{same-ok, same-refusal, refused-not-ok}
+use Rattle.grgrid.specs.Lists.{◌∈◌}
 use Rattle.bzgrid.specs.Table.{listed}
 use Rattle.bzgrid.proofs.Accepted.{passes-first}
 use Rattle.bzgrid.proofs.Mapped.{listed_more}
@@ -40,6 +46,33 @@ module _ {A B : Type 0} (f : A → Read B) where
   -- the first that is refused, and all is refused
   pub each-refused : (l : List A) (p : A) (m : List A) {r : List B} {e : Refusal} → read_each f l ≡ got r → f p ≡ Err e → Err e ≡ read_each f (l ++ (p ∷ m))
   each-refused l p m {e = e} g h = sym (each_append l (p ∷ m) ∙ (λ i. g i then λ r. (h i then λ a. read_each f m then λ r. got (a ∷ r)) then λ s. got (r ++ s)))
+
+-- ---- what was read of each of a list
+module _ {A B : Type 0} (f : A → Read B) where
+  pub each_in : (l : List A) {r : List B} → read_each f l ≡ got r → {a : A} → a ∈ l → (b : B) × (f a ≡ got b) × (b ∈ r)
+  each_in [] e m = absurd (not-nil m)
+  each_in (p ∷ l) e {a} m =
+      let s = passes-first (f p) _ e in
+      let u = passes-first (read_each f l) _ s.2 in
+      subst (λ r. (b : B) × (f a ≡ got b) × (b ∈ r)) (same-ok u.2)
+      (⊎_elim (λ q. (s.0, ap f q ∙ s.1, here refl)) (λ k. let v = each_in l u.1 k in (v.0, v.1, there v.2)) (cases m))
+
+  -- and is what h tells of it
+  pub each-map : (h : A → B) → ((a : A) (b : B) → f a ≡ got b → h a ≡ b) → (l : List A) {r : List B} → read_each f l ≡ got r → map h l ≡ r
+  each-map h k [] e = same-ok e
+  each-map h k (p ∷ l) e =
+      let s = passes-first (f p) _ e in
+      let u = passes-first (read_each f l) _ s.2 in
+      ap₂ ◌∷◌ (k p s.0 s.1) (each-map h k l u.1) ∙ same-ok u.2
+
+  -- where each can be read, and v of it is what h tells
+  module _ {C : Type 0} (v : B → C) (h : A → C) where
+    pub each-got : (l : List A) → ((a : A) → a ∈ l → (b : B) × (f a ≡ got b) × (v b ≡ h a)) → (r : List B) × (read_each f l ≡ got r) × (map v r ≡ map h l)
+    each-got [] e = ([], refl, refl)
+    each-got (p ∷ l) e =
+        let s = e p (here refl) in
+        let u = each-got l (λ a k. e a (there k)) in
+        (s.0 ∷ u.0, (λ i. s.1 i then λ b. u.1 i then λ r. got (b ∷ r)), ap₂ ◌∷◌ s.2 u.2)
 
 -- ---- where none is refused there is one for each; else there is a first
 module _ {A B : Type 0} (d : A) (e : B) (f : A → Read B) where

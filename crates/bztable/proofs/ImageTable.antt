@@ -13,7 +13,7 @@ use Rattle.common.proofs.Tests.{same-ok}
 use Rattle.grgrid.specs.Grid.{size, index}
 use Rattle.grgrid.proofs.Lists.{◌∈◌, Distinct}
 use Rattle.bzgrid.specs.declared.GridType.{GridType}
-use Rattle.bzgrid.specs.Table.{Image, image_of, address_list, point_list}
+use Rattle.bzgrid.specs.Table.{Image, image_of, named, address_list, point_list}
 use Rattle.bzgrid.specs.BzGridAddresses.{table_of, map_of, all_found, padded}
 use Rattle.bztable.specs.Access.{image_places, ImageAt}
 use Rattle.bztable.specs.Reading.{got, triple_at, place_at}
@@ -33,10 +33,6 @@ pub record Stands (t : GridType) (n : ℕ) (g : ℕ → List (Vec ℤ)) (address
   -- the places of all points are those of the table
   pub inside : (p : ℕ) → p < n → {i : ℕ} → i ∈ places p → i < m
   pub owner : (i : ℕ) → i < m → (p : ℕ) × (p < n) × (i ∈ places p)
-
--- the images of a point, with that point
-abbrev pub named : (ℕ → List (Vec ℤ)) → ℕ → List Image
-named g p = map_list (image_of p) (g p)
 
 -- the tables of such lists, in outputs of a, b and c places
 module _ (d : Vec ℕ) (g : ℕ → List (Vec ℤ)) (t : GridType) (some : T (all_found (named g) (size d))) (few : length (table_of t (named g) (size d)) ≤ 1099511627776) (points : size d ≤ 1099511627776) (a b c : ℕ) where

@@ -1,3 +1,4 @@
+pub mod LaterPlaces
 pub mod TableRead
 pub mod ImageTable
 pub mod DoubledMesh

@@ -144,11 +144,11 @@ length-placed d at [] l = refl
 length-placed d at (x ∷ xs) l = length-placed d (suc at) xs (set l (index (doubled d) x.address) (pos at)) ∙ length-set l (index (doubled d) x.address) (pos at)
 
 module _ (d : Vec ℕ) (g : ℕ → List Image) (r : List ℤ) where
-  dense-room : 0 + (size d + 1) ≤ length (dense_map g (size d) ++ r)
+  pub dense-room : 0 + (size d + 1) ≤ length (dense_map g (size d) ++ r)
   dense-room =
       omega (arith, length-append (dense_map g (size d)) r, length-numbers (λ i. pos (length (concat g i))) 0 (size d + 1))
 
-  dense-counts : (p : ℕ) → p < size d + 1 → get_or (dense_map g (size d) ++ r) (0 + p) (pos 0) ≡ pos (length (concat g p))
+  pub dense-counts : (p : ℕ) → p < size d + 1 → get_or (dense_map g (size d) ++ r) (0 + p) (pos 0) ≡ pos (length (concat g p))
   dense-counts p h = ap (λ i. get_or (dense_map g (size d) ++ r) i (pos 0)) (zero-add p) ∙ listed_at (λ i. length (concat g i)) r (size d + 1) p h
 
   abbrev mesh : List ℤ
@@ -173,7 +173,7 @@ module _ (d : Vec ℕ) (g : ℕ → List Image) (r : List ℤ) where
         length-numbers (λ i. pos (length (concat (others g) i))) 0 (size d + 1),
       )
 
-  sparse-counts : (p : ℕ) → p < size d + 1 → get_or (sparse_map d g ++ r) (8 * size d + p) (pos 0) ≡ pos (length (concat (others g) p))
+  pub sparse-counts : (p : ℕ) → p < size d + 1 → get_or (sparse_map d g ++ r) (8 * size d + p) (pos 0) ≡ pos (length (concat (others g) p))
   sparse-counts p h =
       ap (λ l. get_or l (8 * size d + p) (pos 0)) (append_assoc mesh counts r)
       ∙ ap (λ (k : ℕ). get_or (mesh ++ (counts ++ r)) (k + p) (pos 0)) (sym mesh-full)
@@ -189,14 +189,14 @@ others-listed : (a b i j n : ℕ) → b + i ≡ j → numbers_from (place_in a b
 others-listed a b i j zero e = refl
 others-listed a b i j (suc n) e = ap₂ ◌∷◌ e (others-listed a b (suc i) (suc j) n (omega arith))
 
-sparse-order : (p n s k : ℕ) → in_order Sparse p (record { from = s + n; to = s + k + n }) ≡ p ∷ numbers_from (λ i. i) (n + s) k
+pub sparse-order : (p n s k : ℕ) → in_order Sparse p (record { from = s + n; to = s + k + n }) ≡ p ∷ numbers_from (λ i. i) (n + s) k
 sparse-order p n s k =
     ap (listed (place_in p (s + n))) count ∙ ap (λ l. p ∷ l) (others-listed p (s + n) 0 (n + s) k (omega arith))
   where
     count : s + k + n + 1 - (s + n) ≡ suc k
     count = omega arith
 
-dense-order : (p s k : ℕ) → in_order Dense p (record { from = s + 0; to = s + k + 0 }) ≡ numbers_from (λ i. i) s k
+pub dense-order : (p s k : ℕ) → in_order Dense p (record { from = s + 0; to = s + k + 0 }) ≡ numbers_from (λ i. i) s k
 dense-order p s k =
     (λ i. in_order Dense p (record { from = add-zero s i; to = add-zero (s + k) i })) ∙ ap (listed (place_in s (s + 1))) count ∙ go k
   where
@@ -226,8 +226,12 @@ module _ (map : List ℤ) (n p : ℕ) {l : List ℕ} where
       subst (λ l. 0 < length l → i ∈ l) (same-ok r.2) (λ h. subst (λ i. i ∈ in_order Sparse p r.0) (same-ok f) (listed-first p r.0.from _ h)) h
   first-stands Dense e h f = let r = dense-first e in subst (λ i. i ∈ l) (same-ok (sym r.1 ∙ f)) (r.2 h)
 
+  pub first_found : (t : GridType) → image_places t map n p ≡ got l → 0 < length l → (i : ℕ) × (first_place t map p ≡ got i) × (i ∈ l)
+  first_found Sparse e h = (p, refl, first-stands Sparse e h refl)
+  first_found Dense e h = let r = dense-first e in (r.0, r.1, r.2 h)
+
 -- ---- no other point has places
-place-inside : (l : List ℤ) (i : ℕ) {n : ℕ} → place_at l i ≡ got n → i < length l
+pub place-inside : (l : List ℤ) (i : ℕ) {n : ℕ} → place_at l i ≡ got n → i < length l
 place-inside l i e = ltb→lt i (length l) (go (ltb i (length l)) (get_or l i (pos 0)) (passes-first (inside (ltb i (length l)) (get_or l i (pos 0))) place_of e).1)
   where
     go : (t : Bool) (z : ℤ) {w : ℤ} → inside t z ≡ got w → T t
@@ -271,7 +275,7 @@ told-within Dense d g k p e =
 
 -- ---- a table
 module _ (g : ℕ → List Image) (n : ℕ) (some : (p : ℕ) → p < n → 0 < length (g p)) where
-  length-sparse : length (sparse g n) ≡ n + length (concat (others g) n)
+  pub length-sparse : length (sparse g n) ≡ n + length (concat (others g) n)
   length-sparse = omega (arith, length-append (concat (first g) n) (concat (others g) n), firsts g n some)
 
 pub places-are : (t : GridType) (d : Vec ℕ) (g : ℕ → List Image) (r : List ℤ) → ((p : ℕ) → p < size d → 0 < length (g p)) → length (table_of t g (size d)) ≤ most

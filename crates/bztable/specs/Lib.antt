@@ -7,3 +7,4 @@ pub mod Burst
 pub mod BurstSingles
 pub mod Neighbours
 pub mod Agreeing
+pub mod Code

@@ -4,6 +4,8 @@
 pub mod agreement;
 mod burst;
 mod neighbours;
+mod place;
+pub mod places;
 pub mod reading;
 mod rotate;
 

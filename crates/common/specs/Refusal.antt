@@ -4,7 +4,7 @@ use Rattle.common.specs.declared.Refusal.{Refusal}
 use Rattle.common.specs.declared.Refusal.TheVariants.{Singular, NotConverged, OutsideLimits, Overflow, SingularQ, SymmetryBroken}
 use Rattle.common.specs.declared.Refusal.TheVariants.{TooManyRotations, TooManyForInversion, BadGridType, NotUnimodularQ}
 use Rattle.common.specs.declared.Refusal.TheVariants.{SingularReciprocalLattice, SearchFailed, WrongLength, OutsideTable}
-use Rattle.common.specs.declared.Refusal.TheVariants.{BadHeader, OtherSizes, OtherGrid, NotGroup, InvertedRange}
+use Rattle.common.specs.declared.Refusal.TheVariants.{BadHeader, OtherSizes, OtherGrid, NotGroup, CouldNotStand, InvertedRange}
 
 abbrev pub number_of : Refusal → ℕ
 -- `snf3x3`: the determinant is 0
@@ -43,5 +43,7 @@ number_of OtherSizes = 16
 number_of OtherGrid = 17
 -- the reciprocal step of the chain: identity missing, a repeat, a determinant other than 1 or -1, or a product not in the list
 number_of NotGroup = 18
+-- `convert_bz_grid`: a table that could not stand
+number_of CouldNotStand = 19
 -- `mark_candidates`: a lowest inner product above its highest
 number_of InvertedRange = 20

@@ -40,6 +40,7 @@ pub enum Refusal {
     OtherSizes = 16,
     OtherGrid = 17,
     NotGroup = 18,
+    CouldNotStand = 19,
     InvertedRange = 20,
 }
 

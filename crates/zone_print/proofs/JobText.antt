@@ -16,7 +16,7 @@ use Rattle.common.specs.Limits.{side_fits, diagonal_fits}
 use Rattle.common.specs.Refusal.{number_of}
 use Rattle.common.specs.Tested.{require, giving, Tested, Accepted, without_value}
 use Rattle.common.specs.declared.Refusal.{Refusal}
-use Rattle.common.specs.declared.Refusal.TheVariants.{Singular, NotConverged, OutsideLimits, Overflow, SingularQ, SymmetryBroken, TooManyRotations, TooManyForInversion, BadGridType, NotUnimodularQ, SingularReciprocalLattice, SearchFailed, WrongLength, OutsideTable, BadHeader, OtherSizes, OtherGrid, NotGroup, InvertedRange}
+use Rattle.common.specs.declared.Refusal.TheVariants.{Singular, NotConverged, OutsideLimits, Overflow, SingularQ, SymmetryBroken, TooManyRotations, TooManyForInversion, BadGridType, NotUnimodularQ, SingularReciprocalLattice, SearchFailed, WrongLength, OutsideTable, BadHeader, OtherSizes, OtherGrid, NotGroup, CouldNotStand, InvertedRange}
 use Rattle.common.proofs.Bounds.{side-size}
 use Rattle.common.proofs.Tests.{same-ok, same-refusal, refused-not-ok}
 use Rattle.grgrid.specs.Grid.{size}
@@ -141,6 +141,7 @@ few-digits BadHeader = tt
 few-digits OtherSizes = tt
 few-digits OtherGrid = tt
 few-digits NotGroup = tt
+few-digits CouldNotStand = tt
 few-digits InvertedRange = tt
 
 refusal-short : (r : Refusal) → length (refusal r) ≤ 11

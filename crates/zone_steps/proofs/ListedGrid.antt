@@ -20,6 +20,7 @@ use Rattle.transform_rotations.proofs.Accepted.{input-accepted}
 use Rattle.transform_rotations.proofs.ExactCall.{tests-input}
 use Rattle.bzgrid.specs.declared.Built.{Built}
 use Rattle.bzgrid.specs.BzGridAddresses.{bz_grid_addresses}
+use Rattle.zone_steps.specs.StepsView.{grid}
 use Rattle.zone_steps.specs.Steps.{Rooms, Setting, Lists, group, rotation_tests, points_of, table_of, list_tests, lists_of, images, listed}
 
 module _ (g : Setting) (shift : List ℤ) (r : Rooms) where
@@ -71,3 +72,9 @@ module _ (list : List ℤ) (time : Bool) (d : List ℤ) (q : List (List ℤ)) wh
 
   pub basis-fits : {t : Result ℕ Refusal} {n : ℕ} → without_value t ≡ rotation_tests list time d q → t ≡ Ok n → T (diagonal_fits d)
   basis-fits e f = rotations-fit (sym e ∙ ap without_value f)
+
+-- and the list of the grid of the rotations l that the steps before it left, where u and v stand for its type and q0
+pub in-basis : (g : Setting) (shift : List ℤ) (r : Rooms) {l : List ℤ} {u v : ℤ} {t w : Tested} → l ≡ g.rotations → u ≡ g.type → v ≡ g.q0 → t ≡ Accepted
+    → w ≡ (listed (grid g.d g.q l g.lattice g.time_reversal g.swappable u v) shift r).answer → w ≡ after t (listed g shift r).answer
+in-basis g shift r el eu ev et e =
+    e ∙ (λ i. (listed (grid g.d g.q (el i) g.lattice g.time_reversal g.swappable (eu i) (ev i)) shift r).answer) ∙ ap (λ t. after t (listed g shift r).answer) (sym et)

@@ -7,15 +7,12 @@ use Rattle.common.specs.Array.{items, vector_of}
 use Rattle.common.specs.FloatMatrix.{float_vector}
 use Rattle.grgrid.specs.Own.{own_places}
 use Rattle.bzsearch.specs.SearchView.{float_nine}
-use Rattle.bzgrid.specs.Table.{listed}
 use Rattle.common.specs.Tested.{◌then◌}
-use Rattle.bztable.specs.Access.{place_in}
 use Rattle.bztable.specs.Reading.{Read, got}
 use Rattle.bz_triplets.specs.declared.choices.Step.{Step}
 use Rattle.bz_triplets.specs.declared.choices.Step.TheVariants as step
-use Rattle.bz_triplets.specs.declared.places.Choice as places
+use Rattle.bz_triplets.specs.declared.choices.Choice as choices
 use Rattle.bz_triplets.specs.declared.choices.Triplet.{Triplet}
-use Rattle.bz_triplets.specs.declared.places.Places.{Places}
 use Rattle.bz_triplets.specs.declared.choices.Measure.{Measure}
 use Rattle.bz_triplets.specs.Choosing.{start, left, closed}
 use Rattle.bz_triplets.specs.BzTriplets.{Choice, State, Walk}
@@ -29,7 +26,7 @@ found_by step.Empty c = start
 found_by (step.Left x) c = left x c
 found_by step.Closed c = closed c
 
-abbrev pub choice_view : places.Choice → Vec ℕ
+abbrev pub choice_view : choices.Choice → Vec ℕ
 choice_view c = record { x = c.x.at; y = c.y.at; z = c.z.at }
 
 abbrev pub summed : Triplet → Choice
@@ -40,12 +37,6 @@ state_of t = found_by t.step (summed t)
 
 abbrev pub state_read : Read Triplet → Read State
 state_read r = r then λ t. got (state_of t)
-
-abbrev pub places_in : Places → List ℕ
-places_in r = listed (place_in r.first.at r.others) r.count
-
-abbrev pub places_listed : Read Places → Read (List ℕ)
-places_listed r = r then λ p. got (places_in p)
 
 abbrev pub walk_by : Measure → List ℤ → Walk
 walk_by m addresses = record { lqd = float_nine m.lqd; tolerance = m.tolerance; addresses = addresses }

@@ -4,11 +4,12 @@ use Rattle.common.specs.Matrix.{Vec}
 use Rattle.bztable.specs.declared.reading.Table.{Table}
 use Rattle.bztable.specs.Reading.{Read, got}
 use Rattle.bz_triplets.specs.declared.choices.Measure.{Measure}
-use Rattle.bz_triplets.specs.declared.places.Places.{Places}
+use Rattle.bztable.specs.declared.place.Places.{Places}
 use Rattle.bz_triplets.specs.Choosing.{start}
 use Rattle.bz_triplets.specs.BzTriplets.{State, try_at}
 use Rattle.bztable.specs.Access.{place_in}
-use Rattle.bz_triplets.specs.Code.TripletsView.{state_of, places_in, walk_by}
+use Rattle.bztable.specs.Code.PlacesView.{places_in}
+use Rattle.bz_triplets.specs.Code.TripletsView.{state_of, walk_by}
 use Rattle.bz_triplets.proofs.Walking.{ended, inner, middle, outer, inner-stays, middle-stays, outer-stays, none-first, none-second, none-third, closed-stays, refusal-stays, reached-end, reached-next}
 use Rattle.bz_triplets.proofs.choices.search_choices.Goals as goal
 use Rattle.bz_triplets.proofs.choices.search_choices.Goals.{then-q0-eq0-via-then-q0-eq0, then-q0-eq0-via-else-q0-eq0+then-q1-eq0, then-q0-eq0-via-else-q0-eq0+else-q1-eq0+then-q2-eq0}

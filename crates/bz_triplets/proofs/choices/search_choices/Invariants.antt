@@ -4,7 +4,8 @@ use Rattle.bzgrid.specs.Table.{listed}
 use Rattle.bz_triplets.specs.Choosing.{start}
 use Rattle.bz_triplets.specs.BzTriplets.{try_at}
 use Rattle.bztable.specs.Access.{place_in}
-use Rattle.bz_triplets.specs.Code.TripletsView.{state_of, places_in, walk_by}
+use Rattle.bztable.specs.Code.PlacesView.{places_in}
+use Rattle.bz_triplets.specs.Code.TripletsView.{state_of, walk_by}
 use Rattle.bz_triplets.proofs.Walking.{inner, middle, outer, Reached}
 use Rattle.bz_triplets.proofs.choices.search_choices.Given as goal
 

@@ -1,4 +1,4 @@
-// The images of a point, by their places.
+// Places of a table. They stand apart from places.rt, whose contracts cite a view of them.
 ghost use Rattle.std.specs.Prelude.{◌+◌, ◌<◌};
 
 // Of an image or of a point.
@@ -14,13 +14,5 @@ pub struct Places {
     pub first: Place,
     pub others: usize,
     pub count: usize,
-    ghost fits: { others + count < 9223372036854775808 },
-}
-
-// One image each of q0, q1 and q2.
-#[derive(Clone, Copy)]
-pub struct Choice {
-    pub x: Place,
-    pub y: Place,
-    pub z: Place,
+    ghost fits: { others + count < 2199023321089 },
 }

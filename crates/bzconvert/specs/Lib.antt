@@ -1,0 +1,9 @@
+pub mod Layout
+pub mod Convert
+pub mod Standing
+pub mod ThereAndBack
+pub mod ConvertsImages
+pub mod Addressed
+pub mod SameTriplets
+pub mod ConvertedTriplets
+pub mod Code

@@ -66,8 +66,9 @@
  * The record of a table tells the grid that it is for: d0 d1 d2 ps0 ps1 ps2 type. Keep it with the table, in files too;
  * each call that reads the table takes it as `table`, and gives 17 where it has not the d, ps and type of the call.
  *
- * Both types have the same images. Squared lengths are compared up to the tolerance, 0.01 times the largest of
- * |bj|² / dj²; a basis that is far from reduced makes it so large that images are not the shortest.
+ * Both types have the same images, and zone_convert_bz_grid makes either of the other. Squared lengths are compared up
+ * to the tolerance, 0.01 times the largest of |bj|² / dj²; a basis that is far from reduced makes it so large that
+ * images are not the shortest.
  *
  * THE ORDER OF THE CALLS
  *
@@ -79,6 +80,7 @@
  *   4  zone_bz_grid_addresses      d, q, ps, lattice, type              addresses, map, grg, the record
  *  or  zone_bz_grid_sizes          the same                             the lengths of addresses, map, grg
  * and  zone_bz_grid_fill           the same, the lengths                addresses, map, grg, the record
+ *      zone_convert_bz_grid        the record, addresses, map, grg      the same of the other type, if wanted
  *      zone_mark_candidates        d, q, ps, ranges of the cell,        which addresses of a point are the shortest
  *                                  a point                              whatever the cell is, if wanted
  *   5  zone_ir_triplets_at_q       q0, d, the transformed list,         map_triplets, map_q
@@ -123,7 +125,8 @@
  *
  * A list of matrices has a multiple of 9 places, one of addresses a multiple of 3. Tables that are read may have any
  * length and hold anything; their record has seven places with any numbers, which are only compared, as are the three
- * lengths that zone_bz_grid_fill takes.
+ * lengths that zone_bz_grid_fill takes. zone_convert_bz_grid alone, which has no d, ps and type but the record's, asks
+ * of these what is said above.
  *
  * REFUSALS stand with each call in the order of their tests; the first that applies is the answer. A length that hangs
  * on a number outside its limits is not tested: then 3 is given. */
@@ -163,6 +166,7 @@ enum zone_refusal {
     ZONE_NOT_GROUP = 18,                   /* the rotations, as given, are no group: the identity is missing, one stands
                                               twice, one has a determinant other than 1 or -1, or the product of two
                                               is not among them */
+    ZONE_COULD_NOT_STAND = 19,             /* no lists of images make the table that zone_convert_bz_grid takes */
     ZONE_INVERTED_RANGE = 20               /* the lowest of an inner product is above its highest */
 };
 
@@ -361,6 +365,25 @@ int64_t zone_neighboring_grid_points(const int64_t *points, size_t points_len, c
                                      const int64_t *map, size_t map_len, const int64_t *table, size_t table_len,
                                      const int64_t *d, size_t d_len, int64_t bz_grid_type, int64_t *out,
                                      size_t out_len);
+
+/* The table of the other type, with the same images of each point in the same order: between stations that keep sparse
+ * tables and such that keep dense ones. In: table[7], the record that was told where the table was made, whose type
+ * says which way it goes; addresses, map and grg, at least their told parts, past which nothing is read. Out:
+ * out_addresses, out_map and out_grg, which may be longer than needed and hold -1 past the table (3 * M,
+ * ZONE_MAP_LENGTH and M places; M stays); told[10]: these lengths and the record, in which only the type is another. A
+ * table is converted only if it could stand: the counts in map rise from 0 to the number of images (type 1: of those
+ * after the first of each point), each point has an image, each address belongs to its point, which grg names, none
+ * stands twice, and the doubled mesh of type 1 is as under IMAGES. It is proved that such tables, and no others, pass;
+ * that there and back is the same table and record; that a table of call 4 passes and gives what call 4 leaves for the
+ * other type; and that the triplets of call 6 from either have the same addresses, left, left_length and cells, where
+ * q0 stands for the same point and class_map has N places. (Neighbours may differ: type 1 asks the doubled mesh.) The
+ * addresses of a point are compared two by two, the rest takes as many steps as there are places. Refusals: 13 for
+ * table, told, and addresses whose length is no multiple of 3; 3 and 9 for the record; 14 where a number of map, or an
+ * image that it counts, cannot be read; 19; 13 for an output that is too short. */
+int64_t zone_convert_bz_grid(const int64_t *table, size_t table_len, const int64_t *addresses, size_t addresses_len,
+                             const int64_t *map, size_t map_len, const int64_t *grg, size_t grg_len,
+                             int64_t *out_addresses, size_t out_addresses_len, int64_t *out_map, size_t out_map_len,
+                             int64_t *out_grg, size_t out_grg_len, int64_t *told, size_t told_len);
 
 /* The classes of triplets at the point q0. In: d[3], the transformed list, to which time reversal joins negatives as
  * in zone_reciprocal_rotations. Out: map_q[N], the class map (as of zone_ir_grid_map with ps = 0) of those matrices

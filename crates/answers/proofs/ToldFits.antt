@@ -1,36 +1,42 @@
 -- Numbers that a call gives fit the places where they are told.
-use mathlib.Core.Path.{◌≡◌, sym, subst}
-use mathlib.Core.Bool.{Bool, true, false}
+use mathlib.Core.Path.{◌≡◌, refl, sym, subst}
+use mathlib.Core.Bool.{Bool, true, false, ◌&&◌}
 use mathlib.Core.List.{List}
-use Prim.Native.Nat.{ℕ, ◌<◌, ◌≤◌}
+use Prim.Native.Nat.{ℕ, ◌*◌, ◌<◌, ◌≤◌}
 use lib.ListN.{length}
 use native.Mathlib.Omega.{arith}
-use lib.Dec.{T}
+use lib.Dec.{T, leb, leb→le}
 use lib.Ieee.{Float}
 use lib.IntN.{ℤ, pos, nat_abs}
 use Rattle.std.specs.Prelude.{Option, Some, None, Result, Ok, Err, IfOk}
 use Rattle.common.specs.Matrix.{Vec}
 use Rattle.common.specs.Array.{vector_of, sides_of, matrix_of}
 use Rattle.common.specs.Limits.{diagonal_fits, shift_fits, matrix_within, point_fits}
-use Rattle.common.specs.Tested.{require}
-use Rattle.common.proofs.Tests.{same-ok}
+use Rattle.common.specs.Tested.{require, Tested, Accepted, ◌then◌, giving}
+use Rattle.common.proofs.Tests.{same-ok, refused-not-ok}
 use Rattle.common.specs.declared.Refusal.{Refusal}
-use Rattle.common.specs.declared.Refusal.TheVariants.{OutsideLimits, SearchFailed}
+use Rattle.common.specs.declared.Refusal.TheVariants.{OutsideLimits, SearchFailed, WrongLength, CouldNotStand}
 use Rattle.grgrid.specs.declared.Folded.{Folded}
 use Rattle.grgrid.specs.Grid.{size, index, rotated}
 use Rattle.grgrid.specs.Folding.{grid_index_from_address, rotate_grid_index}
 use Rattle.grgrid.proofs.Accepted.{few-points, grid-fits}
 use Rattle.grgrid.proofs.Folding.{index-lt}
+use Rattle.integer.proofs.Test.{holds, and_l, and_r}
 use Rattle.bzgrid.specs.declared.Lengths.{Lengths}
+use Rattle.bzgrid.specs.declared.TableRecord.{TableRecord}
 use Rattle.bzgrid.specs.declared.Built.{Built}
-use Rattle.bzgrid.specs.BzGridAddresses.{search_of, table_of, all_found, lengths_of, input_tests, sizes_of, tables_told, bz_grid_addresses, bz_grid_fill, bz_grid_sizes}
+use Rattle.bzgrid.specs.BzGridAddresses.{search_of, table_of, all_found, lengths_of, has_room, input_tests, sizes_of}
+use Rattle.bzgrid.specs.BzGridAddresses.{tables_told, bz_grid_addresses, bz_grid_fill, bz_grid_sizes}
 use Rattle.bzgrid.specs.declared.GridType.{GridType}
 use Rattle.bzgrid.specs.declared.GridType.TheVariants.{Sparse, Dense}
-use Rattle.bzgrid.specs.Table.{images_at}
+use Rattle.bzgrid.specs.Table.{images_at, named}
 use Rattle.bzgrid.proofs.KnownSizes.{sizes-told}
 use Rattle.bzgrid.proofs.Accepted.{passes, passes-first, input-accepted}
 use Rattle.bzgrid.proofs.ImageBounds.{images-total}
 use Rattle.bzgrid.proofs.Mapped.{size-doubled}
+use Rattle.bztable.specs.Reading.{Read}
+use Rattle.bzconvert.specs.Layout.{Table, list_at, table_read, could_stand}
+use Rattle.bzconvert.specs.Convert.{other, with_type, layout_tests, stand_tests, converted, converted_for, convert_bz_grid}
 use Rattle.snf_steps.proofs.Divisions.{few-steps}
 use Rattle.worst_pair.specs.declared.WorstPair.{WorstPair}
 use Rattle.worst_pair.specs.WorstPair.{Answers}
@@ -66,6 +72,47 @@ module _ (d : List ℤ) (q : List (List ℤ)) (ps : List ℤ) (lattice : List (L
   pub filled-fit : (n : List ℤ) (x y z : ℕ) (a : Result Built Refusal) → a ≡ (bz_grid_fill d q ps lattice t n x y z).answer → IfOk a (λ b. Held b.lengths)
   unfolding bz_grid_fill
   filled-fit n = built-fits (Some n)
+
+-- they have room in slices, of 8 bytes a place
+module _ (r : TableRecord) (x : Table) (na nm ng : ℕ) where
+  module _ (t : GridType) (b : Built) where
+    abbrev made : Lengths
+    made = lengths_of (other t) (sides_of r.d) (named (list_at t (sides_of r.d) x))
+
+    abbrev tests : (s h : Bool) → Tested
+    tests s h = require s CouldNotStand (require h WrongLength Accepted)
+
+    abbrev told : Tested → Result Built Refusal
+    told k = giving k made then λ l. Ok (record { lengths = l; table = with_type (other t) r })
+
+    tested : (s h : Bool) → h ≡ has_room made na nm ng → told (tests s h) ≡ Ok b → T (has_room b.lengths na nm ng)
+    tested true true h e = subst (λ (b : Built). T (has_room b.lengths na nm ng)) (same-ok e) (holds (sym h))
+    tested true false h e = absurd (refused-not-ok e)
+    tested false h f e = absurd (refused-not-ok e)
+
+    read : (m : Read ℕ) → told (m then λ m. tests (could_stand t (sides_of r.d) x m) (has_room made na nm ng)) ≡ Ok b → T (has_room b.lengths na nm ng)
+    read (Ok m) e = tested (could_stand t (sides_of r.d) x m) (has_room made na nm ng) refl e
+    read (Err q) e = absurd (refused-not-ok e)
+
+  room-for : (k : Result GridType Refusal) (b : Built) → (converted_for k r x na nm ng).answer ≡ Ok b → T (has_room b.lengths na nm ng)
+  unfolding converted stand_tests
+  room-for (Ok t) b e = read t b (table_read t (sides_of r.d) x) e
+  room-for (Err q) b e = absurd (refused-not-ok e)
+
+  held : (l : Lengths) → na * 8 < 0x8000000000000000 → nm * 8 < 0x8000000000000000 → ng * 8 < 0x8000000000000000 → T (has_room l na nm ng) → Held l
+  held l ha hm hg h =
+      let s = and_r (leb l.addresses na) (leb l.map nm && leb l.grg ng) h in
+      record {
+        addresses = omega (arith, leb→le l.addresses na (and_l (leb l.addresses na) (leb l.map nm && leb l.grg ng) h));
+        map = omega (arith, leb→le l.map nm (and_l (leb l.map nm) (leb l.grg ng) s));
+        grg = omega (arith, leb→le l.grg ng (and_r (leb l.map nm) (leb l.grg ng) s));
+      }
+
+  pub converted-fit : (a : Result Built Refusal) → na * 8 < 0x8000000000000000 → nm * 8 < 0x8000000000000000 → ng * 8 < 0x8000000000000000
+      → a ≡ (convert_bz_grid r x na nm ng).answer → IfOk a (λ b. Held b.lengths)
+  unfolding convert_bz_grid
+  converted-fit (Ok b) ha hm hg e = held b.lengths ha hm hg (room-for (layout_tests r x) b (sym e))
+  converted-fit (Err q) ha hm hg e = tt
 
 pub pair_fits : (limit : ℤ) (w : Result WorstPair Refusal) → Answers limit w → IfOk w PairFits
 pair_fits limit (Ok w) h =

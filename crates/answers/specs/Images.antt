@@ -1,4 +1,4 @@
--- What the exports of bzgrid and bztable answer and leave in their outputs.
+-- What the exports of bzgrid, bztable and bzconvert answer and leave in their outputs.
 use Rattle.std.specs.Prelude.{Bool, ◌&&◌, List, [], ◌∷◌, ◌++◌, ℕ, ◌<◌, eqb, ℤ, pos, Float, length, get_or, Result, cond}
 use Rattle.common.specs.declared.Refusal.{Refusal}
 use Rattle.common.specs.Tested.{answer_of, told_of}
@@ -8,12 +8,13 @@ use Rattle.bzsearch.specs.SearchView.{float_nine}
 use Rattle.bzgrid.specs.declared.Lengths.{Lengths}
 use Rattle.bzgrid.specs.declared.TableRecord.{TableRecord}
 use Rattle.bzgrid.specs.declared.Built.{Built}
-use Rattle.bzgrid.specs.BzGridAddresses.{bz_grid_addresses, bz_grid_fill, bz_grid_sizes}
+use Rattle.bzgrid.specs.BzGridAddresses.{BzGridAddresses, bz_grid_addresses, bz_grid_fill, bz_grid_sizes}
 use Rattle.bzgrid.specs.KnownSizes.{numbers}
 use Rattle.bztable.specs.declared.rotate.Rotated.{Rotated}
 use Rattle.bztable.specs.Rotate.{rotate_bz_grid_index}
 use Rattle.bztable.specs.Burst.{place_told, fallback_told, rotate_bz_grid_indices}
 use Rattle.bztable.specs.Neighbours.{neighboring_grid_points_many}
+use Rattle.bzconvert.specs.Convert.{convert_bz_grid}
 
 -- ---- image tables
 -- the three lengths, then the record: the diagonal, the shift and the type
@@ -48,21 +49,24 @@ pub record ZoneBzGridAddresses : Type 0 where
   pub grg : List ℤ
   pub told : List ℤ
 
--- the outputs have a, b, c and n places
+-- of an outcome
+abbrev pub tables_left : BzGridAddresses Built → ZoneBzGridAddresses
+tables_left o = record { answer = answer_of o.answer; addresses = o.addresses; map = o.map; grg = o.grg; told = images_told o.answer }
+
+-- where a slice has another length; the outputs have a, b, c and n places
+abbrev pub no_tables : (a b c n : ℕ) → ZoneBzGridAddresses
+no_tables a b c n = record { answer = wrong_length; addresses = unwritten a; map = unwritten b; grg = unwritten c; told = unwritten n }
+
 abbrev pub zone_bz_grid_addresses : (d q ps : List ℤ) → List Float → ℤ → (a b c n : ℕ) → ZoneBzGridAddresses
 zone_bz_grid_addresses d q ps lattice t a b c n =
-    let o = bz_grid_addresses d (rows (matrix_at q 0)) ps (rows (float_nine lattice)) t a b c in
     cond (image_lengths (length d) (length q) (length ps) (length lattice) n 10)
-    (record { answer = answer_of o.answer; addresses = o.addresses; map = o.map; grg = o.grg; told = images_told o.answer })
-    (record { answer = wrong_length; addresses = unwritten a; map = unwritten b; grg = unwritten c; told = unwritten n })
+    (tables_left (bz_grid_addresses d (rows (matrix_at q 0)) ps (rows (float_nine lattice)) t a b c)) (no_tables a b c n)
 
 -- the same from the lengths, three numbers
 abbrev pub zone_bz_grid_fill : (d q ps : List ℤ) → List Float → ℤ → List ℤ → (a b c n : ℕ) → ZoneBzGridAddresses
 zone_bz_grid_fill d q ps lattice t sizes a b c n =
-    let o = bz_grid_fill d (rows (matrix_at q 0)) ps (rows (float_nine lattice)) t sizes a b c in
     cond (eqb (length sizes) 3 && image_lengths (length d) (length q) (length ps) (length lattice) n 10)
-    (record { answer = answer_of o.answer; addresses = o.addresses; map = o.map; grg = o.grg; told = images_told o.answer })
-    (record { answer = wrong_length; addresses = unwritten a; map = unwritten b; grg = unwritten c; told = unwritten n })
+    (tables_left (bz_grid_fill d (rows (matrix_at q 0)) ps (rows (float_nine lattice)) t sizes a b c)) (no_tables a b c n)
 
 pub record ZoneBzGridSizes : Type 0 where
   pub answer : ℤ
@@ -126,3 +130,9 @@ abbrev pub zone_neighboring_grid_points : (points offsets addresses map table d 
 zone_neighboring_grid_points points offsets addresses map table d t n =
     let o = neighboring_grid_points_many points offsets addresses map (table_at table) d t n in
     cond (eqb (length table) 7 && eqb (length d) 3) (record { answer = answer_of o.answer; out = o.out }) (record { answer = wrong_length; out = unwritten n })
+
+-- ---- the table of the other type
+abbrev pub zone_convert_bz_grid : (table addresses map grg : List ℤ) → (a b c n : ℕ) → ZoneBzGridAddresses
+zone_convert_bz_grid table addresses map grg a b c n =
+    cond (eqb (length table) 7 && eqb n 10)
+    (tables_left (convert_bz_grid (table_at table) (record { addresses = addresses; map = map; grg = grg }) a b c)) (no_tables a b c n)

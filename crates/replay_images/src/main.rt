@@ -33,6 +33,7 @@ fn main(rt: HostRuntime) -> io::Result<()> {
         &mut n,
         points::neighboring_grid_points,
     )?;
+    replay(&rt, "convert_bz_grid", &mut n, tables::convert_bz_grid)?;
     replay(&rt, "control", &mut n, tables::bz_grid_addresses)?;
     replay(&rt, "burst_control", &mut n, points::rotate_bz_grid_indices)
 }

@@ -1,4 +1,4 @@
-// One case of the calls that make the tables of images, or tell their lengths.
+// One case of the calls that make the tables of images, also of another table, or tell their lengths.
 use vectors::compared::Compared;
 use vectors::{UNWRITTEN, Verdict, floats, slices};
 
@@ -80,4 +80,24 @@ pub fn bz_grid_sizes(line: &[i64]) -> Option<Verdict> {
     let mut told = [UNWRITTEN; 3];
     let answer = zone_c::zone_bz_grid_sizes(d, q, ps, lattice, *bz_grid_type, &mut told);
     Some(Compared::with(line).number(answer).numbers(&told).verdict())
+}
+
+// Four slices, then what is made.
+pub fn convert_bz_grid(line: &[i64]) -> Option<Verdict> {
+    let (table, line) = slices::split(line);
+    let (addresses, line) = slices::split(line);
+    let (map, line) = slices::split(line);
+    let (grg, line) = slices::split(line);
+    Some(made(line, |out_addresses, out_map, out_grg, told| {
+        zone_c::zone_convert_bz_grid(
+            table,
+            addresses,
+            map,
+            grg,
+            out_addresses,
+            out_map,
+            out_grg,
+            told,
+        )
+    }))
 }

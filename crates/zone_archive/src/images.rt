@@ -1,6 +1,6 @@
-// The exports of bzgrid.
+// The exports of bzgrid, and of what reads its tables.
 ghost use Rattle.std.specs.Prelude.{◌≡◌, length};
-ghost use Rattle.answers.specs.Images.{zone_bz_grid_addresses, zone_bz_grid_fill, zone_bz_grid_sizes};
+ghost use Rattle.answers.specs.Images.{zone_bz_grid_addresses, zone_bz_grid_fill, zone_bz_grid_sizes, zone_convert_bz_grid};
 ghost use Rattle.answers.specs.Images.{zone_rotate_bz_grid_index, zone_rotate_bz_grid_indices, zone_neighboring_grid_points};
 
 #[unsafe(no_mangle)]
@@ -148,5 +148,34 @@ pub extern "C" fn zone_neighboring_grid_points(
         d,
         bz_grid_type,
         out,
+    )
+}
+
+#[unsafe(no_mangle)]
+pub extern "C" fn zone_convert_bz_grid(
+    table: &[i64],
+    addresses: &[i64],
+    map: &[i64],
+    grg: &[i64],
+    out_addresses: &mut [i64],
+    out_map: &mut [i64],
+    out_grg: &mut [i64],
+    told: &mut [i64],
+) -> i64
+    ensures { let a = length out_addresses.old in
+        let b = length out_map.old in
+        let c = length out_grg.old in
+        record { answer = result; addresses = out_addresses.new; map = out_map.new; grg = out_grg.new; told = told.new }
+        ≡ zone_convert_bz_grid table.now addresses.now map.now grg.now a b c (length told.old) }
+{
+    zone_c::zone_convert_bz_grid(
+        table,
+        addresses,
+        map,
+        grg,
+        out_addresses,
+        out_map,
+        out_grg,
+        told,
     )
 }

@@ -20,8 +20,8 @@ pub use grid::{
     zone_all_grid_addresses, zone_grid_index_from_address, zone_ir_grid_map, zone_rotate_grid_index,
 };
 pub use images::{
-    zone_bz_grid_addresses, zone_bz_grid_fill, zone_bz_grid_sizes, zone_neighboring_grid_points,
-    zone_rotate_bz_grid_index, zone_rotate_bz_grid_indices,
+    zone_bz_grid_addresses, zone_bz_grid_fill, zone_bz_grid_sizes, zone_convert_bz_grid,
+    zone_neighboring_grid_points, zone_rotate_bz_grid_index, zone_rotate_bz_grid_indices,
 };
 pub use list::zone_list;
 pub use marks::zone_mark_candidates;

@@ -9,7 +9,7 @@ use crate::inputs::images::Images;
 use crate::inputs::lattices;
 use crate::inputs::lent_images::ImagesInput;
 use crate::inputs::matrices::is_within;
-use crate::inputs::records;
+use crate::inputs::records::Record;
 use crate::limits::Q_ENTRY;
 use crate::panics::watched;
 use crate::port;
@@ -76,7 +76,7 @@ impl Tables {
     /// lengths, and the record of the grid.
     pub fn leave(
         &self,
-        given: &Images,
+        record: Record,
         outputs: &mut [Vec<i64>],
         told: &mut [i64],
     ) -> Result<(), i64> {
@@ -88,7 +88,7 @@ impl Tables {
             output[..table.len()].copy_from_slice(table);
         }
         told[..3].copy_from_slice(&self.sizes());
-        told[3..].copy_from_slice(&records::of(given.d, given.ps, given.bz_grid_type));
+        told[3..].copy_from_slice(&record);
         Ok(())
     }
 }
@@ -148,7 +148,7 @@ impl Function for BzGridAddresses {
         outputs.answer(|slices, told| {
             length(told.len() == TOLD)?;
             let given = given(input)?;
-            tables(&given)?.leave(&given, slices, told)
+            tables(&given)?.leave(given.record(), slices, told)
         })
     }
 }

@@ -61,7 +61,7 @@ impl Function for BzGridFill {
             let given = given(images)?;
             let tables = tables(&given)?;
             known(sizes, tables.sizes())?;
-            tables.leave(&given, slices, told)
+            tables.leave(given.record(), slices, told)
         })
     }
 }

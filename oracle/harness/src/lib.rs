@@ -12,6 +12,7 @@ pub mod chain;
 pub mod class_sheet;
 pub mod class_weights;
 pub mod compare;
+pub mod convert_bz_grid;
 pub mod corners;
 pub mod demand;
 pub mod extended_gcd;

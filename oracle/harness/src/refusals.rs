@@ -20,6 +20,7 @@ pub const WRONG_HEADER: i64 = 15;
 pub const OTHER_SIZES: i64 = 16;
 pub const OTHER_GRID: i64 = 17;
 pub const NOT_GROUP: i64 = 18;
+pub const COULD_NOT_STAND: i64 = 19;
 pub const INVERTED_RANGE: i64 = 20;
 
 /// What a refusal leaves in every place of every output.

@@ -8,6 +8,7 @@ use crate::bz_triplets_at_q::*;
 use crate::chain::*;
 use crate::class_sheet::*;
 use crate::class_weights::*;
+use crate::convert_bz_grid::*;
 use crate::extended_gcd::*;
 use crate::floats::*;
 use crate::function::{Function, Input};
@@ -16,6 +17,7 @@ use crate::grid_index_from_address::*;
 use crate::hermite3x3::*;
 use crate::inputs::lent_bursts::BurstInput;
 use crate::inputs::lent_classes::ClassesInput;
+use crate::inputs::lent_conversions::ConvertInput;
 use crate::inputs::lent_images::ImagesInput;
 use crate::inputs::lent_marks::MarksInput;
 use crate::inputs::lent_neighbours::NeighboursInput;
@@ -151,6 +153,7 @@ pub static ROWS: &[Row] = &[
     Row::call::<RotateBzGridIndex>("rotate_bz_grid_index"),
     Row::apart::<RotateBzGridIndices>("rotate_bz_grid_indices"),
     Row::call::<NeighboringGridPoints>("neighboring_grid_points"),
+    Row::apart::<ConvertBzGrid>("convert_bz_grid"),
     Row::call::<IrTripletsAtQ>("ir_triplets_at_q"),
     Row::call::<BzTripletsAtQ>("bz_triplets_at_q"),
     Row::apart::<ClassSheet>("class_sheet"),
@@ -215,6 +218,15 @@ pub static VARIANTS: &[Variant] = &[
     }),
     ("neighboring_grid_points:type_2", || {
         bench::run_on::<NeighboringGridPoints>(NeighboursInput::dense)
+    }),
+    ("convert_bz_grid:type_1", || {
+        bench::run_on::<ConvertBzGrid>(ConvertInput::sparse)
+    }),
+    ("convert_bz_grid:type_2", || {
+        bench::run_on::<ConvertBzGrid>(ConvertInput::dense)
+    }),
+    ("convert_bz_grid:over_addresses", || {
+        bench::beside::<ConvertBzGrid>(ConvertInput::typical, convert_over_addresses)
     }),
     ("ir_triplets_at_q:swapped", || {
         bench::run_on::<IrTripletsAtQ>(ClassesInput::swapped)

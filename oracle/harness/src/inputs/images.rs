@@ -4,6 +4,7 @@ use phonors::common::{MatD, MatI, Vec3I, IDENTITY};
 
 use crate::bz_grid_addresses::tables;
 use crate::inputs::lattices::{self, REGULAR, SKEWED};
+use crate::inputs::records::{self, Record};
 use crate::inputs::{grids, matrices};
 use crate::limits::Q_ENTRY;
 use crate::random::Random;
@@ -36,6 +37,11 @@ impl Images {
             lattice,
             bz_grid_type,
         }
+    }
+
+    /// The record of its table.
+    pub fn record(&self) -> Record {
+        records::of(self.d, self.ps, self.bz_grid_type)
     }
 }
 

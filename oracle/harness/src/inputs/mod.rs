@@ -1,6 +1,7 @@
 //! Where inputs come from, for every kind of argument that the exports take.
 
 pub mod chains;
+pub mod conversions_at_limits;
 pub mod floats;
 pub mod forms;
 pub mod gcds;
@@ -13,6 +14,7 @@ pub mod lattices;
 pub mod lent;
 pub mod lent_bursts;
 pub mod lent_classes;
+pub mod lent_conversions;
 pub mod lent_images;
 pub mod lent_marks;
 pub mod lent_neighbours;
@@ -25,6 +27,7 @@ pub mod lent_weights;
 pub mod matrices;
 pub mod numbers;
 pub mod records;
+pub mod standing;
 pub mod tables;
 pub mod tolerance;
 pub mod transforms;

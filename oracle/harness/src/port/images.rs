@@ -110,6 +110,24 @@ extern "C" {
         out: *mut i64,
         out_len: usize,
     ) -> i64;
+    fn zone_convert_bz_grid(
+        table: *const i64,
+        table_len: usize,
+        addresses: *const i64,
+        addresses_len: usize,
+        map: *const i64,
+        map_len: usize,
+        grg: *const i64,
+        grg_len: usize,
+        out_addresses: *mut i64,
+        out_addresses_len: usize,
+        out_map: *mut i64,
+        out_map_len: usize,
+        out_grg: *mut i64,
+        out_grg_len: usize,
+        told: *mut i64,
+        told_len: usize,
+    ) -> i64;
 }
 
 pub fn bz_grid_addresses(
@@ -305,6 +323,38 @@ pub fn neighboring_grid_points(
             bz_grid_type,
             out.as_mut_ptr(),
             out.len(),
+        )
+    }
+}
+
+pub fn convert_bz_grid(
+    table: &[i64],
+    addresses: &[i64],
+    map: &[i64],
+    grg: &[i64],
+    out_addresses: &mut [i64],
+    out_map: &mut [i64],
+    out_grg: &mut [i64],
+    told: &mut [i64],
+) -> i64 {
+    unsafe {
+        zone_convert_bz_grid(
+            table.as_ptr(),
+            table.len(),
+            addresses.as_ptr(),
+            addresses.len(),
+            map.as_ptr(),
+            map.len(),
+            grg.as_ptr(),
+            grg.len(),
+            out_addresses.as_mut_ptr(),
+            out_addresses.len(),
+            out_map.as_mut_ptr(),
+            out_map.len(),
+            out_grg.as_mut_ptr(),
+            out_grg.len(),
+            told.as_mut_ptr(),
+            told.len(),
         )
     }
 }

@@ -427,7 +427,8 @@ int64_t zone_class_sheet(const int64_t *class_map, size_t class_map_len, const i
                          int64_t *sheet, size_t sheet_len);
 
 /* Calls 1 to 6 on a job file, for at most 256 points and 1,024 images (else 13), with ps = 0; type 2 starts from the
- * first image of q0. The file has a header of eight 32-bit words, and all words are little-endian:
+ * first image of q0. The file has a header of eight 32-bit words. All words are little-endian, and a double is two, the
+ * low one first:
  *
  *   0  its length in bytes, 32 to ZONE_JOB_LENGTH      4  the byte at which the lattice stands: 9 doubles
  *   1  the count of rotations, 0 (then 18) to 192      5  flags: 1 time reversal, 2 swappable, or their sum

@@ -3,7 +3,7 @@ use mathlib.Core.Path.{◌≡◌, refl}
 use mathlib.Core.Bool.{Bool, true, false}
 use mathlib.Core.List.{List, [], ◌∷◌, ◌++◌}
 use Prim.Native.Nat.{ℕ, ◌-◌, ◌/◌, ◌%◌}
-use lib.Ieee.{Float, nan, binary64, of_bits}
+use lib.Ieee.{Float, nan, inf, fin, binary64, of_bits}
 use lib.IntN.{ℤ, pos, negsuc}
 use lib.ListN.{replicate, take}
 use Rattle.std.specs.Prelude.{Ok}
@@ -102,7 +102,7 @@ headers : Right table
 unfolding job_fits
 headers = (refl, (refl, (refl, (refl, (refl, (refl, (refl, (refl, (refl, (refl, (refl, (refl, (refl, (refl, (refl, (refl, (refl, (refl, tt))))))))))))))))))
 
--- the ends of a signed word, and a NaN of any pattern
+-- the ends of a signed word
 least : signed 0x80000000 ≡ negsuc 0x7fffffff
 unfolding signed
 least = refl
@@ -110,6 +110,27 @@ least = refl
 minus_one : signed 0xffffffff ≡ negsuc 0
 unfolding signed
 minus_one = refl
+
+-- floats: the words in their order, a low word from 2^31 on, the least float, -0, an infinity, and a NaN by its low word alone
+in-order : float (0x01 ∷ 0x23 ∷ 0x45 ∷ 0x67 ∷ 0x89 ∷ 0xab ∷ 0xcd ∷ 0x3f ∷ []) 0 ≡ of_bits binary64 0x3fcdab8967452301
+unfolding float
+in-order = refl
+
+below-one : float (255 ∷ 255 ∷ 255 ∷ 255 ∷ 255 ∷ 255 ∷ 239 ∷ 63 ∷ []) 0 ≡ of_bits binary64 0x3fefffffffffffff
+unfolding float
+below-one = refl
+
+least_float : float (1 ∷ 0 ∷ 0 ∷ 0 ∷ 0 ∷ 0 ∷ 0 ∷ 0 ∷ []) 0 ≡ fin false 1 (negsuc 1073)
+unfolding float of_bits
+least_float = refl
+
+minus_nought : float (0 ∷ 0 ∷ 0 ∷ 0 ∷ 0 ∷ 0 ∷ 0 ∷ 128 ∷ []) 0 ≡ fin true 0 (pos 0)
+unfolding float of_bits
+minus_nought = refl
+
+infinite : float (0 ∷ 0 ∷ 0 ∷ 0 ∷ 0 ∷ 0 ∷ 240 ∷ 127 ∷ []) 0 ≡ inf false
+unfolding float of_bits
+infinite = refl
 
 no_number : float (1 ∷ 0 ∷ 0 ∷ 0 ∷ 0 ∷ 0 ∷ 240 ∷ 255 ∷ []) 0 ≡ nan
 unfolding float of_bits

@@ -1,5 +1,6 @@
 mod Lists
 mod Words
+pub mod FormerReading
 pub mod Sections
 pub mod Outcome
 mod Put

@@ -21,8 +21,10 @@ word b at = little_endian b at 4
 unfoldable pub signed : ℕ → ℤ
 signed w = cond (ltb w 0x80000000) (pos w) (pos w -ℤ pos 0x100000000)
 
+-- two words, the low one first
 unfoldable pub float : List ℕ → ℕ → Float
-float b at = of_bits binary64 (little_endian b at 8)
+unfolding word
+float b at = of_bits binary64 (word b at + 0x100000000 * word b (at + 4))
 
 -- n signed words, and n floats, from place `at` on
 unfoldable pub signed_words : List ℕ → ℕ → ℕ → List ℤ

@@ -1,3 +1,4 @@
 pub mod Job
+pub mod FormerReading
 pub mod Listing
 pub mod Writing

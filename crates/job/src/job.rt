@@ -1,6 +1,6 @@
 // The job file: words, sections, and the job that they tell.
-ghost use Rattle.std.specs.Prelude.{◌≡◌, true, ◌+◌, ◌*◌, ◌^◌, ◌≤◌, ◌<◌, length};
-ghost use Rattle.job.specs.Job.{little_endian, word, signed, float, signed_words, floats, header, section_fits};
+ghost use Rattle.std.specs.Prelude.{◌≡◌, true, ◌+◌, ◌*◌, ◌≤◌, ◌<◌, length};
+ghost use Rattle.job.specs.Job.{word, signed, float, signed_words, floats, header, section_fits};
 ghost use Rattle.job.specs.Job.{numbers_fit, sections_fit, job_fits, job_of, rotations_written, accepted};
 
 use common::Refusal;
@@ -17,26 +17,13 @@ pub struct Job {
     pub q0: i64,
 }
 
-// n bytes from place `at` on, the lowest first. `from_le_bytes` takes arrays, of 4 and of 8 bytes: this serves both.
-fn little_endian(bytes: &[u8], at: usize, n: usize) -> u64
-    requires { (at + n ≤ length bytes.now) × (n ≤ 8) }
-    ensures value { result ≡ little_endian bytes.now at n }
-    ensures upper_bound { result < 256 ^ n }
-{
-    let mut v: u64 = 0;
-    for k in (0..n).rev() {
-        v = u64::from(bytes[at + k]) + 256 * v;
-    }
-    v
-}
-
 #[tactic(auto, unfolding(crate::specs::Job::word))]
 fn word(bytes: &[u8], at: usize) -> usize
     requires { at + 4 ≤ length bytes.now }
     ensures value { result ≡ word bytes.now at }
     ensures upper_bound { result < 0x100000000 }
 {
-    little_endian(bytes, at, 4) as usize
+    u32::from_le_bytes([bytes[at], bytes[at + 1], bytes[at + 2], bytes[at + 3]]) as usize
 }
 
 // No `cast_signed`: of 32 bits, it would take a cast before and one after.
@@ -51,12 +38,15 @@ fn signed(w: usize) -> i64
     w as i64 - 0x1_0000_0000
 }
 
+// Two words, the low one first.
 #[tactic(auto, unfolding(crate::specs::Job::float))]
 fn float(bytes: &[u8], at: usize) -> f64
     requires { at + 8 ≤ length bytes.now }
     ensures { result ≡ float bytes.now at }
 {
-    float::of_bits(little_endian(bytes, at, 8))
+    let low = word(bytes, at) as u64;
+    let high = word(bytes, at + 4) as u64;
+    float::of_bits(low + 0x1_0000_0000 * high)
 }
 
 // As many signed words as out has places, from byte `at` on.

@@ -26,7 +26,7 @@ use crate::refusals::{ACCEPTED, WRONG_HEADER};
 use crate::snf3x3::{MatrixInput, Snf3x3};
 use crate::tests::{fixed, length, matrices, matrix};
 use crate::transform_rotations::TransformRotations;
-use crate::vectors::{self, ROOM};
+use crate::vectors::{self, FILE_BYTES};
 
 /// Cases of the vectors, as far as there is room.
 const VECTORS: usize = 512;
@@ -155,7 +155,14 @@ pub fn listing(job: &[u8]) -> Result<String, i64> {
 /// Lines of jobs, with what the program `zonelist` answers and prints.
 pub fn vectors(seed: u64) -> Vec<String> {
     let at_limits = jobs_at_limits::inputs();
-    vectors::filled(seed, VECTORS, ROOM, &at_limits, JobInput::random, vector)
+    vectors::filled(
+        seed,
+        VECTORS,
+        FILE_BYTES,
+        &at_limits,
+        JobInput::random,
+        vector,
+    )
 }
 
 /// A line of the vectors: the job as runs, the answer, and the text as its length and

@@ -13,6 +13,7 @@ use crate::inputs::groups::{
     closure, failures, half_a_group, shears, CUBIC, FOURFOLD, HEXAGONAL, THREEFOLD,
 };
 use crate::inputs::images::TYPES;
+use crate::inputs::job_floats;
 use crate::inputs::jobs::{
     paper, set_word, JobInput, Request, COUNT, FLAGS, LATTICE, LIST, MATRIX, POINT, TOTAL, TYPE,
 };
@@ -28,7 +29,14 @@ use crate::limits::{
 
 /// The job of the paper first; each with room for its text.
 pub fn inputs() -> Vec<JobInput> {
-    let kinds = [accepted(), numbers(), lists(), refused(), images()];
+    let kinds = [
+        accepted(),
+        numbers(),
+        lists(),
+        refused(),
+        images(),
+        job_floats::requests(),
+    ];
     let requests = kinds.iter().flatten();
     let plain = requests.map(Request::plain);
     let jobs = plain.chain(headers()).chain(lengths());

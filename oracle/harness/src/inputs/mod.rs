@@ -8,6 +8,7 @@ pub mod gcds;
 pub mod grids;
 pub mod groups;
 pub mod images;
+pub mod job_floats;
 pub mod jobs;
 pub mod jobs_at_limits;
 pub mod lattices;

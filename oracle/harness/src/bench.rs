@@ -68,20 +68,35 @@ pub fn beside<F: Timed>(
         port.push((F::export(input), place));
         rust.push((other(input), place));
     }
+    let [port, rust] = best([&port, &rust], &mut lent);
+    Times { port, rust }
+}
+
+/// Nanoseconds per call of the port by itself.
+pub fn alone<F: Timed>(inputs: &[F::Input]) -> f64 {
+    let mut lent = Vec::new();
+    let place = |input| place(&mut lent, accepted::<F>(input));
+    let places: Vec<usize> = inputs.iter().map(place).collect();
+    let port = inputs.iter().map(F::export).zip(places).collect();
+    let [port] = best([&port], &mut lent);
+    port
+}
+
+/// Nanoseconds per call of each side.
+fn best<const SIDES: usize>(
+    sides: [&Vec<(Call, usize)>; SIDES],
+    lent: &mut [Outputs],
+) -> [f64; SIDES] {
     let mut rounds = 1;
-    while time(&port, &mut lent, rounds) < REPETITION {
+    while time(sides[0], lent, rounds) < REPETITION {
         rounds *= 2;
     }
-    let calls = (rounds * F::INPUTS) as f64;
-    let mut best = Times {
-        port: f64::INFINITY,
-        rust: f64::INFINITY,
-    };
+    let calls = (rounds * sides[0].len()) as f64;
+    let mut best = [f64::INFINITY; SIDES];
     for _ in 0..REPETITIONS {
-        let nanoseconds = |side| time(side, &mut lent, rounds).as_nanos() as f64 / calls;
-        let [port, rust] = [&port, &rust].map(nanoseconds);
-        best.port = best.port.min(port);
-        best.rust = best.rust.min(rust);
+        for (best, side) in best.iter_mut().zip(sides) {
+            *best = best.min(time(side, lent, rounds).as_nanos() as f64 / calls);
+        }
     }
     best
 }
@@ -105,7 +120,7 @@ fn place(lent: &mut Vec<Outputs>, outputs: Outputs) -> usize {
     })
 }
 
-/// What calling one side on every input takes, so many rounds long. Both sides are
+/// What calling one side on every input takes, so many rounds long. All sides are
 /// called by pointer from one loop: two loops would be placed differently, which may
 /// cost more than the shortest functions do.
 #[inline(never)]

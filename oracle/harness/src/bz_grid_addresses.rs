@@ -140,7 +140,17 @@ impl Function for BzGridAddresses {
         };
         let ImagesInput { d, q, ps, .. } = input;
         let (lattice, bz_grid_type) = (&input.lattice, input.bz_grid_type);
-        port::bz_grid_addresses(d, q, ps, lattice, bz_grid_type, addresses, map, grg, told)
+        port::answer(zone::bz_grid_addresses(
+            d,
+            q,
+            ps,
+            lattice,
+            bz_grid_type,
+            addresses,
+            map,
+            grg,
+            told,
+        ))
     }
 
     /// The length of `told` is known beforehand, those of the tables are not.

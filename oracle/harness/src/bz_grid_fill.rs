@@ -39,7 +39,7 @@ impl Function for BzGridFill {
         };
         let ImagesInput { d, q, ps, .. } = images;
         let (lattice, bz_grid_type) = (&images.lattice, images.bz_grid_type);
-        port::bz_grid_fill(
+        port::answer(zone::bz_grid_fill(
             d,
             q,
             ps,
@@ -50,7 +50,7 @@ impl Function for BzGridFill {
             map,
             grg,
             told,
-        )
+        ))
     }
 
     /// The lengths are compared once the tables are known, and before their room.

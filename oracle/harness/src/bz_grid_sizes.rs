@@ -27,7 +27,14 @@ impl Function for BzGridSizes {
     fn port(SizesInput(images): &SizesInput, outputs: &mut Outputs) -> i64 {
         let ImagesInput { d, q, ps, .. } = images;
         let (lattice, bz_grid_type) = (&images.lattice, images.bz_grid_type);
-        port::bz_grid_sizes(d, q, ps, lattice, bz_grid_type, &mut outputs.told)
+        port::answer(zone::bz_grid_sizes(
+            d,
+            q,
+            ps,
+            lattice,
+            bz_grid_type,
+            &mut outputs.told,
+        ))
     }
 
     fn oracle(SizesInput(images): &SizesInput, outputs: &mut Outputs) -> i64 {

@@ -198,7 +198,7 @@ impl Function for BzTripletsAtQ {
         let [out, left, left_length, cells] = &mut outputs.slices[..] else {
             panic!("four slices");
         };
-        port::bz_triplets_at_q(
+        port::answer(zone::bz_triplets_at_q(
             input.q0,
             &input.addresses,
             &input.map,
@@ -210,9 +210,9 @@ impl Function for BzTripletsAtQ {
             input.bz_grid_type,
             out,
             left,
-            left_length,
+            port::floats(left_length),
             cells,
-        )
+        ))
     }
 
     /// A refusal leaves the float -1.0 too.

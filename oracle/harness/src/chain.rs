@@ -99,7 +99,7 @@ fn addresses(flat: &[i64]) -> &[Vec3I] {
 }
 
 /// All calls of a chain, and whether the third demand, if it speaks of this list, holds.
-fn chain<S: Side>(steps: &mut Steps, input: &ChainInput) -> Result<Option<bool>, i64> {
+pub fn chain<S: Side>(steps: &mut Steps, input: &ChainInput) -> Result<Option<bool>, i64> {
     let a = flat(&[input.a]);
     let diagonal = steps.make::<S, Snf3x3>(&MatrixInput { a })?;
     let (d, q) = (fixed(&diagonal.slices[0])?, matrix(&diagonal.slices[2])?);

@@ -85,7 +85,11 @@ impl Function for ClassSheet {
     }
 
     fn port(input: &SheetInput, outputs: &mut Outputs) -> i64 {
-        port::class_sheet(&input.class_map, &input.triplets, &mut outputs.slices[0])
+        port::answer(zone::class_sheet(
+            &input.class_map,
+            &input.triplets,
+            &mut outputs.slices[0],
+        ))
     }
 
     fn oracle(input: &SheetInput, outputs: &mut Outputs) -> i64 {

@@ -75,7 +75,7 @@ impl Function for ClassWeights {
         let [weights, members, keepers] = &mut slices[..] else {
             panic!("three slices");
         };
-        port::class_weights(
+        port::answer(zone::class_weights(
             &input.rotations,
             &input.d,
             &input.ps,
@@ -84,7 +84,7 @@ impl Function for ClassWeights {
             members,
             keepers,
             told,
-        )
+        ))
     }
 
     /// The length of `keepers` hangs on the number of rotations, and is not tested where

@@ -265,7 +265,7 @@ impl Function for ConvertBzGrid {
         let [addresses, map, grg] = &mut slices[..] else {
             panic!("three slices");
         };
-        port::convert_bz_grid(
+        port::answer(zone::convert_bz_grid(
             &input.table,
             &input.addresses,
             &input.map,
@@ -274,7 +274,7 @@ impl Function for ConvertBzGrid {
             map,
             grg,
             told,
-        )
+        ))
     }
 
     /// Of the Rust's own tables, those that it makes of the other type; of others, what

@@ -155,9 +155,15 @@ impl Finished<'_> {
         column(0).max(column(1)).max(column(2)) * 0.01
     }
 
-    fn images(&self, point: i64) -> Vec<usize> {
-        let of_point = |&image: &usize| self.grg[image] == point;
-        (0..self.grg.len()).filter(of_point).collect()
+    /// The images of each point.
+    fn images(&self) -> Vec<Vec<usize>> {
+        let mut images = vec![Vec::new(); self.class_map.len()];
+        for (image, &point) in self.grg.iter().enumerate() {
+            if let Some(of_point) = images.get_mut(point as usize) {
+                of_point.push(image);
+            }
+        }
+        images
     }
 
     fn sum(&self, choice: [usize; 3]) -> Vec3I {
@@ -174,14 +180,11 @@ impl Finished<'_> {
         holds(self.left.len() == numbers.len(), "what is left of each")?;
         holds(self.cells.len() == numbers.len(), "the cell of each")?;
         let (basis, tolerance) = (self.basis(), self.tolerance());
-        let first = self.images(self.q0);
+        let images = self.images();
         let told = self.left.iter().zip(self.cells);
         for ((&q1, triplet), (left, cell)) in numbers.iter().zip(self.triplets).zip(told) {
-            let images = [
-                first.clone(),
-                self.images(q1),
-                self.images(self.partner(q1)),
-            ];
+            let points = [self.q0, q1, self.partner(q1)];
+            let images = points.map(|point| &images[point as usize]);
             let chosen = triplet.map(|image| image as usize);
             let among = |k: usize| images[k].contains(&chosen[k]);
             holds((0..3).all(among), "a triplet has images of its points")?;
@@ -198,9 +201,9 @@ impl Finished<'_> {
             }
             let length = self.squared_length(&basis, sum);
             holds(*left == Some(length), "the length left over is told")?;
-            for &x in &images[0] {
-                for &y in &images[1] {
-                    for &z in &images[2] {
+            for &x in images[0] {
+                for &y in images[1] {
+                    for &z in images[2] {
                         let sum = self.sum([x, y, z]);
                         holds(sum != [0; 3], "a choice closes")?;
                         let other = self.squared_length(&basis, sum);

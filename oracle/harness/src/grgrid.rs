@@ -30,7 +30,7 @@ pub struct MapInput {
 }
 
 impl MapInput {
-    fn new(rotations: &[i64], d: Vec3I, ps: Vec3I) -> MapInput {
+    pub fn new(rotations: &[i64], d: Vec3I, ps: Vec3I) -> MapInput {
         MapInput {
             rotations: rotations.to_vec(),
             d: d.to_vec(),
@@ -95,7 +95,13 @@ impl Function for IrGridMap {
 
     fn port(input: &MapInput, outputs: &mut Outputs) -> i64 {
         let Outputs { slices, told } = outputs;
-        port::ir_grid_map(&input.rotations, &input.d, &input.ps, &mut slices[0], told)
+        port::answer(zone::ir_grid_map(
+            &input.rotations,
+            &input.d,
+            &input.ps,
+            &mut slices[0],
+            told,
+        ))
     }
 
     fn oracle(input: &MapInput, outputs: &mut Outputs) -> i64 {
@@ -129,7 +135,7 @@ impl Timed for IrGridMap {
 
 #[derive(Debug)]
 pub struct GridInput {
-    d: Vec<i64>,
+    pub d: Vec<i64>,
 }
 
 impl Input for GridInput {
@@ -169,7 +175,7 @@ impl Function for AllGridAddresses {
     }
 
     fn port(input: &GridInput, outputs: &mut Outputs) -> i64 {
-        port::all_grid_addresses(&input.d, &mut outputs.slices[0])
+        port::answer(zone::all_grid_addresses(&input.d, &mut outputs.slices[0]))
     }
 
     fn oracle(input: &GridInput, outputs: &mut Outputs) -> i64 {

@@ -53,7 +53,7 @@ pub struct FoldInput {
 }
 
 impl FoldInput {
-    fn new(address: Vec3I, d: Vec3I) -> FoldInput {
+    pub fn new(address: Vec3I, d: Vec3I) -> FoldInput {
         FoldInput {
             address: address.to_vec(),
             d: d.to_vec(),
@@ -135,7 +135,11 @@ impl Function for GridIndexFromAddress {
     }
 
     fn port(input: &FoldInput, outputs: &mut Outputs) -> i64 {
-        port::grid_index_from_address(&input.address, &input.d, &mut outputs.told)
+        port::answer(zone::grid_index_from_address(
+            &input.address,
+            &input.d,
+            &mut outputs.told,
+        ))
     }
 
     fn oracle(input: &FoldInput, outputs: &mut Outputs) -> i64 {

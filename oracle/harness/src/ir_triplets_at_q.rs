@@ -33,7 +33,7 @@ impl Function for IrTripletsAtQ {
         let [map_triplets, map_q] = &mut slices[..] else {
             panic!("two slices");
         };
-        port::ir_triplets_at_q(
+        port::answer(zone::ir_triplets_at_q(
             input.q0,
             &input.d,
             &input.rotations,
@@ -42,7 +42,7 @@ impl Function for IrTripletsAtQ {
             map_triplets,
             map_q,
             told,
-        )
+        ))
     }
 
     fn oracle(input: &ClassesInput, outputs: &mut Outputs) -> i64 {

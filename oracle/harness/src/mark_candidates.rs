@@ -24,7 +24,7 @@ impl Function for MarkCandidates {
     }
 
     fn port(input: &MarksInput, outputs: &mut Outputs) -> i64 {
-        port::mark_candidates(
+        port::answer(zone::mark_candidates(
             &input.d,
             &input.q,
             &input.ps,
@@ -32,7 +32,7 @@ impl Function for MarkCandidates {
             &input.highest,
             input.point,
             &mut outputs.slices[0],
-        )
+        ))
     }
 
     fn oracle(input: &MarksInput, outputs: &mut Outputs) -> i64 {

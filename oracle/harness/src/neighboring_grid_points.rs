@@ -135,7 +135,7 @@ impl Function for NeighboringGridPoints {
     }
 
     fn port(input: &NeighboursInput, outputs: &mut Outputs) -> i64 {
-        port::neighboring_grid_points(
+        port::answer(zone::neighboring_grid_points(
             &input.points,
             &input.offsets,
             &input.addresses,
@@ -144,7 +144,7 @@ impl Function for NeighboringGridPoints {
             &input.d,
             input.bz_grid_type,
             &mut outputs.slices[0],
-        )
+        ))
     }
 
     fn oracle(input: &NeighboursInput, outputs: &mut Outputs) -> i64 {

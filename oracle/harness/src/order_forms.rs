@@ -118,7 +118,7 @@ impl Function for OrderForms {
     }
 
     fn port(input: &FormsInput, outputs: &mut Outputs) -> i64 {
-        port::order_forms(&input.g, &input.h, &mut outputs.told)
+        port::answer(zone::order_forms(&input.g, &input.h, &mut outputs.told))
     }
 
     /// 13 is the only refusal: the nine numbers may be any.

@@ -1,17 +1,12 @@
-//! The exports of the port's archive, each behind a safe wrapper; nothing else
-//! calls them. A slice of Rattle is a pointer and a length, and the port keeps
+//! The port's side of a call: the crate `zone` for what a user calls, and here the exports
+//! for the comparison alone. A slice of Rattle is a pointer and a length, and the port keeps
 //! to both: that is proved there, so the wrappers ask nothing of their callers.
-#![allow(clippy::too_many_arguments)]
 
-mod classes;
-mod images;
-mod matrices;
-mod triplets;
+use std::slice;
 
-pub use classes::*;
-pub use images::*;
-pub use matrices::*;
-pub use triplets::*;
+use zone::Refusal;
+
+use crate::refusals::ACCEPTED;
 
 extern "C" {
     fn zone_checked_add(a: i64, b: i64, told: *mut i64, told_len: usize) -> i64;
@@ -32,77 +27,17 @@ extern "C" {
     fn zone_is_finite(x: f64) -> bool;
     fn zone_to_f64(n: i64) -> f64;
     fn zone_extended_gcd(a: i64, b: i64, told: *mut i64, told_len: usize) -> i64;
-    fn zone_reciprocal_point_group(
-        rotations: *const i64,
-        rotations_len: usize,
-        time_reversal: bool,
-        transpose: bool,
-        out: *mut i64,
-        out_len: usize,
-        told: *mut i64,
-        told_len: usize,
-    ) -> i64;
-    fn zone_reciprocal_rotations(
-        rotations: *const i64,
-        rotations_len: usize,
-        time_reversal: bool,
-        out: *mut i64,
-        out_len: usize,
-        told: *mut i64,
-        told_len: usize,
-    ) -> i64;
-    fn zone_reciprocal_group(
-        rotations: *const i64,
-        rotations_len: usize,
-        time_reversal: bool,
-        out: *mut i64,
-        out_len: usize,
-        told: *mut i64,
-        told_len: usize,
-    ) -> i64;
-    fn zone_ir_grid_map(
-        rotations: *const i64,
-        rotations_len: usize,
-        d: *const i64,
-        d_len: usize,
-        ps: *const i64,
-        ps_len: usize,
-        map: *mut i64,
-        map_len: usize,
-        told: *mut i64,
-        told_len: usize,
-    ) -> i64;
-    fn zone_all_grid_addresses(d: *const i64, d_len: usize, out: *mut i64, out_len: usize) -> i64;
-    fn zone_grid_index_from_address(
-        address: *const i64,
-        address_len: usize,
-        d: *const i64,
-        d_len: usize,
-        told: *mut i64,
-        told_len: usize,
-    ) -> i64;
-    fn zone_rotate_grid_index(
-        point: i64,
-        rotation: *const i64,
-        rotation_len: usize,
-        d: *const i64,
-        d_len: usize,
-        ps: *const i64,
-        ps_len: usize,
-        told: *mut i64,
-        told_len: usize,
-    ) -> i64;
-    fn zone_worst_pair(limit: i64, told: *mut i64, told_len: usize) -> i64;
-    fn zone_transform_rotations(
-        rotations: *const i64,
-        rotations_len: usize,
-        d: *const i64,
-        d_len: usize,
-        q: *const i64,
-        q_len: usize,
-        out: *mut i64,
-        out_len: usize,
-    ) -> i64;
+}
+
+/// The number of an answer.
+pub fn answer(answer: Result<(), Refusal>) -> i64 {
+    answer.map_or_else(Refusal::number, |()| ACCEPTED)
+}
+
+/// The floats that stand as their bits in a slice.
+pub fn floats(bits: &mut [i64]) -> &mut [f64] {
+    // SAFETY: both have 64 bits, any of which make a number, and one alignment.
+    unsafe { slice::from_raw_parts_mut(bits.as_mut_ptr().cast(), bits.len()) }
 }
 
 pub fn checked_add(a: i64, b: i64, told: &mut [i64]) -> i64 {
@@ -175,144 +110,4 @@ pub fn to_f64(n: i64) -> f64 {
 
 pub fn extended_gcd(a: i64, b: i64, told: &mut [i64]) -> i64 {
     unsafe { zone_extended_gcd(a, b, told.as_mut_ptr(), told.len()) }
-}
-
-pub fn reciprocal_point_group(
-    rotations: &[i64],
-    time_reversal: bool,
-    transpose: bool,
-    out: &mut [i64],
-    told: &mut [i64],
-) -> i64 {
-    unsafe {
-        zone_reciprocal_point_group(
-            rotations.as_ptr(),
-            rotations.len(),
-            time_reversal,
-            transpose,
-            out.as_mut_ptr(),
-            out.len(),
-            told.as_mut_ptr(),
-            told.len(),
-        )
-    }
-}
-
-pub fn reciprocal_rotations(
-    rotations: &[i64],
-    time_reversal: bool,
-    out: &mut [i64],
-    told: &mut [i64],
-) -> i64 {
-    unsafe {
-        zone_reciprocal_rotations(
-            rotations.as_ptr(),
-            rotations.len(),
-            time_reversal,
-            out.as_mut_ptr(),
-            out.len(),
-            told.as_mut_ptr(),
-            told.len(),
-        )
-    }
-}
-
-pub fn reciprocal_group(
-    rotations: &[i64],
-    time_reversal: bool,
-    out: &mut [i64],
-    told: &mut [i64],
-) -> i64 {
-    unsafe {
-        zone_reciprocal_group(
-            rotations.as_ptr(),
-            rotations.len(),
-            time_reversal,
-            out.as_mut_ptr(),
-            out.len(),
-            told.as_mut_ptr(),
-            told.len(),
-        )
-    }
-}
-
-pub fn ir_grid_map(
-    rotations: &[i64],
-    d: &[i64],
-    ps: &[i64],
-    map: &mut [i64],
-    told: &mut [i64],
-) -> i64 {
-    unsafe {
-        zone_ir_grid_map(
-            rotations.as_ptr(),
-            rotations.len(),
-            d.as_ptr(),
-            d.len(),
-            ps.as_ptr(),
-            ps.len(),
-            map.as_mut_ptr(),
-            map.len(),
-            told.as_mut_ptr(),
-            told.len(),
-        )
-    }
-}
-
-pub fn all_grid_addresses(d: &[i64], out: &mut [i64]) -> i64 {
-    unsafe { zone_all_grid_addresses(d.as_ptr(), d.len(), out.as_mut_ptr(), out.len()) }
-}
-
-pub fn grid_index_from_address(address: &[i64], d: &[i64], told: &mut [i64]) -> i64 {
-    unsafe {
-        zone_grid_index_from_address(
-            address.as_ptr(),
-            address.len(),
-            d.as_ptr(),
-            d.len(),
-            told.as_mut_ptr(),
-            told.len(),
-        )
-    }
-}
-
-pub fn rotate_grid_index(
-    point: i64,
-    rotation: &[i64],
-    d: &[i64],
-    ps: &[i64],
-    told: &mut [i64],
-) -> i64 {
-    unsafe {
-        zone_rotate_grid_index(
-            point,
-            rotation.as_ptr(),
-            rotation.len(),
-            d.as_ptr(),
-            d.len(),
-            ps.as_ptr(),
-            ps.len(),
-            told.as_mut_ptr(),
-            told.len(),
-        )
-    }
-}
-
-pub fn worst_pair(limit: i64, told: &mut [i64]) -> i64 {
-    unsafe { zone_worst_pair(limit, told.as_mut_ptr(), told.len()) }
-}
-
-pub fn transform_rotations(rotations: &[i64], d: &[i64], q: &[i64], out: &mut [i64]) -> i64 {
-    unsafe {
-        zone_transform_rotations(
-            rotations.as_ptr(),
-            rotations.len(),
-            d.as_ptr(),
-            d.len(),
-            q.as_ptr(),
-            q.len(),
-            out.as_mut_ptr(),
-            out.len(),
-        )
-    }
 }

@@ -98,13 +98,13 @@ impl Function for ReciprocalPointGroup {
     fn port(input: &Self::Input, outputs: &mut Outputs) -> i64 {
         let [time_reversal, transpose] = input.flags;
         let Outputs { slices, told } = outputs;
-        port::reciprocal_point_group(
+        port::answer(zone::reciprocal_point_group(
             &input.rotations,
             time_reversal,
             transpose,
             &mut slices[0],
             told,
-        )
+        ))
     }
 
     fn oracle(input: &Self::Input, outputs: &mut Outputs) -> i64 {
@@ -136,7 +136,12 @@ impl Function for ReciprocalRotations {
     fn port(input: &Self::Input, outputs: &mut Outputs) -> i64 {
         let [time_reversal] = input.flags;
         let Outputs { slices, told } = outputs;
-        port::reciprocal_rotations(&input.rotations, time_reversal, &mut slices[0], told)
+        port::answer(zone::reciprocal_rotations(
+            &input.rotations,
+            time_reversal,
+            &mut slices[0],
+            told,
+        ))
     }
 
     fn oracle(input: &Self::Input, outputs: &mut Outputs) -> i64 {

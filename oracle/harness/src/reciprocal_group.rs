@@ -105,7 +105,12 @@ impl Function for ReciprocalGroup {
 
     fn port(input: &GroupInput, outputs: &mut Outputs) -> i64 {
         let Outputs { slices, told } = outputs;
-        port::reciprocal_group(&input.rotations, input.time_reversal, &mut slices[0], told)
+        port::answer(zone::reciprocal_group(
+            &input.rotations,
+            input.time_reversal,
+            &mut slices[0],
+            told,
+        ))
     }
 
     fn oracle(input: &GroupInput, outputs: &mut Outputs) -> i64 {

@@ -120,7 +120,7 @@ impl Function for RotateBzGridIndex {
     }
 
     fn port(input: &RotateInput, outputs: &mut Outputs) -> i64 {
-        port::rotate_bz_grid_index(
+        port::answer(zone::rotate_bz_grid_index(
             input.index,
             &input.rotation,
             &input.addresses,
@@ -130,7 +130,7 @@ impl Function for RotateBzGridIndex {
             &input.ps,
             input.bz_grid_type,
             &mut outputs.told,
-        )
+        ))
     }
 
     fn oracle(input: &RotateInput, outputs: &mut Outputs) -> i64 {

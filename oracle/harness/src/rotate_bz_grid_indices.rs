@@ -45,7 +45,7 @@ impl Function for RotateBzGridIndices {
         let [out, fallbacks] = &mut outputs.slices[..] else {
             panic!("two slices");
         };
-        port::rotate_bz_grid_indices(
+        port::answer(zone::rotate_bz_grid_indices(
             indices,
             &single.rotation,
             &single.addresses,
@@ -56,7 +56,7 @@ impl Function for RotateBzGridIndices {
             single.bz_grid_type,
             out,
             fallbacks,
-        )
+        ))
     }
 
     fn oracle(input: &BurstInput, outputs: &mut Outputs) -> i64 {
@@ -109,7 +109,7 @@ pub fn burst_over_singles(input: &BurstInput) -> Call<'_> {
             } = single;
             let mut told = [0; 2];
             for (place, &index) in indices.iter().enumerate() {
-                port::rotate_bz_grid_index(
+                port::answer(zone::rotate_bz_grid_index(
                     index,
                     rotation,
                     addresses,
@@ -119,7 +119,7 @@ pub fn burst_over_singles(input: &BurstInput) -> Call<'_> {
                     ps,
                     *bz_grid_type,
                     &mut told,
-                );
+                ));
                 [outputs.slices[0][place], outputs.slices[1][place]] = told;
             }
         },

@@ -26,7 +26,7 @@ pub struct PointInput {
 }
 
 impl PointInput {
-    fn new(point: i64, rotation: MatI, d: Vec3I, ps: Vec3I) -> PointInput {
+    pub fn new(point: i64, rotation: MatI, d: Vec3I, ps: Vec3I) -> PointInput {
         PointInput {
             point,
             rotation: rotation.as_flattened().to_vec(),
@@ -213,7 +213,13 @@ impl Function for RotateGridIndex {
 
     fn port(input: &PointInput, outputs: &mut Outputs) -> i64 {
         let told = &mut outputs.told;
-        port::rotate_grid_index(input.point, &input.rotation, &input.d, &input.ps, told)
+        port::answer(zone::rotate_grid_index(
+            input.point,
+            &input.rotation,
+            &input.d,
+            &input.ps,
+            told,
+        ))
     }
 
     fn oracle(input: &PointInput, outputs: &mut Outputs) -> i64 {

@@ -15,6 +15,7 @@ use crate::function::{Function, Input};
 use crate::grgrid::*;
 use crate::grid_index_from_address::*;
 use crate::hermite3x3::*;
+use crate::inputs::chains::ChainInput;
 use crate::inputs::lent_bursts::BurstInput;
 use crate::inputs::lent_classes::ClassesInput;
 use crate::inputs::lent_conversions::ConvertInput;
@@ -39,6 +40,7 @@ use crate::same_grid::*;
 use crate::smith3x3::*;
 use crate::snf3x3::*;
 use crate::transform_rotations::*;
+use crate::whole_job::*;
 use crate::worst_pair::*;
 use crate::zone_list::*;
 use crate::{compare, vectors, zone_list};
@@ -157,7 +159,13 @@ pub static ROWS: &[Row] = &[
     Row::call::<IrTripletsAtQ>("ir_triplets_at_q"),
     Row::call::<BzTripletsAtQ>("bz_triplets_at_q"),
     Row::apart::<ClassSheet>("class_sheet"),
-    Row::compared::<Chain>("chain"),
+    Row {
+        bench: Some(Bench {
+            part: Part::Apart,
+            run: bench::run::<WholeJob>,
+        }),
+        ..Row::compared::<Chain>("chain")
+    },
     Row {
         vectors: Some(zone_list::vectors),
         ..Row::compared::<ZoneList>("zone_list")
@@ -242,6 +250,12 @@ pub static VARIANTS: &[Variant] = &[
     }),
     ("class_sheet:65536", || {
         bench::run_on::<ClassSheet>(SheetInput::full)
+    }),
+    ("chain:type_1", || {
+        bench::run_on::<WholeJob>(ChainInput::sparse)
+    }),
+    ("chain:type_2", || {
+        bench::run_on::<WholeJob>(ChainInput::dense)
     }),
 ];
 

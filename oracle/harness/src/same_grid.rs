@@ -120,7 +120,7 @@ impl Function for SameGrid {
     }
 
     fn port(input: &PairInput, outputs: &mut Outputs) -> i64 {
-        port::same_grid(&input.a, &input.b, &mut outputs.told)
+        port::answer(zone::same_grid(&input.a, &input.b, &mut outputs.told))
     }
 
     /// Lengths come first, being known beforehand; then the first refusal of the forms

@@ -123,7 +123,7 @@ impl Function for Smith3x3 {
         let [d, p, q] = &mut outputs.slices[..] else {
             panic!("three slices");
         };
-        port::smith3x3(&input.a, d, p, q)
+        port::answer(zone::smith3x3(&input.a, d, p, q))
     }
 
     fn oracle(input: &SmithInput, outputs: &mut Outputs) -> i64 {
@@ -145,7 +145,7 @@ pub fn over_snf3x3(input: &SmithInput) -> Call<'_> {
         let [d, p, q] = &mut outputs.slices[..] else {
             panic!("three slices");
         };
-        port::snf3x3(&input.a, d, p, q, &mut [0])
+        port::answer(zone::snf3x3(&input.a, d, p, q, &mut [0]))
     })
 }
 

@@ -146,7 +146,7 @@ impl Function for Snf3x3 {
         let [d, p, q] = &mut slices[..] else {
             panic!("three slices");
         };
-        port::snf3x3(&input.a, d, p, q, told)
+        port::answer(zone::snf3x3(&input.a, d, p, q, told))
     }
 
     fn oracle(input: &MatrixInput, outputs: &mut Outputs) -> i64 {

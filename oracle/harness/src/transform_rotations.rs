@@ -24,7 +24,12 @@ impl Function for TransformRotations {
     }
 
     fn port(input: &TransformInput, outputs: &mut Outputs) -> i64 {
-        port::transform_rotations(&input.rotations, &input.d, &input.q, &mut outputs.slices[0])
+        port::answer(zone::transform_rotations(
+            &input.rotations,
+            &input.d,
+            &input.q,
+            &mut outputs.slices[0],
+        ))
     }
 
     /// The length of the output hangs on the number of rotations, so that it is

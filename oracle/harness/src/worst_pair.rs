@@ -166,7 +166,7 @@ impl Function for WorstPair {
     }
 
     fn port(input: &LimitInput, outputs: &mut Outputs) -> i64 {
-        port::worst_pair(input.limit, &mut outputs.told)
+        port::answer(zone::worst_pair(input.limit, &mut outputs.told))
     }
 
     fn oracle(input: &LimitInput, outputs: &mut Outputs) -> i64 {

@@ -193,7 +193,7 @@ impl Function for ZoneList {
     fn port(input: &JobInput, outputs: &mut Outputs) -> i64 {
         let Outputs { slices, told } = outputs;
         let mut text: Vec<u8> = slices[0].iter().map(|&byte| byte as u8).collect();
-        let answer = port::list(&input.job, &mut text, told);
+        let answer = port::answer(zone::list(&input.job, &mut text, told));
         slices[0] = text.into_iter().map(i64::from).collect();
         answer
     }

@@ -70,12 +70,14 @@ fn arguments() {
         assert!(refused("compare", arguments).starts_with("the arguments are "));
     }
     assert!(refused("vectors", &["1", "1"]).starts_with("the only argument is "));
-    assert!(refused("bench", &["snf3x3"]).starts_with("there are no arguments"));
+    for command in ["bench", "growth"] {
+        assert!(refused(command, &["snf3x3"]).starts_with("there are no arguments"));
+    }
 }
 
 #[test]
 fn sources() {
-    for command in ["vectors", "bench", "test"] {
+    for command in ["vectors", "bench", "growth", "test"] {
         assert!(
             refused(command, &[]).starts_with("PHONORS_SRC names no folder of phonors: /nowhere")
         );

@@ -5,10 +5,12 @@ use phonors::common::{det_i, matmul_i, transpose_i, MatD, MatI, Vec3I, IDENTITY}
 use crate::function::{Input, Line};
 use crate::inputs::grids;
 use crate::inputs::groups::{self, conjugate, CUBIC, HEXAGONAL};
-use crate::inputs::images::{NO_TYPES, TYPES};
-use crate::inputs::lattices::{self, REGULAR};
+use crate::inputs::images::{DENSE, NO_TYPES, SPARSE, TYPES};
+use crate::inputs::lattices::{self, REGULAR, SKEWED};
 use crate::inputs::lent::repeated;
+use crate::inputs::lent_triplets::TYPICAL_POINTS;
 use crate::inputs::matrices::{self, diag, elementary, is_within};
+use crate::inputs::tables::TYPICAL;
 use crate::inputs::transforms::{keeping, CELLS};
 use crate::random::Random;
 
@@ -61,6 +63,30 @@ impl ChainInput {
             return points;
         }
         self.q0 % points.max(1)
+    }
+
+    /// The whole job on the typical grid with tables of one type.
+    pub fn sparse(random: &mut Random) -> ChainInput {
+        ChainInput::of_typical(random, SPARSE)
+    }
+
+    pub fn dense(random: &mut Random) -> ChainInput {
+        ChainInput::of_typical(random, DENSE)
+    }
+
+    fn of_typical(random: &mut Random, bz_grid_type: i64) -> ChainInput {
+        ChainInput {
+            a: diag([16; 3]),
+            rotations: TYPICAL.1.clone(),
+            way: Way::AsItStands,
+            time_reversal: true,
+            swappable: true,
+            lattice: SKEWED,
+            ps: [0; 3],
+            bz_grid_type,
+            q0: random.pick(&TYPICAL_POINTS),
+            image: 0,
+        }
     }
 }
 
@@ -177,7 +203,8 @@ impl Input for ChainInput {
     }
 
     fn typical(random: &mut Random) -> ChainInput {
-        ChainInput::random(random)
+        let bz_grid_type = random.pick(&TYPES);
+        ChainInput::of_typical(random, bz_grid_type)
     }
 
     /// A chain has no vectors.

@@ -225,7 +225,7 @@ fn finished(random: &mut Random) -> SheetInput {
 }
 
 /// The same of one call, if it is accepted.
-fn of_triplets(given: &TripletsInput) -> Option<SheetInput> {
+pub fn of_triplets(given: &TripletsInput) -> Option<SheetInput> {
     let triplets = triplets(given).ok()?;
     Some(SheetInput::new(&given.class_map, triplets.as_flattened()))
 }

@@ -43,11 +43,14 @@ const FEW_CHOICES: i64 = 2_000;
 const POINTS: usize = 600;
 const LARGE: usize = 400;
 
-/// The class maps of the typical grid at some of its points.
+/// Points of the typical grid, which many rotations keep or few.
+pub const TYPICAL_POINTS: [i64; 8] = [0, 1, 18, 273, 290, 1_911, 2_184, 4_095];
+
+/// The class maps of the typical grid at these.
 static TYPICAL_CLASSES: LazyLock<Vec<(i64, Arc<Vec<i64>>)>> = LazyLock::new(|| {
     let (_, rotations) = &*TYPICAL;
     let at = |q0| (q0, Arc::new(classes(q0, [16; 3], rotations, [true, true])));
-    [0, 1, 18, 273, 290, 1_911, 2_184, 4_095].map(at).to_vec()
+    TYPICAL_POINTS.map(at).to_vec()
 });
 
 /// The places of a class map that hold their own number.

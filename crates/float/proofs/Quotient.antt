@@ -112,6 +112,13 @@ zero-close (fin s m e) v =
     never : T (lt tolerance zero_f) → ⊥
     never h = unfold lt of_bits in h
 
+pub whole-close : (q : Float) (k : ℤ) → nat_abs k ≤ 2 ^ 53 → Whole q k → nint_of q ≡ k → T (not (lt tolerance (offset q)))
+whole-close q k h v e =
+    subst (λ z. T (not (lt tolerance (abs_of (sub binary64 (of_int binary64 z) q))))) (sym e)
+    (zero-close (sub binary64 (of_int binary64 k) q)
+    (subst (λ z. Whole (sub binary64 (of_int binary64 k) q) z) (+ℤ_invr k)
+    (sub-whole binary64 (of_int binary64 k) q k k (of_int-whole binary64 k h) v (le_trans (le_of_eq (ap nat_abs (+ℤ_invr k))) (lit≤ tt)))))
+
 -- ---- r is k, and q lies at least 1 / 2 ^ t from k: so does the computed r - q
 module _ (q r : Float) (k : ℤ) (t : ℕ) (p : T (finite q)) (v : Whole r k) (s : t ≤ 8) where
   apart_below : plus q * 2 ^ t + (parts.dn k * 2 ^ t + 1) * den q ≤ parts.up k * 2 ^ t * den q + less q * 2 ^ t → T (lt tolerance (abs_of (sub binary64 r q)))
@@ -228,13 +235,7 @@ module _ (x y : Float) (n : ℤ) (d : ℕ) (N : nat_abs n < 2 ^ 49) (D : 0 < d) 
     quotient-nint = let l = smaller in nint-whole (div binary64 x y) k (div-fits binary64 x y) quotient-exact (omega arith)
 
     pub quotient-close : T (not (lt tolerance (offset (div binary64 x y))))
-    quotient-close =
-        let q = div binary64 x y in
-        let l = smaller in
-        subst (λ z. T (not (lt tolerance (abs_of (sub binary64 (of_int binary64 z) q))))) (sym quotient-nint)
-        (zero-close (sub binary64 (of_int binary64 k) q)
-        (subst (λ z. Whole (sub binary64 (of_int binary64 k) q) z) (+ℤ_invr k)
-        (sub-whole binary64 (of_int binary64 k) q k k (of_int-whole binary64 k (omega arith)) quotient-exact (le_trans (le_of_eq (ap nat_abs (+ℤ_invr k))) (lit≤ tt)))))
+    quotient-close = let l = smaller in whole-close (div binary64 x y) k (omega arith) quotient-exact quotient-nint
 
 -- ---- by 1 or -1 the quotient is exact
 quotient-one : (x y : Float) (n : ℤ) → nat_abs n < 2 ^ 49 → Whole x n → Whole y (pos 1) → Whole (div binary64 x y) n

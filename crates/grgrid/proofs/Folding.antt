@@ -1,5 +1,6 @@
 -- Index and address: they are inverse on the points of the grid, and two addresses have one index exactly if they agree modulo d.
-use mathlib.Core.Path.{◌≡◌, refl, sym, ◌∙◌, ap, subst}
+use mathlib.Core.Path.{◌≡◌, refl, sym, ◌∙◌, ap, ap₂, subst}
+use mathlib.Core.Bool.{Bool, true, false, cond}
 use mathlib.Core.List.{[], ◌∷◌}
 use lib.IntN.{ℤ, pos, negsuc, nat_abs, ◌+ℤ◌, ◌*ℤ◌}
 use Prim.Native.Nat.{ℕ, zero, ◌+◌, ◌*◌, ◌-◌, ◌/◌, ◌%◌, ◌<◌}
@@ -7,7 +8,11 @@ use native.Mathlib.Nat.{mod-lt, mod-eq_of_lt, div-add-mod', add-mul-mod_self_rig
 use native.Mathlib.Omega.{arith}
 use Rattle.integer.specs.Division.{div_euclid, rem_euclid}
 use Rattle.integer.specs.Divides.{Congruent}
-use Rattle.integer.proofs.Division.{rem-euclid-lt, div-rem-euclid}
+use Rattle.integer.proofs.Division.{rem-euclid-lt, div-rem-euclid, euclid-unique}
+use Rattle.integer.proofs.Order.{nonneg-dn, nonneg_of}
+use Rattle.integer.proofs.Size.{abs-parts}
+use Rattle.integer.proofs.Parts.{ints}
+use lib.Signed.{◌≤ℤ◌, ◌<ℤ◌}
 use Rattle.integer.proofs.Reify.{ring, reify}
 use Rattle.integer.proofs.Congruence.{congruent-sym, congruent-trans, rem-congruent, same-rem}
 use Rattle.common.specs.Matrix.{Axis, X, Y, Z, Vec, side, vector, map_vec, origin}
@@ -27,6 +32,17 @@ fold-congruent a n h = subst (λ r. Congruent (pos n) r a) (fold_is a n) (rem-co
 
 part : (a : ℤ) (n : ℕ) → zero < n → a ≡ div_euclid a (pos n) *ℤ pos n +ℤ pos (fold a n)
 part a n h = sym (div-rem-euclid a (pos n) h) ∙ ap (λ r. div_euclid a (pos n) *ℤ pos n +ℤ r) (fold_is a n)
+
+-- in the first cell or in the one before it
+pub near_cell-is : (b : Bool) (a : ℤ) (n : ℕ) {r q : ℤ} → r ≡ cond b (a +ℤ pos n) a → q ≡ cond b (negsuc 0) (pos 0) → pos 0 ≤ℤ r → r <ℤ pos n
+    → q ≡ div_euclid a (pos n)
+near_cell-is b a n {r} {q} e f s h =
+    let g = nonneg_of s in
+    (euclid-unique a (pos n) q r (ap₂ (λ q r. q *ℤ pos n +ℤ r) f e ∙ whole b) g (omega (arith, ints, abs-parts r, nonneg-dn g))).0
+  where
+    whole : (b : Bool) → cond b (negsuc 0) (pos 0) *ℤ pos n +ℤ cond b (a +ℤ pos n) a ≡ a
+    whole true = ring (a ∷ pos n ∷ []) (search reify depth 40) tt
+    whole false = ring (a ∷ pos n ∷ []) (search reify depth 40) tt
 
 plus-zero : (z : ℤ) → z +ℤ pos 0 ≡ z
 plus-zero z = ring (z ∷ []) (search reify depth 40) tt

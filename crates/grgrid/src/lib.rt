@@ -4,7 +4,8 @@
 mod grid;
 mod point;
 
-ghost use Rattle.std.specs.Prelude.{IfOk, IfSome, ◌≡◌, ◌+◌, ◌*◌, ◌≤◌, ◌<◌, ℤ, pos, nat_abs, ◌+ℤ◌, ◌*ℤ◌, ◌-ℤ◌, length, map, T};
+ghost use Rattle.std.specs.Prelude.{IfOk, IfSome, ◌≡◌, ◌+◌, ◌*◌, ◌≤◌, ◌<◌, cond, length, map, T};
+ghost use Rattle.std.specs.Prelude.{ℤ, pos, negsuc, nat_abs, int_lt, ◌+ℤ◌, ◌*ℤ◌, ◌-ℤ◌, ◌≤ℤ◌};
 ghost use Rattle.common.specs.Array.{vector_of, sides_of, items, matrix_of, matrices, Sized, SizedRows};
 ghost use Rattle.integer.specs.Division.{div_euclid};
 ghost use Rattle.grgrid.specs.Grid.{size, fold, place, index, cell, address, double, half, halve, rotated, rotate};
@@ -47,7 +48,25 @@ struct Part {
     cell: i64,
 }
 
-// Inlined, as what folds an address is, so that a caller of the index alone divides no more than it must.
+// The cell of a number that lies in the first one or in the one before it.
+#[inline(always)]
+fn near_cell(a: i64) -> i64
+    ensures { result ≡ cond (int_lt a (pos 0)) (negsuc 0) (pos 0) }
+{
+    if a < 0 { -1 } else { 0 }
+}
+
+// Its remainder.
+#[inline(always)]
+fn near_rest(a: i64, n: i64) -> i64
+    requires { (pos 0 ≤ℤ n) × (n ≤ℤ pos 512) }
+    ensures { result ≡ cond (int_lt a (pos 0)) (a +ℤ n) a }
+{
+    if a < 0 { a + n } else { a }
+}
+
+// Inlined, as what folds an address is, so that a caller of the index alone divides no more than it must. Most numbers lie near,
+// which takes no division.
 #[inline(always)]
 fn fold(a: i64, n: usize) -> Part
     requires { (0 < n) × (n ≤ 512) }
@@ -56,6 +75,13 @@ fn fold(a: i64, n: usize) -> Part
     ensures upper_bound { result.rest < n }
 {
     let n = n as i64;
+    let rest = near_rest(a, n);
+    if 0 <= rest && rest < n {
+        return Part {
+            rest: rest as usize,
+            cell: near_cell(a),
+        };
+    }
     Part {
         rest: integer::rem_euclid(a, n) as usize,
         cell: integer::div_euclid(a, n),
@@ -351,14 +377,16 @@ fn next(r: Remainders, g: Grid) -> Remainders
     }
 }
 
-// By index: of what `chunks_exact_mut` lends, a proof knows only the length afterwards.
+// By index: of what `chunks_exact_mut` lends, a proof knows only the length afterwards. Number by number: a copy goes through a buffer.
 fn write_addresses(g: Grid, out: &mut [i64])
     requires { length out.old ≡ size (sides g) * 3 }
     ensures { out.new ≡ addresses (sides g) (size (sides g)) }
 {
     let mut r = Remainders { x: 0, y: 0, z: 0 };
     for p in 0..points(g) {
-        out[p * 3..p * 3 + 3].copy_from_slice(&[r.x as i64, r.y as i64, r.z as i64]);
+        out[p * 3] = r.x as i64;
+        out[p * 3 + 1] = r.y as i64;
+        out[p * 3 + 2] = r.z as i64;
         r = next(r, g);
     }
 }

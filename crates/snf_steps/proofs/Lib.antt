@@ -8,6 +8,7 @@ pub mod Bezout
 pub mod Divisions
 pub mod FittingEntries
 pub mod RowOperations
+pub mod LoneNumbers
 pub mod SmallRows
 pub mod Zeroing
 pub mod Clearing

@@ -4,21 +4,22 @@ use mathlib.Core.Bool.{◌&&◌}
 use mathlib.Core.List.{List, [], ◌∷◌}
 use Prim.Native.Nat.{ℕ, zero, suc, ◌≤◌}
 use lib.Dec.{T, leb→le, lit≤}
-use lib.IntN.{ℤ, pos, nat_abs, ◌+ℤ◌, ◌*ℤ◌}
+use lib.IntN.{ℤ, pos, negsuc, neg_ℤ, nat_abs, ◌+ℤ◌, ◌*ℤ◌}
 use lib.ListN.{get_or, set}
 use Rattle.std.specs.Prelude.{Some}
-use Rattle.integer.proofs.Test.{and_l, and_r, and_in, is_true}
+use Rattle.integer.proofs.Test.{and_l, and_r, and_in}
 use Rattle.integer.proofs.Fits.{held}
+use Rattle.integer.proofs.Reify.{ring, reify}
 use Rattle.common.specs.Matrix.{Axis, X, Y, Z, Mat, entry, vector, ◌·◌}
 use Rattle.common.specs.Array.{axis_index, along, items, matrix_of, Sized, SizedRows}
 use Rattle.common.specs.IntegerMatrix.{product_fits}
 use Rattle.common.proofs.Bounds.{entry-within, matrix-sizes}
 use Rattle.common.proofs.Matrix.{axes-of, entry-matrix}
 use Rattle.common.proofs.Whole.{sized-product}
-use Rattle.snf_steps.specs.Then.{provided}
-use Rattle.snf_steps.specs.Elementary.{put, unit, combining}
+use Rattle.snf_steps.specs.Elementary.{put, unit, combining, below_first, below_second, elementary_flip_sign_row}
 use Rattle.snf_steps.specs.declared.columns.Combination.{Combination}
-use Rattle.snf_steps.specs.Columns.{Pair, multiply, combination_matrix, small, small_row, small_matrix, small_combination}
+use Rattle.snf_steps.specs.Columns.{Pair, multiply, small, small_row, small_matrix, small_combination}
+use Rattle.snf_steps.proofs.FittingEntries.{multiply-fits}
 
 -- ---- what the locals hold
 pub held_small : {x y : ℤ} → held x ≡ x → held y ≡ y → T (small x && small y) → T (small (held x) && small (held y))
@@ -41,6 +42,13 @@ module _ (s t : ℤ) (x y : List ℤ) where
 
   pub held-row : {r : List ℤ} → held s ≡ s → held t ≡ t → r ≡ items (vector (λ k. held s *ℤ along x k +ℤ held t *ℤ along y k)) → r ≡ items (vector (λ k. s *ℤ along x k +ℤ t *ℤ along y k))
   held-row es et e = e ∙ (λ i. items (vector (λ k. es i *ℤ along x k +ℤ et i *ℤ along y k)))
+
+-- ---- the numbers that a row is mixed by
+pub with-one : {u u' : ℤ} → u' ≡ u → T (small u) → T (small u' && small (pos 1))
+with-one {u} {u'} e t = and_in (small u') (small (pos 1)) (rw e t) tt
+
+pub negated : (z : ℤ) → negsuc 0 *ℤ z +ℤ pos 0 *ℤ z ≡ neg_ℤ z
+negated z = ring (z ∷ []) (search reify depth 60 fits 100000) tt
 
 -- ---- nothing leaves 64 bits
 -- one item of a list replaced
@@ -65,27 +73,32 @@ unit-sized = record { each = at }
     at (suc (suc zero)) = record { each = entry-within 0x3fffffff (get_or unit 2 []) tt }
     at (suc (suc (suc n))) = record { each = entry-within 0x3fffffff [] tt }
 
-module _ (i j : ℕ) (c : Combination) (t : T (small_combination c)) where
-  st : T (small c.s && small c.t)
-  st = and_l (small c.s && small c.t) (small c.v && small c.u) t
+-- ---- a matrix of small numbers multiplied from the left
+module _ (l : List (List ℤ)) (h : SizedRows 0x3fffffff l) where
+  sizes : (a b : Axis) → nat_abs (entry (matrix_of l) a b) ≤ 0x3fffffff
+  sizes a b = rw (entry-matrix (λ a b. get_or (get_or l (axis_index a) []) (axis_index b) (pos 0)) a b) ((h.each (axis_index a)).each (axis_index b))
 
-  vu : T (small c.v && small c.u)
-  vu = and_r (small c.s && small c.t) (small c.v && small c.u) t
+  small-fits : (m : Mat ℤ) → T (small_matrix m) → T (product_fits (matrix_of l) m)
+  small-fits m u = sized-product (matrix_of l) m 0x3fffffff 0x3fffffff sizes (matrix-sizes 0x3fffffff m u) (lit≤ tt)
 
-  combining-sized : SizedRows 0x3fffffff (combining i j c.s c.t c.v c.u)
-  combining-sized =
-      put-sized j j c.u (leb→le (nat_abs c.u) 0x3fffffff (and_r (small c.v) (small c.u) vu)) (put-sized j i c.v (leb→le (nat_abs c.v) 0x3fffffff (and_l (small c.v) (small c.u) vu))
-      (put-sized i j c.t (leb→le (nat_abs c.t) 0x3fffffff (and_r (small c.s) (small c.t) st)) (put-sized i i c.s (leb→le (nat_abs c.s) 0x3fffffff (and_l (small c.s) (small c.t) st)) unit-sized)))
+  pub sized-step : (s : Pair) → T (small_matrix s.a && small_matrix s.p) → multiply (matrix_of l) s ≡ Some (record { a = matrix_of l · s.a; p = matrix_of l · s.p })
+  sized-step s u = multiply-fits (matrix_of l) s (small-fits s.a (and_l (small_matrix s.a) (small_matrix s.p) u)) (small-fits s.p (and_r (small_matrix s.a) (small_matrix s.p) u))
 
-  combining-sizes : (a b : Axis) → nat_abs (entry (combination_matrix i j c) a b) ≤ 0x3fffffff
-  combining-sizes a b =
-      rw (entry-matrix (λ a b. get_or (get_or (combining i j c.s c.t c.v c.u) (axis_index a) []) (axis_index b) (pos 0)) a b) ((combining-sized.each (axis_index a)).each (axis_index b))
+small-size : (z : ℤ) → T (small z) → nat_abs z ≤ 0x3fffffff
+small-size z t = leb→le (nat_abs z) 0x3fffffff t
 
-  small-fits : (m : Mat ℤ) → T (small_matrix m) → T (product_fits (combination_matrix i j c) m)
-  small-fits m u = sized-product (combination_matrix i j c) m 0x3fffffff 0x3fffffff combining-sizes (matrix-sizes 0x3fffffff m u) (lit≤ tt)
+pub combining-sized : (i j : ℕ) (c : Combination) → T (small_combination c) → SizedRows 0x3fffffff (combining i j c.s c.t c.v c.u)
+combining-sized i j c t =
+    let st = and_l (small c.s && small c.t) (small c.v && small c.u) t in
+    let vu = and_r (small c.s && small c.t) (small c.v && small c.u) t in
+    put-sized j j c.u (small-size c.u (and_r (small c.v) (small c.u) vu)) (put-sized j i c.v (small-size c.v (and_l (small c.v) (small c.u) vu))
+    (put-sized i j c.t (small-size c.t (and_r (small c.s) (small c.t) st)) (put-sized i i c.s (small-size c.s (and_l (small c.s) (small c.t) st)) unit-sized)))
 
-  pub small-step : (s : Pair) → T (small_matrix s.a) → T (small_matrix s.p) → multiply (combination_matrix i j c) s ≡ Some (record { a = combination_matrix i j c · s.a; p = combination_matrix i j c · s.p })
-  unfolding multiply
-  small-step s u v =
-      let l = combination_matrix i j c in
-      λ n. provided (is_true (product_fits l s.a && product_fits l s.p) (and_in (product_fits l s.a) (product_fits l s.p) (small-fits s.a u) (small-fits s.p v)) n) (record { a = l · s.a; p = l · s.p })
+pub below-first-sized : (u v : ℤ) → T (small u && small v) → SizedRows 0x3fffffff (below_first u v)
+below-first-sized u v t = put-sized 2 0 v (small-size v (and_r (small u) (small v) t)) (put-sized 1 0 u (small-size u (and_l (small u) (small v) t)) unit-sized)
+
+pub below-second-sized : (v : ℤ) → T (small v) → SizedRows 0x3fffffff (below_second v)
+below-second-sized v t = put-sized 2 1 v (small-size v t) unit-sized
+
+pub flip-sized : (i : ℕ) → SizedRows 0x3fffffff (elementary_flip_sign_row i)
+flip-sized i = put-sized i i (negsuc 0) (small-size (negsuc 0) tt) unit-sized

@@ -1,7 +1,8 @@
 // The steps that clear a column, on a and the matrix that goes with it: P, or the transpose of Q.
-ghost use Rattle.std.specs.Prelude.{◌≡◌, ◌<◌};
+ghost use Rattle.std.specs.Prelude.{◌≡◌, ◌<◌, Some};
 ghost use Rattle.common.specs.Array.{matrix_of};
 ghost use Rattle.snf_steps.specs.Then.{◌then◌};
+ghost use Rattle.snf_steps.specs.Elementary.{elementary_swap_rows, elementary_flip_sign_row, below_first, below_second};
 ghost use Rattle.snf_steps.specs.Columns as columns;
 ghost use Rattle.snf_steps.specs.Code.ColumnsView.{matrices_of, pair_of, entry_of};
 ghost use Rattle.snf_steps.specs.Gcd.{extended_gcd};
@@ -52,6 +53,7 @@ pub fn combined(a: i64, b: i64) -> Option<Combination>
 
 // Only where the sizes leave it open are the products tested. Taken apart and built again, a pair is copied without a call.
 // Rows and columns are numbers, as the Rust has them, and below 3 by a clause: an enum of three would be a number again at each use.
+#[inline(always)]
 fn combine(i: usize, j: usize, c: Combination, s: Pair) -> Option<Pair>
     requires { (i < 3) × (j < 3) }
     ensures { pair_of result ≡ columns.multiply (columns.combination_matrix i j c) (matrices_of s) }
@@ -68,8 +70,9 @@ fn combine(i: usize, j: usize, c: Combination, s: Pair) -> Option<Pair>
     )
 }
 
-// Row j becomes 0 in column i by the pivot in row i.
+// Row j becomes 0 in column i by the pivot in row i. Inlined, as the steps around it are, it has its rows as constants and copies no matrix.
 #[tactic(auto, unfolding(crate::specs::Columns::make_zero))]
+#[inline(always)]
 fn make_zero(i: usize, j: usize, s: Pair) -> Option<Pair>
     requires { (i < 3) × (j < 3) }
     ensures { pair_of result ≡ columns.make_zero i j (entry_of s i i) (entry_of s j i) (matrices_of s) }
@@ -80,6 +83,58 @@ fn make_zero(i: usize, j: usize, s: Pair) -> Option<Pair>
         return Some(Pair { a, p });
     }
     combine(i, j, combined(a[i][i], b)?, Pair { a, p })
+}
+
+// Rows i and j exchanged in both, as `multiply` does it.
+#[tactic(auto, unfolding(crate::specs::Columns::multiply))]
+pub fn swap_rows(i: usize, j: usize, s: Pair) -> Pair
+    requires { (i < j) × (j < 3) }
+    ensures { columns.multiply (matrix_of (elementary_swap_rows i j)) (matrices_of s) ≡ Some (matrices_of result) }
+{
+    let Pair { a, p } = s;
+    let a = elementary::elementary_swap_rows(i, j, a);
+    let p = elementary::elementary_swap_rows(i, j, p);
+    Pair { a, p }
+}
+
+// The pivot's row added to those below, u times and v times.
+pub fn add_below(u: i64, v: i64, s: Pair) -> Option<Pair>
+    ensures { pair_of result ≡ columns.multiply (matrix_of (below_first u v)) (matrices_of s) }
+{
+    let Pair { a, p } = s;
+    if mixing::both_small(u, v) && mixing::small_matrices(a, p) {
+        let a = mixing::added_below(u, v, a);
+        let p = mixing::added_below(u, v, p);
+        return Some(Pair { a, p });
+    }
+    multiply(elementary::below_first(u, v), Pair { a, p })
+}
+
+// And the second row added to the third.
+pub fn add_last(v: i64, s: Pair) -> Option<Pair>
+    ensures { pair_of result ≡ columns.multiply (matrix_of (below_second v)) (matrices_of s) }
+{
+    let Pair { a, p } = s;
+    if mixing::is_small(v) && mixing::small_matrices(a, p) {
+        let a = mixing::added_last(v, a);
+        let p = mixing::added_last(v, p);
+        return Some(Pair { a, p });
+    }
+    multiply(elementary::elementary_add_rows(2, 1, v), Pair { a, p })
+}
+
+#[inline(always)]
+pub fn flip_row(i: usize, s: Pair) -> Option<Pair>
+    requires { i < 3 }
+    ensures { pair_of result ≡ columns.multiply (matrix_of (elementary_flip_sign_row i)) (matrices_of s) }
+{
+    let Pair { a, p } = s;
+    if mixing::small_matrices(a, p) {
+        let a = mixing::flipped(i, a);
+        let p = mixing::flipped(i, p);
+        return Some(Pair { a, p });
+    }
+    multiply(elementary::elementary_flip_sign_row(i), Pair { a, p })
 }
 
 // ---- the first column
@@ -96,10 +151,11 @@ fn to_top(i: usize, s: Pair) -> Option<Pair>
     if i == 0 {
         return Some(s);
     }
-    multiply(elementary::elementary_swap_rows(0, i), s)
+    Some(swap_rows(0, i, s))
 }
 
 #[tactic(auto, unfolding(crate::specs::Columns::first_column))]
+#[inline(always)]
 pub fn first_column(s: Pair) -> Option<Pair>
     ensures { pair_of result ≡ columns.first_column (matrices_of s) }
 {
@@ -114,13 +170,14 @@ fn second_to_top(s: Pair) -> Option<Pair>
     ensures { pair_of result ≡ columns.second_to_top (matrices_of s) }
 {
     if s.a[1][1] == 0 && s.a[2][1] != 0 {
-        multiply(elementary::elementary_swap_rows(1, 2), s)
+        Some(swap_rows(1, 2, s))
     } else {
         Some(s)
     }
 }
 
 #[tactic(auto, unfolding(crate::specs::Columns::second_column))]
+#[inline(always)]
 pub fn second_column(s: Pair) -> Option<Pair>
     ensures { pair_of result ≡ columns.second_column (matrices_of s) }
 {

@@ -1,23 +1,25 @@
 // `finalize`: signs, order, and what makes the diagonal numbers divide each other where it can.
-ghost use Rattle.std.specs.Prelude.{◌≡◌, ◌&&◌, ◌<◌};
+ghost use Rattle.std.specs.Prelude.{◌≡◌, ◌&&◌, ◌<◌, Some};
 ghost use Rattle.std.specs.Int.Signed.{le_z};
 ghost use Rattle.common.specs.Array.{matrix_of};
 ghost use Rattle.snf_steps.specs.Finalize as finalize;
 ghost use Rattle.snf_steps.specs.Code.Settled.{divides, in_order, off_diagonal_zero, settled};
 ghost use Rattle.snf_steps.specs.Code.StagesView.{three_of, triple_of, on_diagonal};
 
-use crate::elementary::{
-    checked_is_multiple, elementary_add_rows, elementary_flip_sign_row, elementary_swap_rows,
+use crate::columns::{flip_row, swap_rows};
+use crate::elementary::{checked_is_multiple, elementary_add_rows};
+use crate::stages::{
+    Triple, both_zero, columns_of, first, on_columns, rows_of, second, with_columns, with_rows,
 };
-use crate::stages::{Triple, both_zero, first, on_columns, on_rows, second};
 
 // Rows and columns are numbers, as the Rust has them, and below 3 by a clause: an enum of three would be a number again at each use.
+#[inline(always)]
 fn make_positive(i: usize, s: Triple) -> Option<Triple>
     requires { i < 3 }
     ensures { triple_of result ≡ finalize.make_positive i (on_diagonal s i) (three_of s) }
 {
     if s.a[i][i] < 0 {
-        return on_rows(elementary_flip_sign_row(i), s);
+        return Some(with_rows(s, flip_row(i, rows_of(s))?));
     }
     Some(s)
 }
@@ -29,22 +31,23 @@ fn make_diag_positive(s: Triple) -> Option<Triple>
     make_positive(2, make_positive(1, make_positive(0, s)?)?)
 }
 
-fn swap_diag_elems(i: usize, j: usize, s: Triple) -> Option<Triple>
-    requires { (i < 3) × (j < 3) }
-    ensures { triple_of result ≡ finalize.swap_diag_elems i j (three_of s) }
+fn swap_diag_elems(i: usize, j: usize, s: Triple) -> Triple
+    requires { (i < j) × (j < 3) }
+    ensures { finalize.swap_diag_elems i j (three_of s) ≡ Some (three_of result) }
 {
-    let l = elementary_swap_rows(i, j);
-    on_columns(l, on_rows(l, s)?)
+    let t = with_rows(s, swap_rows(i, j, rows_of(s)));
+    with_columns(t, swap_rows(i, j, columns_of(t)))
 }
 
 // Taken apart and built again, a triple is copied without a call.
+#[inline(always)]
 fn order(i: usize, j: usize, s: Triple) -> Option<Triple>
-    requires { (i < 3) × (j < 3) }
+    requires { (i < j) × (j < 3) }
     ensures { triple_of result ≡ finalize.order i j (on_diagonal s i) (on_diagonal s j) (three_of s) }
 {
     let Triple { a, p, q } = s;
     if a[i][i] > a[j][j] {
-        return swap_diag_elems(i, j, Triple { a, p, q });
+        return Some(swap_diag_elems(i, j, Triple { a, p, q }));
     }
     Some(Triple { a, p, q })
 }
@@ -57,6 +60,7 @@ fn finalize_sort(s: Triple) -> Option<Triple>
 }
 
 #[tactic(auto, unfolding(crate::specs::Finalize::finalize_disturb))]
+#[inline(always)]
 fn finalize_disturb(i: usize, j: usize, s: Triple) -> Option<Triple>
     requires { (i < 3) × (j < 3) }
     ensures { triple_of result ≡ finalize.finalize_disturb i j (on_diagonal s i) (on_diagonal s j) (three_of s) }

@@ -1,5 +1,6 @@
 // The extended gcd.
 ghost use Rattle.std.specs.Prelude.{◌≡◌, ◌<◌, nat_abs, ◌*ℤ◌, ◌-ℤ◌};
+ghost use Rattle.integer.specs.Division.{div_euclid, rem_euclid};
 ghost use Rattle.snf_steps.specs.Then.{provided};
 ghost use Rattle.snf_steps.specs.Gcd.{less_fits, step, extended_gcd, counted_gcd};
 
@@ -28,6 +29,14 @@ fn less(x: i64, q: i64, y: i64) -> Option<i64>
     x.checked_sub(q.checked_mul(y)?)
 }
 
+// What the division of r by d leaves, of the quotient q: a second division takes longer. Modulo 2^64, as q·d can leave 64 bits.
+fn rest(r: i64, d: i64, q: i64) -> i64
+    requires { (0 < nat_abs d) × (q ≡ div_euclid r d) }
+    ensures { result ≡ rem_euclid r d }
+{
+    r.wrapping_sub(q.wrapping_mul(d))
+}
+
 // One division.
 fn step(e: Euclid) -> Option<Euclid>
     requires { 0 < nat_abs e.r1 }
@@ -36,7 +45,7 @@ fn step(e: Euclid) -> Option<Euclid>
     let q = e.r.checked_div_euclid(e.r1)?;
     Some(Euclid {
         r: e.r1,
-        r1: e.r.rem_euclid(e.r1),
+        r1: rest(e.r, e.r1, q),
         s: e.s1,
         s1: less(e.s, q, e.s1)?,
         t: e.t1,

@@ -7,10 +7,8 @@ ghost use Rattle.snf_steps.specs.Code.ColumnsView.{matrices_of};
 ghost use Rattle.snf_steps.specs.Stages as stages;
 ghost use Rattle.snf_steps.specs.Code.StagesView.{three_of, triple_of, outcome_of};
 
-use crate::columns::{Pair, first_column, multiply, second_column};
-use crate::elementary::{
-    below_first, checked_is_multiple, checked_neg_quotient, elementary_add_rows,
-};
+use crate::columns::{Pair, add_below, add_last, first_column, multiply, second_column};
+use crate::elementary::{checked_is_multiple, checked_neg_quotient};
 
 // a, P and the transpose of Q.
 #[derive(Clone, Copy)]
@@ -27,14 +25,14 @@ pub struct Outcome {
     pub done: bool,
 }
 
-fn rows_of(s: Triple) -> Pair
+pub fn rows_of(s: Triple) -> Pair
     ensures { matrices_of result ≡ stages.rows_of (three_of s) }
 {
     let Triple { a, p, .. } = s;
     Pair { a, p }
 }
 
-fn columns_of(s: Triple) -> Pair
+pub fn columns_of(s: Triple) -> Pair
     ensures { matrices_of result ≡ stages.columns_of (three_of s) }
 {
     let a = common::transpose(s.a);
@@ -42,7 +40,7 @@ fn columns_of(s: Triple) -> Pair
     Pair { a, p }
 }
 
-fn with_rows(s: Triple, u: Pair) -> Triple
+pub fn with_rows(s: Triple, u: Pair) -> Triple
     ensures { three_of result ≡ stages.with_rows (three_of s) (matrices_of u) }
 {
     let Pair { a, p } = u;
@@ -50,19 +48,13 @@ fn with_rows(s: Triple, u: Pair) -> Triple
     Triple { a, p, q }
 }
 
-fn with_columns(s: Triple, u: Pair) -> Triple
+pub fn with_columns(s: Triple, u: Pair) -> Triple
     ensures { three_of result ≡ stages.with_columns (three_of s) (matrices_of u) }
 {
     let a = common::transpose(u.a);
     let p = s.p;
     let q = u.p;
     Triple { a, p, q }
-}
-
-pub fn on_rows(l: [[i64; 3]; 3], s: Triple) -> Option<Triple>
-    ensures { triple_of result ≡ stages.on_rows (columns.multiply (matrix_of l)) (three_of s) }
-{
-    Some(with_rows(s, multiply(l, rows_of(s))?))
 }
 
 pub fn on_columns(l: [[i64; 3]; 3], s: Triple) -> Option<Triple>
@@ -85,7 +77,7 @@ fn first_finalize(d: i64, y: i64, z: i64, s: Triple) -> Option<Outcome>
 {
     let u = checked_neg_quotient(y, d)?;
     let v = checked_neg_quotient(z, d)?;
-    let t = on_rows(below_first(u, v), s)?;
+    let t = with_rows(s, add_below(u, v, rows_of(s))?);
     Some(Outcome {
         left: t,
         done: true,
@@ -144,7 +136,7 @@ fn second_finalize(d: i64, z: i64, s: Triple) -> Option<Outcome>
     ensures { outcome_of result ≡ stages.second_finalize d z (three_of s) }
 {
     let v = checked_neg_quotient(z, d)?;
-    let t = on_rows(elementary_add_rows(2, 1, v), s)?;
+    let t = with_rows(s, add_last(v, rows_of(s))?);
     Some(Outcome {
         left: t,
         done: true,

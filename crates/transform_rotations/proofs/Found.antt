@@ -1,5 +1,6 @@
--- A whole number that equals x, as f64 compares them, is x rounded.
+-- A whole number that equals x, as f64 compares them, is x rounded, and x is near it.
 use mathlib.Core.Path.{◌≡◌, ap}
+use mathlib.Core.Bool.{true}
 use Prim.Native.Nat.{ℕ, ◌+◌, ◌*◌, ◌^◌, ◌≤◌}
 use native.Mathlib.Nat.{eq_of_mul-eq-mul_right, lt_of_le_of_lt}
 use native.Mathlib.Omega.{arith}
@@ -14,6 +15,9 @@ use Rattle.float.specs.Value.{plus, less, Whole}
 use Rattle.float.proofs.Order.{eq→cross}
 use Rattle.float.proofs.Whole.{of_int-whole}
 use Rattle.float.proofs.Cast.{nint-whole}
+use Rattle.float.proofs.Quotient.{whole-close}
+use Rattle.integer.proofs.Test.{is_true}
+use Rattle.transform_rotations.specs.Code.Steps.{is_near}
 
 number : (y x : Float) → T (finite y) → T (eq y x) → T (finite x)
 unfolding eq
@@ -30,5 +34,8 @@ whole y x z v h =
     let e = ap (λ (t : ℕ). t * den x) v.is in
     record { number = n; is = eq_of_mul-eq-mul_right (den y) (den_pos y) (plus x * 1 + parts.dn z * den x) (parts.up z * den x + less x * 1) (omega arith) }
 
-pub found : (x : Float) (z : ℤ) → nat_abs z ≤ 2 ^ 53 → T (fits binary64 x) → T (eq (of_int binary64 z) x) → nint_of x ≡ z
-found x z h f e = nint-whole x z f (whole (of_int binary64 z) x z (of_int-whole binary64 z h) e) (lt_of_le_of_lt h (lit< tt))
+pub found : (x : Float) (z : ℤ) → nat_abs z ≤ 2 ^ 53 → T (fits binary64 x) → T (eq (of_int binary64 z) x) → (nint_of x ≡ z) × (is_near x ≡ true)
+found x z h f e =
+    let w = whole (of_int binary64 z) x z (of_int-whole binary64 z h) e in
+    let n = nint-whole x z f w (lt_of_le_of_lt h (lit< tt)) in
+    (n, is_true _ (whole-close x z h w n))

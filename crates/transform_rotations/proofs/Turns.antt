@@ -1,5 +1,5 @@
 -- The loop over the rotations: what is tested and written after n turns, and what is left.
-use mathlib.Core.Path.{◌≡◌, sym, ◌∙◌, ap, ap₂}
+use mathlib.Core.Path.{◌≡◌, refl, sym, ◌∙◌, ap, ap₂}
 use mathlib.Core.Bool.{Bool, true, false, ◌&&◌}
 use mathlib.Core.List.{List, [], ◌∷◌, ◌++◌, append_assoc, append-nil, map}
 use Prim.Native.Nat.{ℕ, suc, ◌+◌, ◌-◌, ◌*◌, ◌≤◌, ◌<◌}
@@ -9,12 +9,15 @@ use lib.Ieee.{Float}
 use lib.ListN.{length, take, drop, length-append, take-append-drop, drop_of_length-le}
 use lib.Seq.{sets, sets-eq, take_at, length-take-le, drop-drop}
 use borrow.Rule.Slice.PartMut.{put_mid}
+use Rattle.std.specs.Prelude.{Result, Ok, Err}
+use Rattle.common.specs.declared.Refusal.{Refusal}
+use Rattle.common.specs.declared.Refusal.TheVariants.{SymmetryBroken}
+use Rattle.common.specs.Tested.{require}
+use Rattle.common.proofs.Tests.{same-ok, same-refusal, refused-not-ok}
 use Rattle.common.specs.Matrix.{Mat, entries}
-use Rattle.common.specs.Array.{matrix_of, rows, matrix_at, matrices_from, flat}
+use Rattle.common.specs.Array.{rows, matrix_at, matrices_from, flat}
 use Rattle.common.specs.Every.{every}
-use Rattle.common.specs.FloatMatrix.{float_matrix}
 use Rattle.transform_rotations.specs.Transform.{is_whole, rounded}
-use Rattle.transform_rotations.specs.Code.Steps.{all_near}
 
 -- ---- lists
 module _ (out : List ℤ) (at : ℕ) (m : Mat ℤ) (h : at + 9 ≤ length out) where
@@ -44,14 +47,18 @@ module _ (out : List ℤ) (at : ℕ) (m : Mat ℤ) (h : at + 9 ≤ length out) w
 taken : (out : List ℤ) (n : ℕ) → length out ≤ n → take n out ≡ out
 taken out n h = sym (append-nil (take n out)) ∙ ap (λ r. take n out ++ r) (sym (drop_of_length-le out h)) ∙ take-append-drop n out
 
--- ---- the test of a turn: of the rounded entries against the entries
-module _ (t : Mat Float) {m : List (List Float)} {k : List (List ℤ)} (e : m ≡ rows t) (f : k ≡ rows (rounded (float_matrix m))) where
-  pub rounded-rows : k ≡ rows (rounded t)
-  rounded-rows = f ∙ ap (λ m. rows (rounded (float_matrix m))) e
+-- ---- what a turn is given: the rounded entries, or the refusal
+abbrev pub turn : Mat Float → Result (List (List ℤ)) Refusal
+turn t = require (is_whole t) SymmetryBroken (Ok (rows (rounded t)))
 
-  pub near-whole : {b : Bool} → b ≡ all_near (matrix_of k) (float_matrix m) → b ≡ is_whole t
-  unfolding is_whole all_near rounded
-  near-whole h = h ∙ ap₂ (λ k m. all_near (matrix_of k) (float_matrix m)) rounded-rows e
+module _ {A : Type 0} where
+  pub kept : (b : Bool) (r : Refusal) (a k : A) → Ok k ≡ require b r (Ok a) → (b ≡ true) × (k ≡ a)
+  kept true r a k e = (refl, same-ok e)
+  kept false r a k e = absurd (refused-not-ok (sym e))
+
+  pub dropped : (b : Bool) (r : Refusal) (a : A) (s : Refusal) → Err s ≡ require b r (Ok a) → (b ≡ false) × (s ≡ r)
+  dropped true r a s e = absurd (refused-not-ok e)
+  dropped false r a s e = (refl, same-refusal e)
 
 -- ---- n turns of the loop
 -- the rotations of l, each transformed by g, as the test and the output have them

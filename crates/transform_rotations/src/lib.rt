@@ -1,7 +1,7 @@
 // Transform reciprocal-space rotations into rotations of the grid.
 #![tactic(auto)]
 
-ghost use Rattle.std.specs.Prelude.{◌≡◌, true, ◌&&◌, [], ◌+◌, ◌^◌, ◌≤◌, T, nat_abs, length, get_or, map};
+ghost use Rattle.std.specs.Prelude.{◌≡◌, true, ◌&&◌, [], ◌+◌, ◌≤◌, Ok, T, nat_abs, length, get_or, map};
 ghost use Rattle.std.specs.Float.{nan, binary64};
 ghost use Rattle.std.specs.Float.Ieee.{div};
 ghost use Rattle.std.proofs.lemmas.List.Edits.{sets};
@@ -15,7 +15,7 @@ ghost use Rattle.common.specs.FloatMatrix.{floats, row_d, float_vector, float_ma
 ghost use Rattle.common.specs.Limits.{all_within, matrix_within, whole_matrices, diagonal_fits};
 ghost use Rattle.transform_rotations.specs.Transform.{to_d, is_whole, rounded};
 ghost use Rattle.transform_rotations.specs.TransformRotations.{singular_q, all_whole, transformed_list, input_tests, transform_tests, transform_rotations};
-ghost use Rattle.transform_rotations.specs.Code.Steps.{inverse_row, inverse_over, scaled_row, transform_over, transform_by, near, all_near};
+ghost use Rattle.transform_rotations.specs.Code.Steps.{inverse_row, inverse_over, scaled_row, transform_over, transform_by, is_near, near, all_near};
 
 use common::{BoundedMatrix, Refusal, Rotations};
 
@@ -85,46 +85,43 @@ fn to_d(r: BoundedMatrix<100>) -> [[f64; 3]; 3]
     [row_to_d(x), row_to_d(y), row_to_d(z)]
 }
 
-// From the bits of x + 2^52 + 2^51, whose last binary digits are those of the whole number nearest to x: that number, if it is of a size up to 2^51.
-fn from_bits(bits: u64) -> i64
-    ensures { nat_abs result ≤ 2 ^ 53 }
-{
-    if bits < 0x4330_0000_0000_0000 {
-        return 0;
-    }
-    let n: u64 = bits - 0x4330_0000_0000_0000;
-    if n < 0x10_0000_0000_0000 {
-        return n as i64 - 0x8_0000_0000_0000;
-    }
-    0
-}
-
-// A guess at x rounded. Nothing but its size is promised of it.
+// A guess at x rounded: x + 2^52 + 2^51 has in its last 52 bits the whole number nearest to x, plus 2^51, if that is of a size below 2^51.
+// Nothing but its size is promised of it.
 fn guess(x: f64) -> i64
-    ensures { nat_abs result ≤ 2 ^ 53 }
+    ensures { nat_abs result ≤ 9007199254740992 }
 {
     let t = x + 6755399441055744.0;
     if t > 0.0 {
-        return from_bits(f64::to_bits(t));
+        return (f64::to_bits(t) % 0x10_0000_0000_0000) as i64 - 0x8_0000_0000_0000;
     }
     0
 }
 
-// Most entries are whole numbers, which the guess finds in less time than `nint` takes.
-fn nint_entry(x: f64) -> i64
-    ensures { result ≡ nint_of x }
+fn guess_row(a: [f64; 3]) -> [i64; 3]
+    ensures { Sized 9007199254740992 result }
 {
-    let n = guess(x);
-    if float::to_f64(n) == x {
-        return n;
-    }
-    float::nint(x)
+    [guess(a[0]), guess(a[1]), guess(a[2])]
+}
+
+fn is_entry(n: i64, x: f64) -> bool
+    requires { nat_abs n ≤ 9007199254740992 }
+    ensures { T result → (nint_of x ≡ n) × (is_near x ≡ true) }
+{
+    n as f64 == x
+}
+
+// Whether the guess is the row. Nothing is promised where it is not.
+fn is_row(n: [i64; 3], a: [f64; 3]) -> bool
+    requires { Sized 9007199254740992 n }
+    ensures { T result → (items (map_vec nint_of (float_vector a)) ≡ n) × (all_axes (λ k. is_near (get_or a (axis_index k) nan)) ≡ true) }
+{
+    is_entry(n[0], a[0]) && is_entry(n[1], a[1]) && is_entry(n[2], a[2])
 }
 
 fn nint_row(a: [f64; 3]) -> [i64; 3]
     ensures { result ≡ items (map_vec nint_of (float_vector a)) }
 {
-    [nint_entry(a[0]), nint_entry(a[1]), nint_entry(a[2])]
+    [float::nint(a[0]), float::nint(a[1]), float::nint(a[2])]
 }
 
 #[tactic(auto, unfolding(crate::specs::Transform::rounded))]
@@ -154,6 +151,23 @@ fn all_near(n: [[i64; 3]; 3], m: [[f64; 3]; 3]) -> bool
     row_near(n[0], m[0]) && row_near(n[1], m[1]) && row_near(n[2], m[2])
 }
 
+// The entries rounded, where all are near. Most are whole numbers, which the guess finds in half the time.
+#[tactic(auto, unfolding(crate::specs::Transform::is_whole, crate::specs::Transform::rounded, crate::specs::Code::Steps::all_near))]
+fn near_matrix(m: [[f64; 3]; 3]) -> Result<[[i64; 3]; 3], Refusal>
+    ensures { result ≡ require (is_whole (float_matrix m)) SymmetryBroken (Ok (rows (rounded (float_matrix m)))) }
+{
+    let [x, y, z] = m;
+    let [a, b, c] = [guess_row(x), guess_row(y), guess_row(z)];
+    if is_row(a, x) && is_row(b, y) && is_row(c, z) {
+        return Ok([a, b, c]);
+    }
+    let n = nint_matrix(m);
+    if !all_near(n, m) {
+        return Err(Refusal::SymmetryBroken);
+    }
+    Ok(n)
+}
+
 fn store(out: &mut [i64], at: usize, m: [[i64; 3]; 3])
     requires { at + 9 ≤ length out.old }
     ensures { out.new ≡ sets out.old at (entries (matrix_of m) []) }
@@ -178,11 +192,7 @@ fn transform_each(
 {
     // By index: `at` and `store` ask for the place of a matrix.
     for n in 0..rotations.count() {
-        let m = transform(q_inv, q, d, to_d(rotations.at(n)));
-        let rounded = nint_matrix(m);
-        if !all_near(rounded, m) {
-            return Err(Refusal::SymmetryBroken);
-        }
+        let rounded = near_matrix(transform(q_inv, q, d, to_d(rotations.at(n))))?;
         store(out, n * 9, rounded);
     }
     Ok(())

@@ -2,7 +2,7 @@
 use Rattle.std.specs.Prelude.{Bool, not, List, ℤ, get_or, Float}
 use Rattle.std.specs.Float.{nan, binary64}
 use Rattle.std.specs.Float.Ieee.{sub, mul, div, of_int, lt}
-use Rattle.float.specs.Rounding.{abs_of, tolerance}
+use Rattle.float.specs.Rounding.{abs_of, offset, tolerance}
 use Rattle.common.specs.Matrix.{next, Vec, Mat, side, vector, entry, matrix, map_mat, all_axes, cross, product_over, adjugate_over}
 use Rattle.common.specs.Array.{axis_index, items}
 use Rattle.common.specs.FloatMatrix.{floats}
@@ -30,6 +30,10 @@ transform_over inverse q d r =
 -- of a rotation of whole numbers
 abbrev pub transform_by : Mat Float → Mat Float → Vec Float → Mat ℤ → Mat Float
 transform_by inverse q d r = transform_over inverse q d (to_d r)
+
+-- x is not over 1e-5 from its rounded value
+abbrev pub is_near : Float → Bool
+is_near x = not (lt tolerance (offset x))
 
 -- n is not over 1e-5 from x
 abbrev pub near : ℤ → Float → Bool

@@ -47,6 +47,6 @@ returns c =
     let h = whole_quotient c.checked_div_euclid.result e.r e.r1 (search rules) (search rules) c.requires (search rules) in
     let l : c.less.result ≡ less e.s q e.s1 = search rules in
     let m : c.less-2.result ≡ less e.t q e.t1 = search rules in
-    let d : Some (record { r = held e.r1; r1 = held c.rem_euclid.result; s = held e.s1; s1 = held s; t = held e.t1; t1 = held t }) ≡ with-s e s t = search rules in
+    let d : Some (record { r = held e.r1; r1 = held c.rest.result; s = held e.s1; s1 = held s; t = held e.t1; t1 = held t }) ≡ with-s e s t = search rules in
     d
     ∙ sym (with-q e h c.in_ok-q.was ∙ with-less e q l (ap (λ m. m then λ s. less e.t q e.t1 then λ t. with-s e s t) c.in_ok-less.was ∙ ap (λ m. m then λ t. with-s e s t) (sym m ∙ c.in_ok-less-2.was)))

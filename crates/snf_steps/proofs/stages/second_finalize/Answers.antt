@@ -3,7 +3,8 @@ use Rattle.common.specs.Array.{matrix_of}
 use Rattle.snf_steps.specs.Then.{◌then◌}
 use Rattle.snf_steps.specs.Elementary.{below_second, neg_quotient}
 use Rattle.snf_steps.specs.Columns.{multiply}
-use Rattle.snf_steps.specs.Stages.{on_rows, through}
+use Rattle.snf_steps.specs.Stages.{rows_of, with_rows, on_rows, through}
+use Rattle.snf_steps.specs.Code.ColumnsView.{matrices_of}
 use Rattle.snf_steps.specs.Code.StagesView.{three_of}
 use Rattle.snf_steps.proofs.stages.second_finalize.Goals as goal
 
@@ -13,6 +14,7 @@ returns c =
     let s = three_of a.s in
     let v = c.in_ok-v.v in
     let ev : Some v ≡ neg_quotient a.z a.d = search rules in
-    let l : c.elementary_add_rows.result ≡ below_second v = search rules in
-    let et = c.in_ok-t.ensures ∙ ap (λ l. on_rows (multiply (matrix_of l)) s) l in
+    let l = matrix_of (below_second v) in
+    let h : Some (matrices_of c.in_ok-add_last.field-0) ≡ multiply l (rows_of s) = search rules in
+    let et : Some (three_of c.with_rows-t.result) ≡ on_rows (multiply l) s = ap Some c.with_rows-t.ensures ∙ ap (λ r. r then λ p. Some (with_rows s p)) h in
     ap (λ r. r then through) et ∙ ap (λ r. r then λ v. on_rows (multiply (matrix_of (below_second v))) s then through) ev

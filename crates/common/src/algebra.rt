@@ -33,6 +33,7 @@ pub fn matvec_ii(a: [[i64; 3]; 3], b: [i64; 3]) -> [i64; 3]
 }
 
 // Each row with each column of the other matrix.
+#[inline(always)]
 pub fn matmul<N: Entry>(a: [[N; 3]; 3], b: [[N; 3]; 3]) -> [[N; 3]; 3]
     requires { T (product_fits_over N.ops N.fits (matrix_or N.none a) (matrix_or N.none b)) }
     ensures { result ≡ rows (product_over N.ops (matrix_or N.none a) (matrix_or N.none b)) }

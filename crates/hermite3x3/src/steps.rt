@@ -6,6 +6,7 @@ ghost use Rattle.hermite3x3.specs.Code.StepsView.{rows_of, entry_of};
 
 use snf_steps::{columns, elementary};
 
+#[inline(always)]
 #[tactic(auto, unfolding(crate::specs::Hermite3x3::row_step))]
 fn row_step(l: [[i64; 3]; 3], m: [[i64; 3]; 3]) -> Option<[[i64; 3]; 3]>
     ensures { rows_of result ≡ walk.row_step (matrix_of l) (matrix_of m) }
@@ -18,6 +19,7 @@ fn row_step(l: [[i64; 3]; 3], m: [[i64; 3]; 3]) -> Option<[[i64; 3]; 3]>
 
 // Row j becomes 0 in column i by the pivot in row i.
 // Rows and columns are numbers, as the Rust has them, and below 3 by a clause: an enum of three would be a number again at each use.
+#[inline(always)]
 #[tactic(auto, unfolding(crate::specs::Hermite3x3::clear))]
 fn clear(i: usize, j: usize, m: [[i64; 3]; 3]) -> Option<[[i64; 3]; 3]>
     requires { (i < 3) × (j < 3) }
@@ -32,6 +34,7 @@ fn clear(i: usize, j: usize, m: [[i64; 3]; 3]) -> Option<[[i64; 3]; 3]>
 }
 
 // Row i, by the number on the diagonal.
+#[inline(always)]
 #[tactic(auto, unfolding(crate::specs::Hermite3x3::sign))]
 fn sign(i: usize, m: [[i64; 3]; 3]) -> Option<[[i64; 3]; 3]>
     requires { i < 3 }
@@ -50,6 +53,7 @@ fn neg_floor(x: i64, p: i64) -> Option<i64>
 }
 
 // Row i becomes its remainder in column j by the pivot in row j.
+#[inline(always)]
 #[tactic(auto, unfolding(crate::specs::Hermite3x3::reduce))]
 fn reduce(i: usize, j: usize, m: [[i64; 3]; 3]) -> Option<[[i64; 3]; 3]>
     requires { (i < 3) × (j < 3) }

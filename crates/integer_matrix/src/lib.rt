@@ -4,7 +4,6 @@
 ghost use Rattle.std.specs.Prelude.{◌≡◌, ◌&&◌, ◌*◌, T, leb, neg_ℤ, ◌+ℤ◌, ◌-ℤ◌};
 ghost use Rattle.integer.specs.Checked.{fits64};
 ghost use Rattle.common.specs.Matrix.{all_axes, negate, ◌·◌, det, vector};
-ghost use Rattle.common.specs.Limits.{matrix_within};
 ghost use Rattle.common.specs.Array.{along, items, matrix_of, rows};
 ghost use Rattle.common.specs.IntegerMatrix.{products_fit, dot_fits, product_fits, cross_fits, expand_fits, minors_fit};
 ghost use Rattle.common.specs.IntegerMatrix.{det_fits, negation_fits, largest_of, largest};
@@ -40,6 +39,7 @@ pub fn negate_i(m: [[i64; 3]; 3]) -> [[i64; 3]; 3]
 }
 
 // ---- sums of three products
+#[inline(always)]
 fn products_fit(a: [i64; 3], b: [i64; 3]) -> bool
     ensures { result ≡ products_fit (along a) (along b) }
 {
@@ -52,6 +52,7 @@ fn sums_fit(x: i64, y: i64, z: i64) -> bool
     integer::add_fits(x, y) && integer::add_fits(x + y, z)
 }
 
+#[inline(always)]
 fn dot_fits(a: [i64; 3], b: [i64; 3]) -> bool
     ensures { result ≡ dot_fits (along a) (along b) }
 {
@@ -88,40 +89,22 @@ fn small_product(x: u64, y: u64) -> bool
 }
 
 // A row of a product: with each column of the other matrix.
+#[inline(always)]
 fn row_fits(a: [i64; 3], p: [i64; 3], q: [i64; 3], r: [i64; 3]) -> bool
     ensures { result ≡ dot_fits (along a) (along p) && (dot_fits (along a) (along q) && dot_fits (along a) (along r)) }
 {
     dot_fits(a, p) && dot_fits(a, q) && dot_fits(a, r)
 }
 
-// One after the other.
+// Each number is tested: beside the product itself the compiler tests and multiplies at once.
+#[inline(always)]
 #[tactic(auto, unfolding(common::specs::IntegerMatrix::product_fits))]
-fn rows_fit(a: [[i64; 3]; 3], b: [[i64; 3]; 3]) -> bool
+pub fn product_fits(a: [[i64; 3]; 3], b: [[i64; 3]; 3]) -> bool
     ensures { result ≡ product_fits (matrix_of a) (matrix_of b) }
 {
     let [x, y, z] = a;
     let [p, q, r] = common::transpose(b);
     row_fits(x, p, q, r) && row_fits(y, p, q, r) && row_fits(z, p, q, r)
-}
-
-fn sizes_within(a: [[i64; 3]; 3], x: u64, b: [[i64; 3]; 3], y: u64) -> bool
-    ensures { result ≡ matrix_within x (matrix_of a) && matrix_within y (matrix_of b) }
-{
-    common::matrix_within(a, x) && common::matrix_within(b, y)
-}
-
-// Three products of numbers of such sizes add up to less than 2^63; only where the sizes leave it open is each number tested.
-// The second pair is that of a step on entries up to 2·10^12 by multiples up to 10^6.
-pub fn product_fits(a: [[i64; 3]; 3], b: [[i64; 3]; 3]) -> bool
-    ensures { result ≡ product_fits (matrix_of a) (matrix_of b) }
-{
-    if sizes_within(a, 0x3fff_ffff, b, 0x3fff_ffff) {
-        return true;
-    }
-    if sizes_within(a, 0xf_ffff, b, 0x1ff_ffff_ffff) {
-        return true;
-    }
-    rows_fit(a, b)
 }
 
 // Two products from the left. Only where the sizes leave it open is each number tested.
@@ -131,10 +114,11 @@ pub fn matmul_fits(l: [[i64; 3]; 3], a: [[i64; 3]; 3], b: [[i64; 3]; 3]) -> bool
     if small_product(largest(l), largest(a).max(largest(b))) {
         return true;
     }
-    rows_fit(l, a) && rows_fit(l, b)
+    product_fits(l, a) && product_fits(l, b)
 }
 
 // Under the name of its test, which the proofs above keep folded.
+#[inline(always)]
 #[tactic(auto, unfolding(common::specs::IntegerMatrix::product_fits))]
 pub fn matmul_i(a: [[i64; 3]; 3], b: [[i64; 3]; 3]) -> [[i64; 3]; 3]
     requires { T (product_fits (matrix_of a) (matrix_of b)) }

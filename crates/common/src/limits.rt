@@ -5,10 +5,14 @@ ghost use Rattle.common.specs.Array.{along, matrix_of};
 ghost use Rattle.common.specs.Limits.{within, all_within, matrix_within, rotations_fit, whole_matrices, side_fits};
 ghost use Rattle.common.specs.Limits.{diagonal_fits, half_fits, shift_fits, point_fits};
 
+// By two bounds, which where k is a constant the compiler tests as one; a size it would work out first.
 pub fn within(z: i64, k: u64) -> bool
     ensures { result ≡ within k z }
 {
-    z.unsigned_abs() <= k
+    match i64::try_from(k) {
+        Ok(k) => -k <= z && z <= k,
+        Err(_) => true,
+    }
 }
 
 pub fn all_within(list: &[i64], k: u64) -> bool

@@ -10,6 +10,7 @@ pub mod FittingEntries
 pub mod RowOperations
 pub mod LoneNumbers
 pub mod SmallRows
+pub mod SmallWalk
 pub mod Zeroing
 pub mod Clearing
 pub mod Keeping

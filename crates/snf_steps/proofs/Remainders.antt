@@ -9,8 +9,8 @@ use Rattle.integer.specs.Checked.{fits64, is_zero}
 use Rattle.integer.specs.Division.{div_euclid, rem_euclid}
 use Rattle.snf_steps.specs.Then.{◌then◌, provided}
 use Rattle.snf_steps.specs.declared.gcd.Euclid.{Euclid}
-use Rattle.snf_steps.specs.declared.gcd.Counted.{Counted}
 use Rattle.snf_steps.specs.Gcd.{start, less_fits, next, step, euclid, extended_gcd, divisions, steps, counted_gcd}
+use Rattle.snf_steps.specs.Code.SmallWalk.{after, walked}
 use Rattle.snf_steps.proofs.Accepted.{Accepted, accepted, overflowed}
 use Rattle.snf_steps.proofs.Bezout as gcd
 
@@ -44,13 +44,6 @@ step-by e {r} h = first (fits64 q) ∙ ap (λ r. r then with-quotient e) (sym h)
     first false = refl
 
 -- ---- the walk
-abbrev after : ℕ → Euclid → Option Counted
-after i e = Some (record { last = e; count = i })
-
--- at most n divisions from e on, after i that were made
-abbrev pub walked : (n i : ℕ) → Euclid → Option Counted
-walked n i e = euclid n e then after (i + divisions n e.r e.r1)
-
 pub begun : (a b : ℤ) → counted_gcd a b ≡ walked 1000 0 (start a b)
 unfolding extended_gcd
 begun a b = ap (λ (k : ℕ). extended_gcd a b then after k) (none_before (steps a b))

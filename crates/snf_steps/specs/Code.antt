@@ -1,3 +1,4 @@
 pub mod ColumnsView
 pub mod Settled
+pub mod SmallWalk
 pub mod StagesView

@@ -1,6 +1,6 @@
 use Rattle.std.proofs.Common.{◌≡◌, ◌-◌}
 use Rattle.snf_steps.specs.Gcd.{counted_gcd}
-use Rattle.snf_steps.proofs.Remainders.{walked}
+use Rattle.snf_steps.specs.Code.SmallWalk.{walked}
 use Rattle.snf_steps.proofs.gcd.counted_gcd.Given as goal
 
 abbrev pub invariant-loop-i : goal.invariant-loop-i

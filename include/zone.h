@@ -1,6 +1,6 @@
 /* zone.h: the zone folding of a diffuse-scattering camera. Archive libzone_c.a (`tools/archive zone_c`), for C99,
- * C++ and Rust on x86-64 Linux; it needs memcpy, memmove and memset and nothing else. examples/ folds a crystal in C
- * and in Rust.
+ * C++ and Rust on x86-64 Linux; it needs memcpy and memset and nothing else. examples/ folds a crystal in C and in
+ * Rust.
  *
  * Given a crystal and a grid of points q in its reciprocal space, the calls tell which points are equivalent, where
  * each lies in the first Brillouin zone (its images), and for a point q0 the classes of triplets q0 + q1 + q2 = G,

@@ -107,6 +107,16 @@ fn ir_triplets_at_q_perm_q1q2(classes: &Classes<'_>, map_triplets: &mut [i64])
     }
 }
 
+// Non-swappable case: the classes as they are. By index: `copy_from_slice` would have an archive for C need memmove.
+fn ir_triplets_at_q_noperm(map_q: &[i64], map_triplets: &mut [i64])
+    requires { length map_q.now ≡ length map_triplets.old }
+    ensures { map_triplets.new ≡ map_q.now }
+{
+    for q1 in 0..map_q.len() {
+        map_triplets[q1] = map_q[q1];
+    }
+}
+
 #[tactic(auto, using(crate::proofs::Outcome::refused, crate::proofs::Outcome::onward), unfolding(crate::specs::IrTriplets::input_tests))]
 fn triplet_tests(
     q0: i64,
@@ -171,8 +181,7 @@ fn number_triplets(swappable: bool, classes: &Classes<'_>, map_triplets: &mut [i
     if swappable {
         ir_triplets_at_q_perm_q1q2(classes, &mut *map_triplets);
     } else {
-        // The Rust's `ir_triplets_at_q_noperm`: the classes as they are.
-        map_triplets.copy_from_slice(classes.map_q);
+        ir_triplets_at_q_noperm(classes.map_q, &mut *map_triplets);
     }
     grgrid::own_places(map_triplets) as i64
 }

@@ -21,7 +21,7 @@ returns c =
     elim c.if-swappable.branch [
       | then-swappable w ↦ w.map_triplets-is ∙ w.ir_triplets_at_q_perm_q1q2.ensures ∙ ap (λ t. map pos (map_triplets_of t d s.classes.now.q0.p l)) (sym w.if-swappable.true)
       | else-swappable w ↦
-          w.map_triplets-is ∙ w.copy_from_slice.ensures.after ∙ s.classes.now.numbered.natural ∙ ap (map pos) (sym (plain d s.classes.now.q0.p l (length-map s.classes.now.map_q.now nat_abs ∙ s.classes.now.places)))
+          w.map_triplets-is ∙ w.ir_triplets_at_q_noperm.ensures ∙ s.classes.now.numbered.natural ∙ ap (map pos) (sym (plain d s.classes.now.q0.p l (length-map s.classes.now.map_q.now nat_abs ∙ s.classes.now.places)))
           ∙ ap (λ t. map pos (map_triplets_of t d s.classes.now.q0.p l)) (sym w.if-swappable.false)
     ] in
     let few = grid-few s.classes.now.q0.g in

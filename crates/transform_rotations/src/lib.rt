@@ -118,10 +118,21 @@ fn is_row(n: [i64; 3], a: [f64; 3]) -> bool
     is_entry(n[0], a[0]) && is_entry(n[1], a[1]) && is_entry(n[2], a[2])
 }
 
+// The guess where it is the entry: a matrix that is not whole by one entry has eight that are.
+fn nint_entry(x: f64) -> i64
+    ensures { result ≡ nint_of x }
+{
+    let n = guess(x);
+    if is_entry(n, x) {
+        return n;
+    }
+    float::nint(x)
+}
+
 fn nint_row(a: [f64; 3]) -> [i64; 3]
     ensures { result ≡ items (map_vec nint_of (float_vector a)) }
 {
-    [float::nint(a[0]), float::nint(a[1]), float::nint(a[2])]
+    [nint_entry(a[0]), nint_entry(a[1]), nint_entry(a[2])]
 }
 
 #[tactic(auto, unfolding(crate::specs::Transform::rounded))]

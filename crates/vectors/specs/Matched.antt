@@ -1,9 +1,13 @@
 -- A line that is compared with what a call answered and wrote: what is left of it, or `None` once a number was another.
-use Rattle.std.specs.Prelude.{List, [], ◌∷◌, cond, ℤ, pos, length, Float, Option, Some, None}
+use Rattle.std.specs.Prelude.{List, [], ◌∷◌, cond, ℤ, pos, length, Float, Option, Some, None, option_map}
 use Rattle.std.specs.Ordering.{int_eq}
 use Rattle.vectors.specs.Words.{listed, words_of}
+use Rattle.vectors.specs.declared.compared.Compared.{Compared}
 use Rattle.vectors.specs.declared.Verdict.{Verdict}
 use Rattle.vectors.specs.declared.Verdict.TheVariants.{Same, Differs}
+
+abbrev pub left : Compared → Option (List ℤ)
+left c = option_map (λ l. l.now) c.0
 
 -- what is left of the line n after the numbers w
 abbrev pub after : List ℤ → List ℤ → Option (List ℤ)

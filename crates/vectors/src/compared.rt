@@ -1,31 +1,24 @@
 // A line against what a call answered and wrote.
-ghost use Rattle.std.specs.Prelude.{◌≡◌, [], ◌∷◌, pos, length, List, ℤ, Option, option_map};
+ghost use Rattle.std.specs.Prelude.{◌≡◌, [], ◌∷◌, pos, length, Some};
 ghost use Rattle.vectors.specs.Words.{words_of};
-ghost use Rattle.vectors.specs.Matched.{matched, matched_output, matched_floats, verdict_of};
+ghost use Rattle.vectors.specs.Matched.{left, matched, matched_output, matched_floats, verdict_of};
 
 use crate::slices::LISTED;
 use crate::{Verdict, floats, slices};
-use std::marker::Model;
 
 // What is left of a line after all that was compared; `None` once something was unlike.
-#[derive(Drop)]
+#[derive(Clone, Copy)]
 pub struct Compared<'a>(Option<&'a [i64]>);
-
-impl<'a> Model for Compared<'a> {
-    ghost Value = { Option (List ℤ) };
-
-    ghost view = { λ c. option_map (λ l. l.now) c.0 };
-}
 
 impl<'a> Compared<'a> {
     pub fn with(line: &'a [i64]) -> Self
-        ensures { result ≡ Some line.now }
+        ensures { left result ≡ Some line.now }
     {
         Self(Some(line))
     }
 
     pub fn numbers(self, told: &[i64]) -> Self
-        ensures { result ≡ matched self.entry told.now }
+        ensures { left result ≡ matched (left self.entry) told.now }
     {
         let Self(Some(line)) = self else {
             return self;
@@ -34,14 +27,14 @@ impl<'a> Compared<'a> {
     }
 
     pub fn number(self, z: i64) -> Self
-        ensures { result ≡ matched self.entry (z ∷ []) }
+        ensures { left result ≡ matched (left self.entry) (z ∷ []) }
     {
         self.numbers(&[z])
     }
 
     // Its length, and its places or their sum.
     pub fn output(self, out: &[i64]) -> Self
-        ensures { result ≡ matched_output self.entry out.now }
+        ensures { left result ≡ matched_output (left self.entry) out.now }
     {
         let places = self.number(out.len() as i64);
         if out.len() <= LISTED {
@@ -51,7 +44,7 @@ impl<'a> Compared<'a> {
     }
 
     pub fn float(self, x: f64) -> Self
-        ensures { result ≡ matched self.entry (words_of x) }
+        ensures { left result ≡ matched (left self.entry) (words_of x) }
     {
         let bits = floats::bits_of(x);
         let words = [(bits / 0x1_0000_0000) as i64, (bits % 0x1_0000_0000) as i64];
@@ -60,7 +53,7 @@ impl<'a> Compared<'a> {
 
     // Their count, and the words of each.
     pub fn floats(self, list: &[f64]) -> Self
-        ensures { result ≡ matched_floats (matched self.entry (pos (length list.now) ∷ [])) list.now }
+        ensures { left result ≡ matched_floats (matched (left self.entry) (pos (length list.now) ∷ [])) list.now }
     {
         let mut compared = self.number(list.len() as i64);
         for x in list {
@@ -71,7 +64,7 @@ impl<'a> Compared<'a> {
 
     // The line ends here.
     pub fn verdict(self) -> Verdict
-        ensures { result ≡ verdict_of self.entry }
+        ensures { result ≡ verdict_of (left self.entry) }
     {
         match self.0 {
             Some([]) => Verdict::Same,

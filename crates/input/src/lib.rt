@@ -21,3 +21,10 @@ pub fn read_full(input: &mut impl Read, held: &mut [u8]) -> io::Result<usize>
     }
     Ok(done)
 }
+
+// A job, and one byte more than it may have, so that a longer one is refused: a program with a shorter array does not compile.
+pub fn read_job(input: &mut impl Read, held: &mut [u8; 8193]) -> io::Result<usize>
+    ensures { ReadsAtMost result held.new }
+{
+    read_full(input, held)
+}

@@ -3,10 +3,10 @@
 
 use std::io;
 
-// It holds one byte more than a job may have, so that a longer one is refused. Fixed arrays: no heap.
+// Fixed arrays: no heap.
 fn main(rt: HostRuntime) -> io::Result<()> {
     let mut held = [0u8; 8193];
-    let n = input::read_full(&mut rt.reader(), &mut held)?;
+    let n = input::read_job(&mut rt.reader(), &mut held)?;
     let mut addresses = [0; 3072];
     let mut map = [-1; 2305];
     let mut grg = [0; 1024];

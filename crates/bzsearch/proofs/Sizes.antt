@@ -1,7 +1,7 @@
 -- The limits of what a search is made from, as sizes.
 use mir.Syntax.{w64}
 use mathlib.Core.Path.{◌≡◌, sym, subst}
-use mathlib.Core.List.{List}
+use mathlib.Core.List.{List, [], ◌∷◌}
 use Prim.Native.Nat.{ℕ, zero, suc, ◌≤◌, zero-le}
 use native.Mathlib.Nat.{le_of_eq, le_trans, lt_of_le_of_lt}
 use native.Mathlib.Omega.{arith}
@@ -12,8 +12,8 @@ use mir.Facts.{to_z-of_z}
 use Rattle.integer.proofs.Fits.{held}
 use Rattle.integer.proofs.Plain.{plain, p_atom, plain-within}
 use Rattle.integer.proofs.Size.{sfits-abs}
-use Rattle.common.specs.Matrix.{Axis, X, Y, Z, next, Mat, side, entry, vector, matrix, map_mat, cross, integers, det, adjugate, inverse}
-use Rattle.common.specs.Array.{along, vector_of, items, Sized}
+use Rattle.common.specs.Matrix.{Axis, X, Y, Z, next, Mat, side, entry, entries, vector, matrix, map_mat, cross, integers, det, adjugate, inverse}
+use Rattle.common.specs.Array.{along, vector_of, items, rows, matrix_at, Sized, SizedRows}
 use Rattle.common.specs.IntegerMatrix.{det_fits}
 use Rattle.common.specs.Limits.{diagonal_fits, matrix_within}
 use Rattle.common.proofs.Matrix.{entry-matrix, diagonal-product}
@@ -42,6 +42,9 @@ module _ (d : List ℤ) (t : T (diagonal_fits d)) where
   side-whole Y = side-above (along d Y) (side-1 d t)
   side-whole Z = side-above (along d Z) (side-2 d t)
 
+pub sized-up : {j k : ℕ} {l : List ℤ} → j ≤ k → Sized j l → Sized k l
+sized-up h f = record { each = λ n. le_trans (f.each n) h }
+
 -- an array of three
 pub row_sized : {n : ℕ} (l : List ℤ) → length l ≡ 3 → ((k : Axis) → nat_abs (side (vector_of l) k) ≤ n) → Sized n l
 row_sized {n} l e h = record { each = at }
@@ -51,6 +54,32 @@ row_sized {n} l e h = record { each = at }
     at (suc zero) = h Y
     at (suc (suc zero)) = h Z
     at (suc (suc (suc i))) = rw (get_or-eq_default l (pos 0) {n = suc (suc (suc i))} (omega arith)) zero-le
+
+-- ---- nine numbers, by rows
+sized-nil : {n : ℕ} → Sized n []
+sized-nil = record { each = λ i. zero-le }
+
+sized-cons : {n : ℕ} {z : ℤ} {l : List ℤ} → nat_abs z ≤ n → Sized n l → Sized n (z ∷ l)
+sized-cons {n} {z} {l} h f = record { each = at }
+  where
+    at : (i : ℕ) → nat_abs (get_or (z ∷ l) i (pos 0)) ≤ n
+    at zero = h
+    at (suc i) = f.each i
+
+pub entries-sized : {n : ℕ} (m : Mat ℤ) → ((j k : Axis) → nat_abs (entry m j k) ≤ n) → Sized n (entries m [])
+entries-sized {n} m h = row X (row Y (row Z sized-nil))
+  where
+    row : (j : Axis) {l : List ℤ} → Sized n l → Sized n (entry m j X ∷ entry m j Y ∷ entry m j Z ∷ l)
+    row j f = sized-cons (h j X) (sized-cons (h j Y) (sized-cons (h j Z) f))
+
+pub nested-sized : {n : ℕ} {l : List ℤ} → Sized n l → SizedRows n (rows (matrix_at l 0))
+nested-sized {n} {l} h = record { each = at }
+  where
+    at : (j : ℕ) → Sized n (get_or (rows (matrix_at l 0)) j [])
+    at zero = sized-items _ (h.each 0) (h.each 1) (h.each 2)
+    at (suc zero) = sized-items _ (h.each 3) (h.each 4) (h.each 5)
+    at (suc (suc zero)) = sized-items _ (h.each 6) (h.each 7) (h.each 8)
+    at (suc (suc (suc j))) = sized-nil
 
 -- ---- Q and its inverse
 module _ (m : Mat ℤ) (t : T (matrix_within 1000 m)) where

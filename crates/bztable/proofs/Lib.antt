@@ -6,6 +6,7 @@ pub mod AcceptedCall
 pub mod CallBounds
 pub mod Records
 pub mod Finding
+pub mod Inside
 pub mod Turning
 pub mod EachRead
 pub mod NeighbourRows

@@ -84,6 +84,29 @@ whole_neg : (s : Bool) (k : ℕ) → neg (signed (not s) k) ≡ signed s k
 whole_neg true k = sym (round-neg binary64 k 1)
 whole_neg false k = ap neg (round-neg binary64 k 1) ∙ neg-neg (signed false k)
 
+pub neg-round : (x : Float) → neg (round_of (neg x)) ≡ round_of x
+unfolding round_of neg
+neg-round nan = refl
+neg-round (inf true) = refl
+neg-round (inf false) = refl
+neg-round (fin s m e) = whole_neg s (whole_nearest (m * up e) (down e))
+
+pub neg-ceil : (x : Float) → neg (ceil_of (neg x)) ≡ floor_of x
+unfolding floor_of ceil_of neg
+neg-ceil nan = refl
+neg-ceil (inf true) = refl
+neg-ceil (inf false) = refl
+neg-ceil (fin true m e) = whole_neg true (whole_above (m * up e) (down e))
+neg-ceil (fin false m e) = whole_neg false (whole_below (m * up e) (down e))
+
+pub neg-floor : (x : Float) → neg (floor_of (neg x)) ≡ ceil_of x
+unfolding floor_of ceil_of neg
+neg-floor nan = refl
+neg-floor (inf true) = refl
+neg-floor (inf false) = refl
+neg-floor (fin true m e) = whole_neg true (whole_below (m * up e) (down e))
+neg-floor (fin false m e) = whole_neg false (whole_above (m * up e) (down e))
+
 -- ---- what all three leave as it is: whole numbers, infinities and NaN
 pub record Integral (x : Float) : Type 0 where
   pub round : x ≡ round_of x

@@ -1,12 +1,12 @@
 -- Whole numbers as floats: up to 2 ^ prec in size they are exact under sum, difference and product, and they compare as in ℤ.
-use Rattle.std.proofs.Common.{◌≡◌, ℕ, suc, ◌+◌, ◌*◌, ◌^◌, ◌<◌, ◌≤◌, Bool, true, false, cond, T, ℤ, pos, negsuc, ◌+ℤ◌, ◌-ℤ◌, ◌*ℤ◌, neg_ℤ, nat_abs, ap, inl, inr, true≢false, lt_irrefl, mul-le-mul_right, zero-lt-suc, lt_of_mul-lt-mul_right, mul-lt-mul_of_pos_right, mul-pos, le_of_mul-le-mul_right, arith}
+use Rattle.std.proofs.Common.{◌≡◌, refl, ℕ, zero, suc, ◌+◌, ◌*◌, ◌^◌, ◌<◌, ◌≤◌, Bool, true, false, cond, T, ℤ, pos, negsuc, ◌+ℤ◌, ◌-ℤ◌, ◌*ℤ◌, neg_ℤ, nat_abs, ap, ◌⊎◌, inl, inr, true≢false, lt_irrefl, mul-le-mul_right, zero-lt-suc, lt_of_mul-lt-mul_right, mul-lt-mul_of_pos_right, mul-pos, le_of_mul-le-mul_right, arith}
 use mathlib.Core.Bool.{false≢true}
 use native.Mathlib.Nat.{eq_of_mul-eq-mul_right}
 use lib.Signed.{le_z, lt_z, le_z_yes, lt_z_yes}
-use lib.Ieee.{Float, nan, inf, fin, Format, prec, round, neg, add, sub, mul, le, lt, eq, of_int}
-use lib.Ieee.Fits.{of_int-fits}
+use lib.Ieee.{Float, nan, inf, fin, Format, prec, up, down, fits, round, neg, add, sub, mul, le, lt, eq, of_int}
+use lib.Ieee.Fits.{down_pos, round-fits, of_int-fits}
 use lib.Ieee.Exact.{HasValue}
-use lib.Ieee.Back.{round_whole}
+use lib.Ieee.Back.{round_whole, whole_unique}
 use lib.Ieee.Positive.{num, den, den_pos}
 use Rattle.integer.proofs.Test.{same_test}
 use Rattle.integer.specs.Parts as parts
@@ -141,3 +141,17 @@ whole-positive y d D v = elim (one-sided y) [
 -- two numbers of different signs are not equal: their sizes a and (b + 1) * c would have the sum 0
 pub never : (a b c : ℕ) → 0 < c → a + (b * c + c) ≡ 0 → ⊥
 never a b c h k = omega arith
+
+pub whole_is : (f : Format) (x : Float) (z : ℤ) → T (fits f x) → Whole x z → nat_abs z ≤ 2 ^ prec f → (x ≡ of_int f z) ⊎ ((z ≡ pos 0) × (x ≡ fin true 0 (pos 0)))
+unfolding of_int
+whole_is f nan z fx v h = absurd v.number
+whole_is f (inf s) z fx v h = absurd v.number
+whole_is f (fin false m e) (pos n) fx v h =
+    let g = v.is in inl (whole_unique f (fin false m e) (round f false n 1) false n fx (round-fits f false n 1) (refl, omega arith) (round_whole f false n h))
+whole_is f (fin true m e) (negsuc n) fx v h =
+    let g = v.is in inl (whole_unique f (fin true m e) (round f true (suc n) 1) true (suc n) fx (round-fits f true (suc n) 1) (refl, omega arith) (round_whole f true (suc n) h))
+whole_is f (fin false m e) (negsuc n) fx v h = let g = v.is in absurd (never (m * up e) n (down e) (down_pos e) (omega arith))
+whole_is f (fin true m e) (pos (suc n)) fx v h = let g = v.is in absurd (never (m * up e) n (down e) (down_pos e) (omega arith))
+whole_is f (fin true m e) (pos zero) fx v h =
+    let g = v.is in
+    inr (refl, whole_unique f (fin true m e) (fin true 0 (pos 0)) true 0 fx (unfold fits in tt) (refl, omega arith) (refl, refl))

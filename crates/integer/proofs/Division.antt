@@ -3,15 +3,15 @@
 use mathlib.Core.Path.{◌≡◌, refl, sym, ◌∙◌, ap, subst}
 use mathlib.Core.List.{[], ◌∷◌}
 use lib.IntN.{ℤ, pos, negsuc, neg_ℤ, nat_abs, ◌+ℤ◌, ◌*ℤ◌, ◌-ℤ◌, neg_ℤ-neg_ℤ, neg_ℤ-+ℤ}
-use lib.Signed.{quot_z, rem_z}
+use lib.Signed.{quot_z, rem_z, ◌<ℤ◌}
 use Prim.Native.Nat.{ℕ, zero, suc, ◌+◌, ◌*◌, ◌-◌, ◌/◌, ◌%◌, ◌<◌}
 use native.Mathlib.Nat.{div-add-mod', mod-lt}
 use native.Mathlib.Omega.{arith}
 use Rattle.integer.specs.Division.{div_euclid, rem_euclid}
 use Rattle.integer.proofs.Ring.{neg-*ℤ, sub-eq-zero}
 use Rattle.integer.proofs.Reify.{ring, reify, zero-by, ◌∗◌, ◌⊹◌, eq-by}
-use Rattle.integer.proofs.Parts.{difference, negative}
-use Rattle.integer.proofs.Order.{NonNeg, nonneg-dn}
+use Rattle.integer.proofs.Parts.{ints, sum, difference, negative}
+use Rattle.integer.proofs.Order.{NonNeg, nonneg-dn, neg-up, pos-dn, parts-nonneg}
 use Rattle.integer.proofs.Size.{abs_neg, abs-mul, abs-zero, abs-between, abs-parts}
 
 -- ---- toward zero
@@ -103,3 +103,28 @@ pub quot_unique : (a d q r : ℤ) → q *ℤ d +ℤ r ≡ a → SameSign a r →
 quot_unique a d q r e n h =
     unique q (quot_z a d) d r (rem_z a d) (e ∙ sym (quot-rem a d))
     (near-sign a r (rem_z a d) (nat_abs d) n (rem-sign a d) h (rem_lt a d (omega arith)))
+
+-- ---- from the division toward zero to the Euclidean one
+module _ (a d : ℤ) (h : zero < nat_abs d) where
+  pub euclid-same : NonNeg (rem_z a d) → (quot_z a d ≡ div_euclid a d) × (rem_z a d ≡ rem_euclid a d)
+  euclid-same n = euclid-unique a d (quot_z a d) (rem_z a d) (quot-rem a d) n (rem_lt a d h)
+
+  pub euclid-down : rem_z a d <ℤ pos 0 → pos 0 <ℤ d → (quot_z a d -ℤ pos 1 ≡ div_euclid a d) × (rem_z a d +ℤ d ≡ rem_euclid a d)
+  euclid-down n p =
+      euclid-unique a d (quot_z a d -ℤ pos 1) (rem_z a d +ℤ d) (shift (quot_z a d) (rem_z a d) d ∙ quot-rem a d)
+      (parts-nonneg (rem_z a d +ℤ d) (omega (arith, ints, sum (rem_z a d) d, rem_lt a d h, abs-parts (rem_z a d), abs-parts d, neg-up n, pos-dn p)))
+      (abs-between (rem_z a d +ℤ d) (nat_abs d)
+      (omega (arith, ints, sum (rem_z a d) d, rem_lt a d h, abs-parts (rem_z a d), abs-parts d, neg-up n, pos-dn p)))
+    where
+      shift : (q r d : ℤ) → (q -ℤ pos 1) *ℤ d +ℤ (r +ℤ d) ≡ q *ℤ d +ℤ r
+      shift q r d = ring (q ∷ r ∷ d ∷ []) (search reify depth 40) tt
+
+  pub euclid-up : rem_z a d <ℤ pos 0 → d <ℤ pos 0 → (quot_z a d +ℤ pos 1 ≡ div_euclid a d) × (rem_z a d -ℤ d ≡ rem_euclid a d)
+  euclid-up n p =
+      euclid-unique a d (quot_z a d +ℤ pos 1) (rem_z a d -ℤ d) (shift (quot_z a d) (rem_z a d) d ∙ quot-rem a d)
+      (parts-nonneg (rem_z a d -ℤ d) (omega (arith, ints, difference (rem_z a d) d, rem_lt a d h, abs-parts (rem_z a d), abs-parts d, neg-up n, neg-up p)))
+      (abs-between (rem_z a d -ℤ d) (nat_abs d)
+      (omega (arith, ints, difference (rem_z a d) d, rem_lt a d h, abs-parts (rem_z a d), abs-parts d, neg-up n, neg-up p)))
+    where
+      shift : (q r d : ℤ) → (q +ℤ pos 1) *ℤ d +ℤ (r -ℤ d) ≡ q *ℤ d +ℤ r
+      shift q r d = ring (q ∷ r ∷ d ∷ []) (search reify depth 40) tt

@@ -44,6 +44,10 @@ neg-up {z = pos n} h = absurd (never n (ltb→lt n 0 h.lt))
     never n h = omega arith
 neg-up {z = negsuc n} h = refl
 
+pub pos-dn : {z : ℤ} → pos 0 <ℤ z → dn z ≡ 0
+pos-dn {z = pos n} h = refl
+pos-dn {z = negsuc n} h = absurd h.lt
+
 pub parts-nonneg : (z : ℤ) → dn z ≤ up z → NonNeg z
 parts-nonneg (pos n) h = record { sign = tt }
 parts-nonneg (negsuc n) h = absurd (never n h)

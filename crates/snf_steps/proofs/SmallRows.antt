@@ -50,6 +50,9 @@ with-one {u} {u'} e t = and_in (small u') (small (pos 1)) (rw e t) tt
 pub negated : (z : ℤ) → negsuc 0 *ℤ z +ℤ pos 0 *ℤ z ≡ neg_ℤ z
 negated z = ring (z ∷ []) (search reify depth 60 fits 100000) tt
 
+pub held-mix : {r s s' x x' t t' y y' : ℤ} → held r ≡ r → r ≡ s' *ℤ x' +ℤ t' *ℤ y' → s' ≡ s → x' ≡ x → t' ≡ t → y' ≡ y → held r ≡ s *ℤ x +ℤ t *ℤ y
+held-mix h e es ex et ey = h ∙ e ∙ (λ i. es i *ℤ ex i +ℤ et i *ℤ ey i)
+
 -- ---- nothing leaves 64 bits
 -- one item of a list replaced
 set_all : {A : Type 0} (P : A → Type 0) {x : A} (l : List A) (d : A) (i n : ℕ) → ((n : ℕ) → P (get_or l n d)) → P x → P (get_or (set l i x) n d)
